@@ -1,0 +1,5 @@
+pub mod Areas
+pub mod Decode
+pub mod Fields
+pub mod Lists
+pub mod Rooms

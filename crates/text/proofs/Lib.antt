@@ -1,0 +1,11 @@
+pub mod Tests
+pub mod Walks
+pub mod Table
+pub mod Spaces
+pub mod Ranges
+pub mod Trims
+pub mod Chars
+pub mod Codes
+pub mod Uax31
+pub mod Encoding
+pub mod Decoding

@@ -1,0 +1,30 @@
+-- `text::range::same_bytes` meets its contract: with k bytes compared, what follows decides.
+use mathlib.Core.Path.{_≡_}
+use Prim.Native.Nat.{_+_, _≤_, _-_}
+use Rattle.text.specs.Range.{sameRange}
+use Rattle.text.proofs.Ranges.{comparing}
+use Rattle.text.proofs.range.same_bytes.Statement.{statement}
+use Rattle.text.proofs.range.same_bytes.Tie as tie
+
+abbrev Inv-loop : tie.InvT-loop
+Inv-loop s a t c n k₀ k = (k ≤ n) × (sameRange s a (a + n) t c (c + n) ≡ sameRange s (a + k) (a + n) t (c + k) (c + n))
+
+abbrev μ-loop : tie.MeasureT-loop
+μ-loop s a t c n k₀ k = n - k
+
+pub same-bytes-spec : {M : Type 1} → statement M
+same-bytes-spec =
+    tie.close
+    (tie.spec
+    Inv-loop
+    μ-loop
+    (λ c. search comparing)
+    (λ c. search comparing)
+    (λ c. search comparing)
+    (λ c. search comparing)
+    (λ c. search comparing)
+    (λ c. search comparing)
+    (λ c. search comparing)
+    (λ c. search comparing)
+    (λ c. search comparing)
+    (λ c. search comparing))

@@ -1,0 +1,13 @@
+-- `text::whitespace::line_end_of` meets its contract: each return is a branch of the definition.
+use Rattle.text.proofs.Spaces.{measuring}
+use Rattle.text.proofs.whitespace.line_end_of.Statement.{statement}
+use Rattle.text.proofs.whitespace.line_end_of.Tie as tie
+
+pub line-end-of-spec : {M : Type 1} → statement M
+line-end-of-spec =
+    tie.close
+    (tie.spec
+    (λ c κs. search measuring)
+    (λ c. search measuring)
+    (λ c. search measuring)
+    (λ c. search measuring))

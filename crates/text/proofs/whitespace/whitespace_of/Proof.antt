@@ -1,0 +1,14 @@
+-- `text::whitespace::whitespace_of` meets its contract: each return is a branch of the definition.
+use Rattle.text.proofs.Spaces.{measuring}
+use Rattle.text.proofs.whitespace.whitespace_of.Statement.{statement}
+use Rattle.text.proofs.whitespace.whitespace_of.Tie as tie
+
+pub whitespace-of-spec : {M : Type 1} → statement M
+whitespace-of-spec =
+    tie.close
+    (tie.spec
+    (λ c κs. search measuring)
+    (λ c. search measuring)
+    (λ c. search measuring)
+    (λ c. search measuring)
+    (λ c. search measuring))

@@ -1,0 +1,72 @@
+-- The scanners that declarations and rules are read with, each one walk (01, Declarations and Rules).
+use mathlib.Core.Bool.{Bool, true, false, cond, not}
+use mathlib.Core.List.{List}
+use Prim.Native.Nat.{ℕ, _+_, _-_, _%_, min}
+use lib.Dec.{eqb, leb}
+use lib.ListN.{length}
+use Rattle.text.specs.Class.{isBlank, isAsciiWhitespace}
+use Rattle.text.specs.Walk.{first, last, skip}
+use Rattle.text.specs.Whitespace.{byte, whitespaceLen, lineEndLen, atWhitespace, atLineEnd}
+use Rattle.text.specs.declared.Found.{Found}
+use Rattle.text.specs.declared.Found.the-variants.{At, Nothing}
+
+-- past the whitespace characters at i: no more of them than bytes
+abbrev pub skipWhitespace : List ℕ → ℕ → ℕ
+skipWhitespace s i = skip (whitespaceLen s) (length s) i
+
+-- past the line ends at i
+abbrev pub skipLineEnds : List ℕ → ℕ → ℕ
+skipLineEnds s i = skip (lineEndLen s) (length s) i
+
+-- past the blanks at i
+abbrev pub skipBlanks : List ℕ → ℕ → ℕ
+skipBlanks s i = first (λ k. not (isBlank (byte s k))) i (length s)
+
+-- the end of the line that i stands in: the first line end from i on, or the end of the text
+abbrev pub lineEnd : List ℕ → ℕ → ℕ
+lineEnd s i = first (atLineEnd s) i (length s)
+
+-- the first whitespace character from i to before e, or e
+abbrev pub findWhitespace : List ℕ → ℕ → ℕ → ℕ
+findWhitespace s i e = first (atWhitespace s) i e
+
+-- past the ASCII whitespace at i, up to e
+abbrev pub skipAsciiWhitespace : List ℕ → ℕ → ℕ → ℕ
+skipAsciiWhitespace s i e = first (λ k. not (isAsciiWhitespace (byte s k))) i e
+
+-- the first ASCII whitespace from i to before e, or e
+abbrev pub findAsciiWhitespace : List ℕ → ℕ → ℕ → ℕ
+findAsciiWhitespace s i e = first (λ k. isAsciiWhitespace (byte s k)) i e
+
+-- the first byte b from i to before e, or e
+abbrev pub findByte : List ℕ → ℕ → ℕ → ℕ → ℕ
+findByte s i e b = first (λ k. eqb (byte s k) b) i e
+
+-- the last space or tab from i to before e
+abbrev pub lastBlank : List ℕ → ℕ → ℕ → Found
+lastBlank s i e = last (λ k. isBlank (byte s k)) i e
+
+-- leading whitespace goes: where the text from i to e starts without it
+unfoldable pub trimStart : List ℕ → ℕ → ℕ → ℕ
+trimStart s i e = min (skipWhitespace s i) e
+
+-- trailing whitespace goes: the first position from which only whitespace stands up to e
+unfoldable pub trimEnd : List ℕ → ℕ → ℕ → ℕ
+trimEnd s i e = first (λ k. leb e (skipWhitespace s k)) i e
+
+-- from the last byte that is no backslash, of those from i to u: how many bytes stand behind it
+unfoldable pub backslashesBehind : ℕ → ℕ → Found → ℕ
+backslashesBehind i u Nothing = u - i
+backslashesBehind i u (At q) = u - (q + 1)
+
+-- how many backslashes stand in front of u, from i on
+unfoldable pub backslashesBefore : List ℕ → ℕ → ℕ → ℕ
+backslashesBefore s i u = backslashesBehind i u (last (λ k. not (eqb (byte s k) 0x5c)) i u)
+
+-- of a pattern from i to e whose trailing whitespace starts at u, one character stays after an odd number of backslashes (01, Rules)
+unfoldable pub keepEscaped : List ℕ → ℕ → ℕ → ℕ → ℕ
+keepEscaped s i e u = cond (eqb u e) e (cond (eqb (backslashesBefore s i u % 2) 1) (u + whitespaceLen s u) u)
+
+-- where the pattern from i to e ends without its trailing whitespace (01, Rules)
+unfoldable pub trimEndUnescaped : List ℕ → ℕ → ℕ → ℕ
+trimEndUnescaped s i e = keepEscaped s i e (trimEnd s i e)

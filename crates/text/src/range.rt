@@ -1,0 +1,48 @@
+// Ranges of texts: whether two are the same bytes, and whether a word stands at an offset.
+ghost use mathlib.Core.Path.{_≡_};
+ghost use Prim.Native.Nat.{_+_, _≤_};
+ghost use lib.ListN.{length};
+ghost use Rattle.text.specs.Range.{sameRange, lookaheadIs};
+use crate::Found;
+
+// Whether the n bytes of s from a on are those of t from c on.
+fn same_bytes(s: &[u8], a: usize, t: &[u8], c: usize, n: usize) -> bool
+    requires { ⌜ (a + n ≤ length (now s)) × (c + n ≤ length (now t)) ⌝ }
+    ensures { λ r. ⌜ r ≡ sameRange (now (s .entry)) a (a + n) (now (t .entry)) c (c + n) ⌝ }
+{
+    let mut k = 0;
+    while k < n {
+        if s[a + k] != t[c + k] {
+            return false;
+        }
+        k += 1;
+    }
+    true
+}
+
+// Whether the bytes of s from a to e are those of t from c to d. Two texts, or one text twice, or a text and a constant.
+pub fn same_range(s: &[u8], a: usize, e: usize, t: &[u8], c: usize, d: usize) -> bool
+    requires { ⌜ ((a ≤ e) × (e ≤ length (now s))) × ((c ≤ d) × (d ≤ length (now t))) ⌝ }
+    ensures { λ r. ⌜ r ≡ sameRange (now (s .entry)) a e (now (t .entry)) c d ⌝ }
+{
+    let n = e - a;
+    if n != d - c {
+        return false;
+    }
+    same_bytes(s, a, t, c, n)
+}
+
+// Behind the bytes of word, if they stand at i.
+pub fn lookahead_is(s: &[u8], word: &[u8], i: usize) -> Found
+    requires { ⌜ i ≤ length (now s) ⌝ }
+    ensures { λ r. ⌜ r ≡ lookaheadIs (now (s .entry)) (now (word .entry)) i ⌝ }
+{
+    let n = word.len();
+    if s.len() - i < n {
+        return Found::Nothing;
+    }
+    if same_bytes(s, i, word, 0, n) {
+        return Found::At(i + n);
+    }
+    Found::Nothing
+}

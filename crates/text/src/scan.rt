@@ -1,0 +1,204 @@
+// Scanners: each walks once, forward or backward, and answers where it stops.
+ghost use mathlib.Core.Path.{_≡_};
+ghost use Prim.Native.Nat.{_+_, _≤_};
+ghost use lib.ListN.{length};
+ghost use Rattle.text.specs.Walk.{Between};
+ghost use Rattle.text.specs.Scan.{skipWhitespace, skipLineEnds, skipBlanks, lineEnd, findWhitespace, skipAsciiWhitespace, findAsciiWhitespace, findByte, lastBlank, trimStart, trimEnd, backslashesBefore, trimEndUnescaped};
+use crate::Found;
+use crate::class::is_ascii_whitespace;
+use crate::class::is_blank;
+use crate::whitespace::at_line_end;
+use crate::whitespace::line_end_len;
+use crate::whitespace::matches_whitespace;
+use crate::whitespace::whitespace_len;
+
+// Past the whitespace at i.
+pub fn parse_ws(s: &[u8], i: usize) -> usize
+    requires { ⌜ i ≤ length (now s) ⌝ }
+    ensures { λ r. ⌜ Between i (length (now (s .entry))) (skipWhitespace (now (s .entry)) i) r ⌝ }
+{
+    let mut k = i;
+    loop {
+        let n = whitespace_len(s, k);
+        if n == 0 {
+            return k;
+        }
+        k += n;
+    }
+}
+
+// Past the line ends at i.
+pub fn parse_nl(s: &[u8], i: usize) -> usize
+    requires { ⌜ i ≤ length (now s) ⌝ }
+    ensures { λ r. ⌜ Between i (length (now (s .entry))) (skipLineEnds (now (s .entry)) i) r ⌝ }
+{
+    let mut k = i;
+    loop {
+        let n = line_end_len(s, k);
+        if n == 0 {
+            return k;
+        }
+        k += n;
+    }
+}
+
+// Past the blanks at i.
+pub fn parse_spaces(s: &[u8], i: usize) -> usize
+    requires { ⌜ i ≤ length (now s) ⌝ }
+    ensures { λ r. ⌜ Between i (length (now (s .entry))) (skipBlanks (now (s .entry)) i) r ⌝ }
+{
+    let mut k = i;
+    while k < s.len() {
+        if !is_blank(s[k]) {
+            return k;
+        }
+        k += 1;
+    }
+    k
+}
+
+// Where the line ends that i stands in.
+pub fn line_end(s: &[u8], i: usize) -> usize
+    requires { ⌜ i ≤ length (now s) ⌝ }
+    ensures { λ r. ⌜ Between i (length (now (s .entry))) (lineEnd (now (s .entry)) i) r ⌝ }
+{
+    let mut end = i;
+    while end < s.len() {
+        if at_line_end(s, end) {
+            return end;
+        }
+        end += 1;
+    }
+    end
+}
+
+// The first whitespace character from i to before e, or e.
+pub fn find_whitespace(s: &[u8], i: usize, e: usize) -> usize
+    requires { ⌜ (i ≤ e) × (e ≤ length (now s)) ⌝ }
+    ensures { λ r. ⌜ Between i e (findWhitespace (now (s .entry)) i e) r ⌝ }
+{
+    let mut k = i;
+    while k < e {
+        if matches_whitespace(s, k) {
+            return k;
+        }
+        k += 1;
+    }
+    k
+}
+
+pub fn skip_ascii_whitespace(s: &[u8], i: usize, e: usize) -> usize
+    requires { ⌜ (i ≤ e) × (e ≤ length (now s)) ⌝ }
+    ensures { λ r. ⌜ Between i e (skipAsciiWhitespace (now (s .entry)) i e) r ⌝ }
+{
+    let mut k = i;
+    while k < e {
+        if !is_ascii_whitespace(s[k]) {
+            return k;
+        }
+        k += 1;
+    }
+    k
+}
+
+pub fn find_ascii_whitespace(s: &[u8], i: usize, e: usize) -> usize
+    requires { ⌜ (i ≤ e) × (e ≤ length (now s)) ⌝ }
+    ensures { λ r. ⌜ Between i e (findAsciiWhitespace (now (s .entry)) i e) r ⌝ }
+{
+    let mut k = i;
+    while k < e {
+        if is_ascii_whitespace(s[k]) {
+            return k;
+        }
+        k += 1;
+    }
+    k
+}
+
+pub fn find_byte(s: &[u8], i: usize, e: usize, b: u8) -> usize
+    requires { ⌜ (i ≤ e) × (e ≤ length (now s)) ⌝ }
+    ensures { λ r. ⌜ Between i e (findByte (now (s .entry)) i e b) r ⌝ }
+{
+    let mut k = i;
+    while k < e {
+        if s[k] == b {
+            return k;
+        }
+        k += 1;
+    }
+    k
+}
+
+// The last space or tab from i to before e.
+pub fn last_blank(s: &[u8], i: usize, e: usize) -> Found
+    requires { ⌜ e ≤ length (now s) ⌝ }
+    ensures { λ r. ⌜ r ≡ lastBlank (now (s .entry)) i e ⌝ }
+{
+    let mut k = e;
+    while i < k {
+        let j = k - 1;
+        if is_blank(s[j]) {
+            return Found::At(j);
+        }
+        k = j;
+    }
+    Found::Nothing
+}
+
+pub fn trim_start(s: &[u8], i: usize, e: usize) -> usize
+    requires { ⌜ (i ≤ e) × (e ≤ length (now s)) ⌝ }
+    ensures { λ r. ⌜ Between i e (trimStart (now (s .entry)) i e) r ⌝ }
+{
+    let k = parse_ws(s, i);
+    if k <= e {
+        return k;
+    }
+    e
+}
+
+// Each byte is passed once: whitespace goes from k to w, and what stands at w is none, so the end is past w.
+pub fn trim_end(s: &[u8], i: usize, e: usize) -> usize
+    requires { ⌜ (i ≤ e) × (e ≤ length (now s)) ⌝ }
+    ensures { λ r. ⌜ Between i e (trimEnd (now (s .entry)) i e) r ⌝ }
+{
+    let mut k = i;
+    while k < e {
+        let w = parse_ws(s, k);
+        if e <= w {
+            return k;
+        }
+        k = w + 1;
+    }
+    k
+}
+
+// How many backslashes stand in front of u, from i on.
+fn backslashes_before(s: &[u8], i: usize, u: usize) -> usize
+    requires { ⌜ (i ≤ u) × (u ≤ length (now s)) ⌝ }
+    ensures { λ r. ⌜ r ≡ backslashesBefore (now (s .entry)) i u ⌝ }
+{
+    let mut k = u;
+    while i < k {
+        let j = k - 1;
+        if s[j] != 0x5c {
+            return u - k;
+        }
+        k = j;
+    }
+    u - i
+}
+
+// Where a pattern from i to e ends without its trailing whitespace, of which an escaped character stays.
+pub fn trim_end_unescaped(s: &[u8], i: usize, e: usize) -> usize
+    requires { ⌜ (i ≤ e) × (e ≤ length (now s)) ⌝ }
+    ensures { λ r. ⌜ Between i (length (now (s .entry))) (trimEndUnescaped (now (s .entry)) i e) r ⌝ }
+{
+    let u = trim_end(s, i, e);
+    if u == e {
+        return e;
+    }
+    if backslashes_before(s, i, u) % 2 == 1 {
+        return u + whitespace_len(s, u);
+    }
+    u
+}
