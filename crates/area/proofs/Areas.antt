@@ -3,17 +3,15 @@
 -- Assumes nothing.
 use mathlib.Core.Path.{_≡_, refl, sym, ap, ap₂, _∙_}
 use mathlib.Core.Bool.{Bool, true, false, cond}
-use mathlib.Core.List.{List, [], _∷_, _++_, append-assoc, append-nil}
-use Prim.Native.Nat.{ℕ, zero, suc, _+_, _*_, _-_, _<_, _≤_}
-use native.Mathlib.Nat.{suc-mul, add-mul, sub-zero}
+use mathlib.Core.List.{List, [], _∷_, _++_}
+use Prim.Native.Nat.{ℕ, _+_, _*_, _-_, _<_, _≤_}
+use native.Mathlib.Nat.{add-mul, sub-zero, mul-le-mul-right}
 use native.Mathlib.Omega.{arith}
-use native.Mathlib.Numerals.{add-one}
 use lib.ListN.{length, getD, take, drop, length-append, length-drop, take-append-drop}
-use lib.Seq.{sets, length-take-le, take-append-seam}
+use lib.Seq.{sets, length-sets, length-take-le}
 use Rattle.area.specs.declared.Appended.{Appended}
 use Rattle.area.specs.declared.Appended.the-variants.{Next, Full}
 use Rattle.area.specs.Bytes.{bytes, pad, zeros}
-use Rattle.area.specs.Records.{mostOthers}
 use Rattle.area.specs.Areas.{room, Area, TextArea, one, Pushed, PushedText, insertAt, moveUp, inserted}
 use Rattle.area.proofs.Lists.{length-pad, sets-pad, zeros-pad, insert-pad}
 use Rattle.area.proofs.Fields.{bytes-append, bytes-single, bytes-insert, bytes-length, bytes-at}
@@ -40,6 +38,13 @@ module _ {w limit m : ℕ} {v l : List ℕ} {n : ℕ} {r : Appended} {e : List �
   pub full-says : r ≡ Full → (room w limit (length l) n m ≡ false) × (e ≡ l)
   full-says q = full-case (room w limit (length l) n m) refl (p .says) (p .leaves) q
 
+  same-case : (t : Bool) → length (cond t (sets l (n * w) v) l) ≡ length l
+  same-case true = length-sets l (n * w) v
+  same-case false = refl
+
+  pub pushed-length : length e ≡ length l
+  pushed-length = ap length (p .leaves) ∙ same-case (room w limit (length l) n m)
+
 -- ---- an area of records of w bytes
 
 module _ {A : Type 0} {f : A → List ℕ} {w : ℕ} (wide : (x : A) → length (f x) ≡ w) where
@@ -50,95 +55,103 @@ module _ {A : Type 0} {f : A → List ℕ} {w : ℕ} (wide : (x : A) → length 
     pub area-length : length l ≡ cap
     area-length = ap length (a .is) ∙ length-pad cap (bytes f xs) (rw list-length (a .fits))
 
+    -- a record of the list lies within the area
+    pub area-record : (k : ℕ) → k < n → k * w + w ≤ length l
+    area-record k h =
+        let b : (k + 1) * w ≤ n * w = mul-le-mul-right w (omega arith) in
+        omega (arith, b, a .fits, area-length)
+
+    -- byte j of record k
+    pub area-at : (d : A) (k j : ℕ) → k < n → j < w → getD l (k * w + j) 0 ≡ getD (f (getD xs k d)) j 0
+    unfolding pad
+    area-at d k j hk hj = ap (λ (t : List ℕ). getD t (k * w + j) 0) (a .is) ∙ bytes-at f w wide d xs _ k j (omega (arith, a .count)) hj
+
+    -- a test for room on the area's length and count is one on its capacity and list
+    pub tested-room : (m : ℕ) {t b : Bool} → t ≡ room w limit (length l) n m → t ≡ b → room w limit cap (length xs) m ≡ b
+    tested-room m {t} {b} p q = rw (← area-length, ← a .count) (sym p ∙ q)
+
+    -- an append that answers a count found room; one that answers none found none
+    pub next-room : {m : ℕ} {v : List ℕ} {r : Appended} {e : List ℕ} {k : ℕ} → Pushed w limit m v l n r e → r ≡ Next k
+        → room w limit cap (length xs) m ≡ true
+    next-room {m} p q = tested-room m refl (next-says p q .0)
+
+    pub full-room : {m : ℕ} {v : List ℕ} {r : Appended} {e : List ℕ} → Pushed w limit m v l n r e → r ≡ Full
+        → room w limit cap (length xs) m ≡ false
+    full-room {m} p q = tested-room m refl (full-says p q .0)
+
     -- records more
-    pub area-append : (ys : List A) → room w limit cap n (length ys) ≡ true
+    area-append : (ys : List A) → room w limit cap (length xs) (length ys) ≡ true
         → Area f w limit cap (sets l (n * w) (bytes f ys)) (n + length ys) (xs ++ ys)
     area-append ys t =
-        let h : (n + length ys) * w ≤ cap = room-fits w limit cap n (length ys) t in
+        let t′ : room w limit cap n (length ys) ≡ true = rw (a .count) t in
+        let h : (n + length ys) * w ≤ cap = room-fits w limit cap n (length ys) t′ in
         let g : n * w + length ys * w ≤ cap = rw (← add-mul n (length ys) w) h in
         record {
           count = ap (λ (j : ℕ). j + length ys) (a .count) ∙ sym (length-append xs ys);
           is = ap₂ (λ (u : List ℕ) (j : ℕ). sets u j (bytes f ys)) (a .is) (sym list-length)
               ∙ sets-pad cap (bytes f xs) (bytes f ys) (omega (arith, list-length, bytes-length f w wide ys))
               ∙ ap (pad cap) (sym (bytes-append f xs ys));
-          few = room-few w limit cap n (length ys) t;
+          few = room-few w limit cap n (length ys) t′;
           fits = h;
         }
 
-    -- a record more at the place p
-    pub area-insert : (p : ℕ) (x : A) → p ≤ n → room w limit cap n 1 ≡ true
-        → Area f w limit cap (inserted w p n (f x) l) (n + 1) (insertAt p x xs)
-    unfolding inserted insertAt
-    area-insert p x hp t =
-        let h : (n + 1) * w ≤ cap = room-fits w limit cap n 1 t in
-        let h′ : n * w + w ≤ cap = rw (← suc-mul n w, ← add-one n) h in
-        let u : List ℕ = bytes f (take p xs) in
-        let v : List ℕ = bytes f (drop p xs) in
-        let hx : p ≤ length xs = omega (arith, a .count) in
-        let lu : length u ≡ p * w = bytes-length f w wide (take p xs) ∙ ap (λ (j : ℕ). j * w) (length-take-le p xs hx) in
-        let ld : length (drop p xs) ≡ n - p = length-drop p xs ∙ ap (λ (j : ℕ). j - p) (sym (a .count)) in
-        let lv : length v ≡ (n - p) * w = bytes-length f w wide (drop p xs) ∙ ap (λ (j : ℕ). j * w) ld in
-        let m : n - p + p ≡ n = omega arith in
-        let k : (n - p) * w + p * w ≡ n * w = sym (add-mul (n - p) p w) ∙ ap (λ (j : ℕ). j * w) m in
-        let s : l ≡ pad cap (u ++ v) =
-        a .is ∙ ap (λ (ys : List A). pad cap (bytes f ys)) (sym (take-append-drop p xs)) ∙ ap (pad cap) (bytes-append f (take p xs) (drop p xs)) in
-        let P : List ℕ = pad cap (u ++ v) in
-        record {
-          count = ap (λ (j : ℕ). j + 1) (a .count)
-              ∙ omega (arith, length-append (take p xs) (x ∷ drop p xs), length-take-le p xs hx, length-drop p xs, a .count);
-          is = ap (λ (t : List ℕ). take (p * w) t ++ moveUp w ((n - p) * w) (f x) (drop (p * w) t)) s
-              ∙ ap₂ (λ (i j : ℕ). take i P ++ moveUp w j (f x) (drop i P)) (sym lu) (sym lv)
-              ∙ ap (λ (j : ℕ). take (length u) P ++ moveUp j (length v) (f x) (drop (length u) P)) (sym (wide x))
-              ∙ insert-pad cap u v (f x) (omega (arith, wide x))
-              ∙ ap (pad cap) (bytes-insert f p x xs);
-          few = room-few w limit cap n 1 t;
-          fits = h;
-        }
-
-    -- zeros from the end of the list on: nothing changes
-    pub area-kept : (e : List ℕ) → e ≡ take (n * w) l ++ zeros (length l - n * w) → Area f w limit cap e n xs
-    area-kept e p =
-        let b : List ℕ = bytes f xs in
-        let k : length l - n * w ≡ cap - length b = ap₂ (λ (i j : ℕ). i - j) area-length (sym list-length) in
-        let q : e ≡ l =
-        p ∙ ap (λ (j : ℕ). take (n * w) l ++ zeros j) k
-        ∙ ap₂ (λ (j : ℕ) (t : List ℕ). take j t ++ zeros (cap - length b)) (sym list-length) (a .is)
-        ∙ zeros-pad cap b ∙ sym (a .is) in
-        rw q a
-
-    -- the test for room, as a list of that length has it
-    room-of : (m : ℕ) {t : Bool} → room w limit (length l) n m ≡ t → (room w limit cap n m ≡ t) × (room w limit cap (length xs) m ≡ t)
-    room-of m {t} h =
-        let h′ : room w limit cap n m ≡ t = rw area-length at h in
-        (h′, rw (a .count) at h′)
-
-    -- an append that answers a count found room; one that answers none found none
-    pub next-room : {m : ℕ} {v : List ℕ} {r : Appended} {e : List ℕ} {k : ℕ} → Pushed w limit m v l n r e → r ≡ Next k
-        → room w limit cap (length xs) m ≡ true
-    next-room {m} p q = room-of m (next-says p q .0) .1
-
-    pub full-room : {m : ℕ} {v : List ℕ} {r : Appended} {e : List ℕ} → Pushed w limit m v l n r e → r ≡ Full
-        → room w limit cap (length xs) m ≡ false
-    full-room {m} p q = room-of m (full-says p q .0) .1
-
-    -- what an append leaves
+    -- what an append leaves: the list with what was appended, or the same list
     pub next-areas : {r : Appended} {e : List ℕ} {k : ℕ} (ys : List A) → Pushed w limit (length ys) (bytes f ys) l n r e → r ≡ Next k
         → Area f w limit cap e k (xs ++ ys)
-    next-areas ys p q = rw (next-says p q .2, next-says p q .1) (area-append ys (room-of (length ys) (next-says p q .0) .0))
+    next-areas ys p q = rw (next-says p q .2, next-says p q .1) (area-append ys (next-room p q))
 
     pub next-area : {r : Appended} {e : List ℕ} {k : ℕ} (x : A) → Pushed w limit 1 (f x) l n r e → r ≡ Next k
         → Area f w limit cap e k (xs ++ (x ∷ []))
-    next-area x p q =
-        let s : sets l (n * w) (bytes f (x ∷ [])) ≡ sets l (n * w) (f x) = ap (sets l (n * w)) (bytes-single f x) in
-        rw (next-says p q .2, next-says p q .1) (rw s at (area-append (x ∷ []) (room-of 1 (next-says p q .0) .0)))
+    next-area x p q = next-areas (x ∷ []) (rw (bytes-single f x) p) q
 
     pub full-area : {m : ℕ} {v : List ℕ} {r : Appended} {e : List ℕ} → Pushed w limit m v l n r e → r ≡ Full → Area f w limit cap e n xs
     full-area p q = rw (full-says p q .1) a
 
-    -- byte j of record k
-    pub area-at : (d : A) (k j : ℕ) → k < n → j < w → getD l (k * w + j) 0 ≡ getD (f (getD xs k d)) j 0
-    unfolding pad
-    area-at d k j hk hj = ap (λ (t : List ℕ). getD t (k * w + j) 0) (a .is) ∙ bytes-at f w wide d xs _ k j (omega (arith, a .count)) hj
+    module _ (p : ℕ) (inside : p ≤ n) where
+      front-length : length (bytes f (take p xs)) ≡ p * w
+      front-length = bytes-length f w wide (take p xs) ∙ ap (λ (j : ℕ). j * w) (length-take-le p xs (omega (arith, a .count)))
+
+      tail-length : length (bytes f (drop p xs)) ≡ (n - p) * w
+      tail-length = bytes-length f w wide (drop p xs) ∙ ap (λ (j : ℕ). j * w) (length-drop p xs ∙ ap (λ (j : ℕ). j - p) (sym (a .count)))
+
+      area-split : l ≡ pad cap (bytes f (take p xs) ++ bytes f (drop p xs))
+      area-split = a .is ∙ ap (pad cap) (ap (bytes f) (sym (take-append-drop p xs)) ∙ bytes-append f (take p xs) (drop p xs))
+
+      insert-is : (x : A) → n * w + w ≤ cap → inserted w p n (f x) l ≡ pad cap (bytes f (insertAt p x xs))
+      unfolding inserted
+      insert-is x h =
+          let u : List ℕ = bytes f (take p xs) in
+          let v : List ℕ = bytes f (drop p xs) in
+          let b : List ℕ = pad cap (u ++ v) in
+          let m : n - p + p ≡ n = omega arith in
+          let k : (n - p) * w + p * w ≡ n * w = sym (add-mul (n - p) p w) ∙ ap (λ (j : ℕ). j * w) m in
+          ap (λ (t : List ℕ). take (p * w) t ++ moveUp w ((n - p) * w) (f x) (drop (p * w) t)) area-split
+          ∙ ap₂ (λ (i j : ℕ). take i b ++ moveUp w j (f x) (drop i b)) (sym front-length) (sym tail-length)
+          ∙ ap (λ (j : ℕ). take (length u) b ++ moveUp j (length v) (f x) (drop (length u) b)) (sym (wide x))
+          ∙ insert-pad cap u v (f x) (omega (arith, wide x, front-length, tail-length))
+          ∙ ap (pad cap) (bytes-insert f p x xs)
+
+      insert-length : (x : A) → length (insertAt p x xs) ≡ n + 1
+      unfolding insertAt
+      insert-length x =
+          omega (arith, length-append (take p xs) (x ∷ drop p xs), length-take-le p xs (omega (arith, a .count)), length-drop p xs, a .count)
+
+      -- a record more at the place p
+      pub area-inserted : (x : A) (e : List ℕ) → room w limit cap (length xs) 1 ≡ true → e ≡ inserted w p n (f x) l
+          → Area f w limit cap e (n + 1) (insertAt p x xs)
+      area-inserted x e t q =
+          let t′ : room w limit cap n 1 ≡ true = rw (a .count) t in
+          let h : (n + 1) * w ≤ cap = room-fits w limit cap n 1 t′ in
+          record {
+            count = sym (insert-length x);
+            is = q ∙ insert-is x (omega (arith, h));
+            few = room-few w limit cap n 1 t′;
+            fits = h;
+          }
+
+    -- zeros from the end of the list on: nothing changes
+    pub area-kept : (e : List ℕ) → e ≡ take (n * w) l ++ zeros (length l - n * w) → Area f w limit cap e n xs
+    area-kept e p = rw (p ∙ zeros-pad cap (n * w) (bytes f xs) l (a .is) list-length area-length) a
 
 -- an area of zeros has no records
 pub area-empty : {A : Type 0} (f : A → List ℕ) (w limit cap : ℕ) {l : List ℕ} → l ≡ zeros cap → Area f w limit cap l 0 []

@@ -1,5 +1,5 @@
--- A record read back from an area is the record of the list. For any record: its list of fields, read from the bytes, is the list of fields
--- of the record, field by field; a record is made of its list of fields, so each kind of record takes one line.
+-- Records read from an area's bytes. For any record: its list of fields, read from the bytes, is the list of fields of the record that was written,
+-- field by field. Below that, what code makes of the fields that it read is the record that the definition reads.
 -- Assumes nothing.
 use mathlib.Core.Path.{_≡_, refl, sym, ap, ap₂, _∙_}
 use mathlib.Core.List.{List, [], _∷_}
@@ -7,19 +7,15 @@ use Prim.Native.Nat.{ℕ, zero, suc, _+_, _*_, _<_}
 use native.Mathlib.Nat.{add-zero, add-assoc}
 use native.Mathlib.Omega.{arith}
 use lib.ListN.{length, getD}
-use Rattle.area.specs.declared.State.{State}
-use Rattle.area.specs.declared.Rule.{Rule}
-use Rattle.area.specs.declared.Expected.{Expected}
-use Rattle.area.specs.declared.Fault.{Fault}
 use Rattle.area.specs.declared.Four.{Four}
 use Rattle.area.specs.Bytes.{two, bytes, fieldAt, fieldFrom}
-use Rattle.area.specs.Records.{stateWidth, ruleWidth, entryWidth, expectedWidth, faultWidth, mostStates, mostRules, mostOthers, stateFields, ruleFields, entryFields, expectedFields, faultFields, stateBytes, ruleBytes, entryBytes, expectedBytes, faultBytes, stateOf, ruleOf, expectedOf, faultOf, stateAt, ruleAt, entryAt, expectedAt, faultAt, fourAt, nthState, nthRule, nthEntry, nthExpected, nthFault}
+use Rattle.area.specs.Records.{stateOf, ruleOf, expectedOf, faultOf, fourAt}
 use Rattle.area.specs.Areas.{Area}
 use Rattle.area.proofs.Fields.{fields-length, field-back}
 use Rattle.area.proofs.Areas.{area-at}
 
 -- the numbers that g gives, from i on
-listOf : (ℕ → ℕ) → ℕ → ℕ → List ℕ
+unfoldable pub listOf : (ℕ → ℕ) → ℕ → ℕ → List ℕ
 listOf g i zero = []
 listOf g i (suc n) = g i ∷ listOf g (i + 1) n
 
@@ -30,7 +26,7 @@ listed g i (f ∷ fs) h =
     ap₂ (λ (x : ℕ) (xs : List ℕ). x ∷ xs) (ap g (omega arith) ∙ h 0 (omega arith))
     (listed g (i + 1) fs (λ j hj. ap g (omega arith) ∙ h (suc j) (omega arith)))
 
--- for records of n fields
+-- for records of m fields
 module _ {A : Type 0} (fields : A → List ℕ) (m : ℕ) (has : (x : A) → length (fields x) ≡ m) where
   pub fields-wide : (x : A) → length (bytes two (fields x)) ≡ 2 * m
   fields-wide x = fields-length (fields x) ∙ ap (λ (j : ℕ). 2 * j) (has x)
@@ -46,7 +42,8 @@ module _ {A : Type 0} (fields : A → List ℕ) (m : ℕ) (has : (x : A) → len
         (ap (λ (i : ℕ). getD l i 0) (add-assoc at (2 * j) 1) ∙ area-at fields-wide a d k (2 * j + 1) h (omega arith))
         ∙ field-back fs j (omega (arith, has (getD xs k d)))
 
-    fields-read : listOf (fieldFrom l (k * (2 * m))) 0 m ≡ fields (getD xs k d)
+    -- the list of fields of record k
+    pub fields-read : listOf (fieldFrom l (k * (2 * m))) 0 m ≡ fields (getD xs k d)
     fields-read =
         let e : length (fields (getD xs k d)) ≡ m = has (getD xs k d) in
         ap (listOf g 0) (sym e)
@@ -54,64 +51,6 @@ module _ {A : Type 0} (fields : A → List ℕ) (m : ℕ) (has : (x : A) → len
       where
         g : ℕ → ℕ
         g = fieldFrom l (k * (2 * m))
-
--- ---- the five records
-
-state-has : (x : State) → length (stateFields x) ≡ 3
-unfolding stateFields
-state-has x = refl
-
-rule-has : (x : Rule) → length (ruleFields x) ≡ 14
-unfolding ruleFields
-rule-has x = refl
-
-entry-has : (id : ℕ) → length (entryFields id) ≡ 1
-unfolding entryFields
-entry-has id = refl
-
-expected-has : (x : Expected) → length (expectedFields x) ≡ 2
-unfolding expectedFields
-expected-has x = refl
-
-fault-has : (x : Fault) → length (faultFields x) ≡ 4
-unfolding faultFields
-fault-has x = refl
-
-pub state-wide : (x : State) → length (stateBytes x) ≡ stateWidth
-state-wide = fields-wide stateFields 3 state-has
-
-pub rule-wide : (x : Rule) → length (ruleBytes x) ≡ ruleWidth
-rule-wide = fields-wide ruleFields 14 rule-has
-
-pub entry-wide : (id : ℕ) → length (entryBytes id) ≡ entryWidth
-entry-wide = fields-wide entryFields 1 entry-has
-
-pub expected-wide : (x : Expected) → length (expectedBytes x) ≡ expectedWidth
-expected-wide = fields-wide expectedFields 2 expected-has
-
-pub fault-wide : (x : Fault) → length (faultBytes x) ≡ faultWidth
-fault-wide = fields-wide faultFields 4 fault-has
-
-module _ {cap n : ℕ} {l : List ℕ} (k : ℕ) where
-  pub state-read : {xs : List State} → Area stateBytes stateWidth mostStates cap l n xs → k < n → stateAt l k ≡ nthState xs k
-  unfolding stateAt stateOf stateFields listOf
-  state-read a h = ap (λ (fs : List ℕ). stateOf (λ j. getD fs j 0)) (fields-read stateFields 3 state-has _ k a h)
-
-  pub rule-read : {xs : List Rule} → Area ruleBytes ruleWidth mostRules cap l n xs → k < n → ruleAt l k ≡ nthRule xs k
-  unfolding ruleAt ruleOf ruleFields listOf
-  rule-read a h = ap (λ (fs : List ℕ). ruleOf (λ j. getD fs j 0)) (fields-read ruleFields 14 rule-has _ k a h)
-
-  pub entry-read : {xs : List ℕ} → Area entryBytes entryWidth mostOthers cap l n xs → k < n → entryAt l k ≡ nthEntry xs k
-  unfolding entryAt entryFields listOf
-  entry-read a h = ap (λ (fs : List ℕ). getD fs 0 0) (fields-read entryFields 1 entry-has _ k a h)
-
-  pub expected-read : {xs : List Expected} → Area expectedBytes expectedWidth mostOthers cap l n xs → k < n → expectedAt l k ≡ nthExpected xs k
-  unfolding expectedAt expectedOf expectedFields listOf
-  expected-read a h = ap (λ (fs : List ℕ). expectedOf (λ j. getD fs j 0)) (fields-read expectedFields 2 expected-has _ k a h)
-
-  pub fault-read : {xs : List Fault} → Area faultBytes faultWidth mostOthers cap l n xs → k < n → faultAt l k ≡ nthFault xs k
-  unfolding faultAt faultOf faultFields listOf
-  fault-read a h = ap (λ (fs : List ℕ). faultOf (λ j. getD fs j 0)) (fields-read faultFields 4 fault-has _ k a h)
 
 -- ---- a record made of fields that were read one by one, or by fours
 

@@ -3,13 +3,12 @@
 -- Assumes nothing.
 use mathlib.Core.Path.{_≡_, refl, sym, ap, ap₂, _∙_}
 use mathlib.Core.List.{List, [], _∷_, _++_, append-assoc, append-nil}
-use Prim.Native.Nat.{ℕ, zero, suc, _+_, _*_, _/_, _%_, _<_, _≤_}
-use native.Mathlib.Nat.{add-zero, suc-mul, add-comm, not-suc-le-zero, le-of-suc-le-suc}
+use Prim.Native.Nat.{ℕ, zero, suc, _+_, _*_, _/_, _%_, _<_}
+use native.Mathlib.Nat.{suc-mul, add-comm, not-suc-le-zero, le-of-suc-le-suc}
 use native.Mathlib.Omega.{arith}
-use native.Mathlib.Numerals.{add-one}
 use lib.ListN.{length, getD, take, drop, length-append, List·getD-append}
 use lib.Seq.{sets, getD-append-add}
-use Rattle.area.specs.Bytes.{two, bytes, fieldAt, fieldFrom}
+use Rattle.area.specs.Bytes.{two, bytes, fieldAt}
 use Rattle.area.specs.declared.Rule.{Rule}
 use Rattle.area.specs.Records.{ruleFields, ruleBytes}
 use Rattle.area.specs.Areas.{insertAt}
@@ -62,14 +61,17 @@ two-wide v = refl
 pub fields-length : (fs : List ℕ) → length (bytes two fs) ≡ 2 * length fs
 fields-length fs = bytes-length two 2 two-wide fs ∙ omega arith
 
+field-byte : (fs : List ℕ) (j i : ℕ) → j < length fs → i < 2 → getD (bytes two fs) (j * 2 + i) 0 ≡ getD (two (getD fs j 0)) i 0
+field-byte fs j i h hi =
+    ap (λ (l : List ℕ). getD l (j * 2 + i) 0) (sym (append-nil (bytes two fs))) ∙ bytes-at two 2 two-wide 0 fs [] j i h hi
+
 -- what a field reads back is the number that was written
 pub field-back : (fs : List ℕ) (j : ℕ) → j < length fs → fieldAt (bytes two fs) (2 * j) ≡ getD fs j 0
 unfolding fieldAt two
 field-back fs j h =
-    let byte : (i k : ℕ) → i < 2 → k ≡ j * 2 + i → getD (bytes two fs) k 0 ≡ getD (two (getD fs j 0)) i 0 = λ i k hi e.
-    ap₂ (λ (l : List ℕ) (n : ℕ). getD l n 0) (sym (append-nil (bytes two fs))) e ∙ bytes-at two 2 two-wide 0 fs [] j i h hi in
-    let low : getD (bytes two fs) (2 * j) 0 ≡ getD fs j 0 % 256 = byte 0 (2 * j) (omega arith) (omega arith) in
-    let high : getD (bytes two fs) (2 * j + 1) 0 ≡ getD fs j 0 / 256 = byte 1 (2 * j + 1) (omega arith) (omega arith) in
+    let l : List ℕ = bytes two fs in
+    let low : getD l (2 * j) 0 ≡ getD fs j 0 % 256 = ap (λ (i : ℕ). getD l i 0) (omega arith) ∙ field-byte fs j 0 h (omega arith) in
+    let high : getD l (2 * j + 1) 0 ≡ getD fs j 0 / 256 = ap (λ (i : ℕ). getD l i 0) (omega arith) ∙ field-byte fs j 1 h (omega arith) in
     omega (arith, low, high)
 
 -- fields written one behind the other

@@ -1,14 +1,14 @@
--- Laws of lists: stores one behind the other, zeros behind a list, and the two loops that shift a list up and fill it with zeros.
--- A loop's law says what the list is after some turns, as a concatenation of parts of the list at the start, and that a store is a turn more.
+-- Laws of lists: stores one behind the other, zeros behind a list, and the loops that copy, write zeros and shift. What a loop has done
+-- after some turns is a concatenation of parts of the lists at its start; its laws say so before the first turn, for one turn more, and at the end.
 -- Assumes nothing.
-use mathlib.Core.Path.{_≡_, refl, sym, ap, ap₂, _∙_}
+use mathlib.Core.Path.{_≡_, sym, ap, ap₂, _∙_}
 use mathlib.Core.List.{List, [], _∷_, _++_, append-assoc, append-nil}
-use Prim.Native.Nat.{ℕ, zero, suc, _+_, _*_, _-_, _<_, _≤_}
+use Prim.Native.Nat.{ℕ, zero, suc, _+_, _*_, _-_, _<_, _≤_, max}
 use native.Mathlib.Nat.{add-zero, zero-add, zero-sub, sub-zero, suc-add, suc-sub-suc}
 use native.Mathlib.Omega.{arith}
 use native.Mathlib.Numerals.{add-one}
-use lib.ListN.{length, getD, take, drop, set, length-append, length-replicate, length-drop, take-append-drop, replicate-append-replicate, List·getD-append}
-use lib.Seq.{sets, sets-eq, take-append-seam, drop-append-add, drop-append-seam, set-at, take-suc, drop-cons, append-snoc, length-take-le, drop-length, take-length, getD-take, paste, paste-zero, paste-suc}
+use lib.ListN.{length, getD, take, drop, set, length-append, length-replicate, length-drop, take-append-drop, drop-of-length-le, replicate-append-replicate, List·getD-append}
+use lib.Seq.{sets, sets-eq, take-append-seam, drop-append-add, drop-append-seam, take-at, set-at, take-suc, drop-cons, append-snoc, length-take-le, drop-length, take-length, getD-take, paste, paste-zero, paste-suc}
 use borrow.Author.Needs.{needs}
 use borrow.Rule.Slice.PartMut.{putMid, midOf}
 use Rattle.area.specs.Bytes.{pad, zeros}
@@ -54,9 +54,12 @@ sets-pad n l v h =
     ∙ ap (λ (j : ℕ). l ++ v ++ zeros j) e
 
 -- zeros, from the list's end on: nothing changes
-pub zeros-pad : (n : ℕ) (l : List ℕ) → take (length l) (pad n l) ++ zeros (n - length l) ≡ pad n l
+pub zeros-pad : (n i : ℕ) (b l : List ℕ) → l ≡ pad n b → length b ≡ i → length l ≡ n → take i l ++ zeros (length l - i) ≡ l
 unfolding pad
-zeros-pad n l = ap (λ (t : List ℕ). t ++ zeros (n - length l)) (take-append-seam l _)
+zeros-pad n i b l p q r =
+    let front : take i l ≡ b = ap (take i) p ∙ take-at b (zeros (n - length b)) i q in
+    let k : length l - i ≡ n - length b = omega arith in
+    ap₂ (λ (t : List ℕ) (j : ℕ). t ++ zeros j) front k ∙ sym p
 
 -- bytes put in between u and v: those of v move up
 pub insert-pad : (n : ℕ) (u v x : List ℕ) → length u + length x + length v ≤ n
@@ -66,8 +69,7 @@ insert-pad n u v x h =
     let z : List ℕ = zeros (n - length (u ++ v)) in
     let front : take (length u) (pad n (u ++ v)) ≡ u = ap (take (length u)) (append-assoc u v z) ∙ take-append-seam u (v ++ z) in
     let tail : drop (length u) (pad n (u ++ v)) ≡ v ++ z = ap (drop (length u)) (append-assoc u v z) ∙ drop-append-seam u (v ++ z) in
-    let k : n - length (u ++ v) - length x ≡ n - length (u ++ (x ++ v)) =
-    omega (arith, length-append u v, length-append u (x ++ v), length-append x v) in
+    let k : n - length (u ++ v) - length x ≡ n - length (u ++ (x ++ v)) = omega (arith, length-append u v, length-append u (x ++ v), length-append x v) in
     ap₂ (λ (a b : List ℕ). a ++ moveUp (length x) (length v) x b) front tail
     ∙ ap₂ (λ (a b : List ℕ). u ++ (x ++ a ++ b)) (take-append-seam v z) (drop-append-add v z (length x) ∙ drop-zeros (length x) _)
     ∙ sym (append-assoc u (x ++ v) _)
@@ -108,32 +110,33 @@ zero-none at l =
     ∙ ap (λ (t : List ℕ). t ++ drop at l) (append-nil (take at l))
     ∙ take-append-drop at l)
 
+zeros-more : (u : List ℕ) (at i : ℕ) → at ≤ i → u ++ zeros (i - at) ++ zeros 1 ≡ u ++ zeros (i + 1 - at)
+zeros-more u at i h =
+    let z : i - at + 1 ≡ i + 1 - at = omega arith in
+    append-assoc u (zeros (i - at)) (zeros 1) ∙ ap (λ (t : List ℕ). u ++ t) (replicate-append-replicate (i - at) 1 0 ∙ ap zeros z)
+
 zero-next : (at : ℕ) (l : List ℕ) (i : ℕ) → at ≤ i → i < length l → set (zeroed at l i) i 0 ≡ zeroed at l (i + 1)
 unfolding zeroed
 zero-next at l i h k =
-    let p : List ℕ = take at l ++ zeros (i - at) in
-    let lp : length p ≡ i =
-    length-append (take at l) (zeros (i - at)) ∙ omega (arith, length-take-le at l (omega arith), length-replicate {A = ℕ} (i - at) 0) in
-    let z : i - at + 1 ≡ i + 1 - at = omega arith in
+    let u : List ℕ = take at l in
+    let p : List ℕ = u ++ zeros (i - at) in
+    let lp : length p ≡ i = omega (arith, length-append u (zeros (i - at)), length-take-le at l (omega arith), length-replicate {A = ℕ} (i - at) 0) in
     ap (λ (t : List ℕ). set (p ++ t) i 0) (drop-cons l i 0 k)
     ∙ set-at p (getD l i 0) (drop (suc i) l) 0 i lp
     ∙ sym (append-snoc p 0 (drop (suc i) l))
-    ∙ ap₂ (λ (s t : List ℕ). s ++ t)
-    (append-assoc (take at l) (zeros (i - at)) (zeros 1) ∙ ap (λ (t : List ℕ). take at l ++ t) (replicate-append-replicate (i - at) 1 0 ∙ ap zeros z))
-    (ap (λ (j : ℕ). drop j l) (sym (add-one i)))
+    ∙ ap₂ (λ (s : List ℕ) (j : ℕ). s ++ drop j l) (zeros-more u at i h) (sym (add-one i))
 
 pub zero-more : (at : ℕ) (l : List ℕ) (i : ℕ) (a : List ℕ) → at ≤ i → i < length a → length a ≡ length l → a ≡ zeroed at l i
     → set a i 0 ≡ zeroed at l (i + 1)
 zero-more at l i a h k n e = ap (λ (t : List ℕ). set t i 0) e ∙ zero-next at l i h (omega arith)
 
-pub zero-all : (at : ℕ) (l : List ℕ) (i : ℕ) (a : List ℕ) → i ≤ length l → length a ≤ i → length a ≡ length l → a ≡ zeroed at l i
+pub zero-all : (at : ℕ) (l : List ℕ) (i : ℕ) (a : List ℕ) → at ≤ i → i ≤ max at (length l) → length a ≤ i → length a ≡ length l → a ≡ zeroed at l i
     → a ≡ take at l ++ zeros (length l - at)
 unfolding zeroed
-zero-all at l i a h k n e =
-    let z : i ≡ length l = omega arith in
-    e ∙ ap (zeroed at l) z
-    ∙ ap (λ (t : List ℕ). take at l ++ zeros (length l - at) ++ t) (drop-length l)
-    ∙ append-nil (take at l ++ zeros (length l - at))
+zero-all at l i a g h k n e =
+    let z : i - at ≡ length l - at = omega arith in
+    let m : length l ≤ i = omega arith in
+    e ∙ ap₂ (λ (j : ℕ) (t : List ℕ). take at l ++ zeros j ++ t) z (drop-of-length-le l m) ∙ append-nil (take at l ++ zeros (length l - at))
 
 pub zero-whole : (l e : List ℕ) → e ≡ zeros (length l - 0) → e ≡ zeros (length l)
 zero-whole l e h = h ∙ ap zeros (sub-zero (length l))
@@ -167,17 +170,13 @@ shift-next w l n k hw hk hl =
     let y : ℕ = getD l (k + w) 0 in
     let lp : length p ≡ k + w = length-take-le (k + w) l (omega arith) in
     let e₁ : take (suc k + w) l ≡ p ++ (y ∷ []) = ap (λ (j : ℕ). take j l) (suc-add k w) ∙ take-suc l (k + w) 0 (omega arith) in
-    let e₂ : shifted w l n (suc k) ≡ p ++ y ∷ (q ++ r) =
-    ap (λ (t : List ℕ). t ++ q ++ r) e₁ ∙ append-assoc (p ++ (y ∷ [])) q r ∙ append-snoc p y (q ++ r) in
-    let e₃ : v ≡ getD (take n l) k 0 =
-    ap (λ (t : List ℕ). getD t k 0) e₂
-    ∙ List·getD-append p (y ∷ (q ++ r)) 0 k (omega arith)
-    ∙ getD-take (k + w) l k 0 (omega arith)
-    ∙ sym (getD-take n l k 0 hk) in
+    let e₂ : take (suc k + w) l ++ q ++ r ≡ p ++ y ∷ (q ++ r) = ap (λ (t : List ℕ). t ++ q ++ r) e₁ ∙ append-assoc (p ++ (y ∷ [])) q r ∙ append-snoc p y (q ++ r) in
+    let e₃ : v ≡ getD p k 0 = ap (λ (t : List ℕ). getD t k 0) e₂ ∙ List·getD-append p (y ∷ (q ++ r)) 0 k (omega arith) in
+    let e₄ : getD p k 0 ≡ getD (take n l) k 0 = getD-take (k + w) l k 0 (omega arith) ∙ sym (getD-take n l k 0 hk) in
     let ln : k < length (take n l) = omega (arith, length-take-le n l (omega arith)) in
     ap (λ (t : List ℕ). set t (k + w) v) e₂
     ∙ set-at p y (q ++ r) v (k + w) lp
-    ∙ ap (λ (z : ℕ). p ++ z ∷ (q ++ r)) e₃
+    ∙ ap (λ (z : ℕ). p ++ z ∷ (q ++ r)) (e₃ ∙ e₄)
     ∙ sym (append-assoc p (getD (take n l) k 0 ∷ q) r)
     ∙ ap (λ (t : List ℕ). p ++ t ++ r) (sym (drop-cons (take n l) k 0 ln))
 
@@ -192,8 +191,6 @@ unfolding shifted moveUp
 shift-all w l n k a h e =
     let z : k ≡ 0 = omega arith in
     e ∙ ap (shifted w l n) z ∙ ap (λ (j : ℕ). take j l ++ take n l ++ drop (n + w) l) (zero-add w)
-
-pub ruleset shifting = (needs, shift-none, shift-more, shift-all)
 
 -- the shifted list, with v written over its front
 pub move-front : (w : ℕ) (l : List ℕ) {a e : List ℕ} (m : ℕ) (v : List ℕ) → length v ≡ w → m + w ≤ length l → a ≡ moveUp w m (take w l) l → e ≡ sets a 0 v → e ≡ moveUp w m v l

@@ -2,10 +2,10 @@
 -- takes the first one apart and leaves the second.
 -- Assumes nothing.
 use mathlib.Core.Path.{_≡_, refl, sym, ap, _∙_, subst}
-use mathlib.Core.Bool.{Bool, true, false, cond, _&&_}
+use mathlib.Core.Bool.{Bool, true, false, _&&_}
 use mathlib.Core.List.{List}
-use Prim.Native.Nat.{ℕ, _+_, _*_, _-_, _<_, _≤_, _^_}
-use native.Mathlib.Nat.{mul-le-mul, mul-one, suc-mul}
+use Prim.Native.Nat.{ℕ, _+_, _*_, _-_, _<_, _≤_}
+use native.Mathlib.Nat.{add-assoc, mul-le-mul, mul-le-mul-right, mul-one, suc-mul}
 use native.Mathlib.Omega.{arith}
 use native.Mathlib.Numerals.{add-one}
 use borrow.Author.Needs.{needs}
@@ -15,7 +15,6 @@ use mir.Syntax.{w16}
 use mir.Val.{Fits}
 use lib.ListN.{length, take, drop, length-drop}
 use lib.Seq.{sets, length-take-le}
-use Rattle.area.specs.declared.Appended.{Appended}
 use Rattle.area.specs.declared.Appended.the-variants.{Next, Full}
 use Rattle.area.specs.Areas.{room, Pushed}
 
@@ -32,6 +31,9 @@ module _ (w limit cap n m : ℕ) where
   unfolding room
   room-test h = rw (le-leb (n + m) limit h)
 
+  pub room-yes : n + m ≤ limit → (n + m) * w ≤ cap → room w limit cap n m ≡ true
+  room-yes h f = sym (room-test h) ∙ le-leb ((n + m) * w) cap f
+
   pub room-few : room w limit cap n m ≡ true → n + m ≤ limit
   unfolding room
   room-few e = leb-true (n + m) limit (both (leb (n + m) limit) (leb ((n + m) * w) cap) e .0)
@@ -39,6 +41,18 @@ module _ (w limit cap n m : ℕ) where
   pub room-fits : room w limit cap n m ≡ true → (n + m) * w ≤ cap
   unfolding room
   room-fits e = leb-true ((n + m) * w) cap (both (leb (n + m) limit) (leb ((n + m) * w) cap) e .1)
+
+  -- room behind m more is room for them too
+  pub room-later : (k : ℕ) → room w limit cap (n + m) k ≡ room w limit cap n (m + k)
+  unfolding room
+  room-later k = rw (add-assoc n m k)
+
+-- room for more is room for fewer
+pub room-fewer : (w limit cap n m k : ℕ) → k ≤ m → room w limit cap n m ≡ true → room w limit cap n k ≡ true
+room-fewer w limit cap n m k h e =
+    let g : n + k ≤ n + m = omega arith in
+    let f : (n + k) * w ≤ (n + m) * w = mul-le-mul-right w g in
+    room-yes w limit cap n k (omega (arith, room-few w limit cap n m e)) (omega (arith, f, room-fits w limit cap n m e))
 
 -- the product that the test for room computes
 pub product-small : (w limit a : ℕ) → w ≤ 28 → limit ≤ 65535 → a ≤ limit → a * w ≤ 1834980
@@ -75,25 +89,28 @@ pub ruleset pushes = (needs, was-small, was-next, push-next, push-full)
 
 -- ---- the same for a part of a text
 
+abbrev pub cut : List ℕ → ℕ → ℕ → List ℕ
+cut s from to = take (to - from) (drop from s)
+
 module _ (s : List ℕ) (from to : ℕ) (ordered : from ≤ to) (inside : to ≤ length s) where
-  part-length : length (take (to - from) (drop from s)) ≡ to - from
-  part-length = length-take-le (to - from) (drop from s) (omega (arith, length-drop from s))
+  cut-length : length (cut s from to) ≡ to - from
+  cut-length = length-take-le (to - from) (drop from s) (omega (arith, length-drop from s))
 
   module _ (limit : ℕ) (l : List ℕ) (n : ℕ) (t : Bool) (is : t ≡ room 1 limit (length l) n (to - from)) where
-    room-part : t ≡ room 1 limit (length l) n (length (take (to - from) (drop from s)))
-    room-part = is ∙ ap (room 1 limit (length l) n) (sym part-length)
+    room-cut : t ≡ room 1 limit (length l) n (length (cut s from to))
+    room-cut = is ∙ ap (room 1 limit (length l) n) (sym cut-length)
 
-    pub text-fits : t ≡ true → n + length (take (to - from) (drop from s)) ≤ length l
-    text-fits e = omega (arith, part-length, was-fit 1 limit (length l) n (to - from) t is e)
+    pub text-fits : t ≡ true → n + length (cut s from to) ≤ length l
+    text-fits e = omega (arith, cut-length, was-fit 1 limit (length l) n (to - from) t is e)
 
-    pub text-next : (e : List ℕ) → t ≡ true → e ≡ sets l n (take (to - from) (drop from s))
-        → Pushed 1 limit (length (take (to - from) (drop from s))) (take (to - from) (drop from s)) l n (Next (n + (to - from))) e
+    pub text-next : (e : List ℕ) → t ≡ true → e ≡ sets l n (cut s from to)
+        → Pushed 1 limit (length (cut s from to)) (cut s from to) l n (Next (n + (to - from))) e
     text-next e h p =
-        let v : List ℕ = take (to - from) (drop from s) in
+        let v : List ℕ = cut s from to in
         let q : e ≡ sets l (n * 1) v = p ∙ ap (λ (i : ℕ). sets l i v) (sym (mul-one n)) in
-        subst (λ (k : ℕ). Pushed 1 limit (length v) v l n (Next (n + k)) e) part-length (push-next 1 limit (length v) v l n t room-part e h q)
+        subst (λ (k : ℕ). Pushed 1 limit (length v) v l n (Next (n + k)) e) cut-length (push-next 1 limit (length v) v l n t room-cut e h q)
 
-    pub text-full : t ≡ false → Pushed 1 limit (length (take (to - from) (drop from s))) (take (to - from) (drop from s)) l n Full l
-    text-full h = push-full 1 limit _ (take (to - from) (drop from s)) l n t room-part h
+    pub text-full : t ≡ false → Pushed 1 limit (length (cut s from to)) (cut s from to) l n Full l
+    text-full h = push-full 1 limit (length (cut s from to)) (cut s from to) l n t room-cut h
 
 pub ruleset texts = (needs, was-small, text-fits, text-next, text-full)

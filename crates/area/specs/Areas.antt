@@ -7,45 +7,78 @@ use Prim.Native.Nat.{ℕ, _+_, _*_, _-_, _≤_}
 use lib.Dec.{leb}
 use lib.ListN.{length, take, drop}
 use lib.Seq.{sets}
+use Rattle.area.specs.declared.State.{State}
+use Rattle.area.specs.declared.Rule.{Rule}
+use Rattle.area.specs.declared.Expected.{Expected}
+use Rattle.area.specs.declared.Fault.{Fault}
 use Rattle.area.specs.declared.Appended.{Appended}
 use Rattle.area.specs.declared.Appended.the-variants.{Next, Full}
 use Rattle.area.specs.Bytes.{bytes, pad}
-use Rattle.area.specs.Records.{mostOthers}
+use Rattle.area.specs.Records.{stateWidth, ruleWidth, entryWidth, expectedWidth, faultWidth, mostStates, mostRules, mostOthers, stateBytes, ruleBytes, entryBytes, expectedBytes, faultBytes}
 
--- m records more, of w bytes each, behind n of them: they pass neither the limit nor the cap bytes of the area (01, number 4)
+-- m records of w bytes more, behind n of them, pass neither the limit nor the cap bytes of the area (01, Numbers given at the counter, 4)
 unfoldable pub room : ℕ → ℕ → ℕ → ℕ → ℕ → Bool
 room w limit cap n m = leb (n + m) limit && leb ((n + m) * w) cap
 
--- the area l of cap bytes has the n records xs, each of w bytes by f and at most limit of them, and zeros behind (01, Areas)
+-- l is an area of cap bytes: first the n records xs, at most limit of them and each of w bytes by f, then zeros (01, Areas)
 pub record Area {A : Type 0} (f : A → List ℕ) (w limit cap : ℕ) (l : List ℕ) (n : ℕ) (xs : List A) : Type 0 where
   pub count : n ≡ length xs
   pub is : l ≡ pad cap (bytes f xs)
   pub few : n ≤ limit
   pub fits : n * w ≤ cap
 
+-- a byte as a record of one byte
 abbrev pub one : ℕ → List ℕ
 one b = b ∷ []
 
--- area 4 has bytes: each is a record of one byte (01, Areas, 4)
+-- ---- each of the areas by its number in 01, Areas
+
+-- 1
+abbrev pub StateArea : ℕ → List ℕ → ℕ → List State → Type 0
+StateArea cap l n xs = Area stateBytes stateWidth mostStates cap l n xs
+
+-- 2
+abbrev pub RuleArea : ℕ → List ℕ → ℕ → List Rule → Type 0
+RuleArea cap l n xs = Area ruleBytes ruleWidth mostRules cap l n xs
+
+-- 3
+abbrev pub EntryArea : ℕ → List ℕ → ℕ → List ℕ → Type 0
+EntryArea cap l n xs = Area entryBytes entryWidth mostOthers cap l n xs
+
+-- 4
 abbrev pub TextArea : ℕ → List ℕ → ℕ → List ℕ → Type 0
 TextArea cap l n xs = Area one 1 mostOthers cap l n xs
 
--- what it answers, and what it leaves, to append m records behind n: their bytes v are all written, or none are (01, number 4)
+-- 5
+abbrev pub ExpectedArea : ℕ → List ℕ → ℕ → List Expected → Type 0
+ExpectedArea cap l n xs = Area expectedBytes expectedWidth mostOthers cap l n xs
+
+-- 6
+abbrev pub FaultArea : ℕ → List ℕ → ℕ → List Fault → Type 0
+FaultArea cap l n xs = Area faultBytes faultWidth mostOthers cap l n xs
+
+-- ---- to append
+
+-- m records, of the bytes v, are appended behind n in the area l: the answer r, and the area e afterwards. All of v is written,
+-- or nothing (01, Numbers given at the counter, 4)
 pub record Pushed (w limit m : ℕ) (v l : List ℕ) (n : ℕ) (r : Appended) (e : List ℕ) : Type 0 where
   pub says : r ≡ cond (room w limit (length l) n m) (Next (n + m)) Full
   pub leaves : e ≡ cond (room w limit (length l) n m) (sets l (n * w) v) l
 
+-- the same for text, of which each byte is a record
 abbrev pub PushedText : List ℕ → List ℕ → ℕ → Appended → List ℕ → Type 0
 PushedText v l n r e = Pushed 1 mostOthers (length v) v l n r e
 
--- a record in between, at the place p of the list: those behind move up (01, Areas)
+-- ---- to insert
+
+-- x at the place p of a list, and the elements from there on behind it (01, Areas, the end)
 unfoldable pub insertAt : {A : Type 0} → ℕ → A → List A → List A
 insertAt p x xs = take p xs ++ x ∷ drop p xs
 
--- the same on bytes: v, then the first m bytes of l, in place of the first m + w
+-- the first m bytes of l are moved up by w bytes, over what stood there, and v takes their place at the front
 unfoldable pub moveUp : ℕ → ℕ → List ℕ → List ℕ → List ℕ
 moveUp w m v l = v ++ take m l ++ drop (m + w) l
 
--- v at the place p of n records of w bytes
+-- the bytes v as record p of n, each of w bytes: the records from there on move up (01, Areas, the end)
 unfoldable pub inserted : ℕ → ℕ → ℕ → List ℕ → List ℕ → List ℕ
 inserted w p n v l = take (p * w) l ++ moveUp w ((n - p) * w) v (drop (p * w) l)

@@ -1,3 +1,4 @@
 pub mod Areas
 pub mod Bytes
 pub mod Records
+pub mod Contents

@@ -1,5 +1,4 @@
--- The records of the areas: their fields in order, their bytes, and how they are read back (01, Areas).
--- Each record says the order of its fields twice: as a list, and as the record that has these fields.
+-- The records of the areas: their widths and limits, their fields in order, their bytes, and how they are read back (01, Areas).
 -- Assumes nothing.
 use mathlib.Core.List.{List, [], _∷_}
 use Prim.Native.Nat.{ℕ, _+_, _*_}
@@ -11,7 +10,7 @@ use Rattle.area.specs.declared.Fault.{Fault}
 use Rattle.area.specs.declared.Four.{Four}
 use Rattle.area.specs.Bytes.{two, bytes, fieldAt, fieldFrom}
 
--- ---- how many bytes a record has, and how many records an area may have (01, Areas)
+-- ---- bytes of a record (01, Areas: given for states, rules and faults, and two for each field of the others)
 
 abbrev pub stateWidth : ℕ
 stateWidth = 6
@@ -28,36 +27,43 @@ expectedWidth = 4
 abbrev pub faultWidth : ℕ
 faultWidth = 8
 
+-- ---- the most records of an area (01, Areas)
+
 abbrev pub mostStates : ℕ
 mostStates = 64
 
 abbrev pub mostRules : ℕ
 mostRules = 2048
 
--- list entries, bytes of rewritten text, expected names and fault spans
+-- of list entries, rewritten bytes, expected names and fault spans, each
 abbrev pub mostOthers : ℕ
 mostOthers = 65535
 
--- ---- the fields of each record, in order (01, Areas, 1 to 6)
+-- ---- the fields of a record, in order
 
+-- where a state's name starts and ends, and whether it is exclusive (01, Areas, 1)
 unfoldable pub stateFields : State → List ℕ
 stateFields x = x .start ∷ x .end ∷ x .exclusive ∷ []
 
+-- a rule's id, name, text, list of states and operation (01, Areas, 2)
 unfoldable pub ruleFields : Rule → List ℕ
 ruleFields x =
     x .«has_id» ∷ x .id ∷ x .named ∷ x .«span_start» ∷ x .«span_end» ∷ x .«name_from» ∷ x .«name_length» ∷ x .place
     ∷ x .«text_from» ∷ x .«text_length» ∷ x .«list_from» ∷ x .«list_count» ∷ x .operation ∷ x .target ∷ []
 
+-- the id of a state (01, Areas, 3)
 unfoldable pub entryFields : ℕ → List ℕ
 entryFields id = id ∷ []
 
+-- where an expected name starts and ends (01, Areas, 5)
 unfoldable pub expectedFields : Expected → List ℕ
 expectedFields x = x .start ∷ x .end ∷ []
 
+-- a span of a fault: the fault's number and kind, where it starts and ends (01, Areas, 6)
 unfoldable pub faultFields : Fault → List ℕ
 faultFields x = x .number ∷ x .kind ∷ x .start ∷ x .end ∷ []
 
--- ---- the bytes of each record
+-- ---- a record as bytes: two for each field (01, the introduction)
 
 abbrev pub stateBytes : State → List ℕ
 stateBytes x = bytes two (stateFields x)
@@ -74,7 +80,7 @@ expectedBytes x = bytes two (expectedFields x)
 abbrev pub faultBytes : Fault → List ℕ
 faultBytes x = bytes two (faultFields x)
 
--- ---- the record whose field number j is f j
+-- ---- the record whose field j is f j, in the same order
 
 unfoldable pub stateOf : (ℕ → ℕ) → State
 stateOf f = record { start = f 0; end = f 1; exclusive = f 2 }
@@ -103,7 +109,7 @@ expectedOf f = record { start = f 0; end = f 1 }
 unfoldable pub faultOf : (ℕ → ℕ) → Fault
 faultOf f = record { number = f 0; kind = f 1; start = f 2; end = f 3 }
 
--- ---- record number k of an area's bytes
+-- ---- record k of an area, read from its bytes (01, Areas)
 
 unfoldable pub stateAt : List ℕ → ℕ → State
 stateAt l k = stateOf (fieldFrom l (k * stateWidth))
@@ -120,12 +126,12 @@ expectedAt l k = expectedOf (fieldFrom l (k * expectedWidth))
 unfoldable pub faultAt : List ℕ → ℕ → Fault
 faultAt l k = faultOf (fieldFrom l (k * faultWidth))
 
--- the four fields from a place on
+-- the four fields from a place on, whatever record they belong to
 unfoldable pub fourAt : List ℕ → ℕ → Four
 fourAt l at =
     record { first = fieldAt l at; second = fieldAt l (at + 2); third = fieldAt l (at + 4); fourth = fieldAt l (at + 6) }
 
--- ---- record number k of a list; past the end one whose fields are all 0
+-- ---- record k of a list; past the end one whose fields are all 0
 
 abbrev pub nthState : List State → ℕ → State
 nthState xs k = getD xs k (stateOf (λ _. 0))

@@ -8,6 +8,7 @@ ghost use Rattle.area.specs.Bytes.{two, bytes, zeros, fieldAt};
 ghost use Rattle.area.specs.Records.{stateWidth, ruleWidth, entryWidth, expectedWidth, faultWidth, mostStates, mostRules, mostOthers, stateBytes, ruleBytes, entryBytes, expectedBytes, faultBytes, stateAt, ruleAt, entryAt, expectedAt, faultAt, fourAt};
 ghost use Rattle.area.specs.Areas.{room, Pushed, PushedText, moveUp, inserted};
 
+// How many bytes a record has.
 const STATE_WIDTH: usize = 6;
 
 const RULE_WIDTH: usize = 28;
@@ -18,6 +19,7 @@ const EXPECTED_WIDTH: usize = 4;
 
 const FAULT_WIDTH: usize = 8;
 
+// How many records an area may have.
 const MOST_STATES: usize = 64;
 
 const MOST_RULES: usize = 2048;
@@ -60,11 +62,11 @@ pub struct Fault {
 }
 
 // Four fields in a row. Wide records are read and written by fours, so that no proof has to join more than five facts.
-pub struct Four {
-    pub first: u16,
-    pub second: u16,
-    pub third: u16,
-    pub fourth: u16,
+struct Four {
+    first: u16,
+    second: u16,
+    third: u16,
+    fourth: u16,
 }
 
 // How many records there are afterwards, or that there was no room.
@@ -73,7 +75,7 @@ pub enum Appended {
     Full,
 }
 
-// ---- fields
+// ---- fields: two bytes, the low one first
 
 pub fn write_field(area: &mut [u8], at: usize, value: u16)
     requires { ⌜ at + 2 ≤ length (now area) ⌝ }
@@ -240,8 +242,8 @@ fn write_fault(area: &mut [u8], at: usize, x: Fault)
 
 // ---- records, appended
 
-// Whether m records more, behind n, fit the length and do not pass the limit. The limit is tested first, so that
-// the product does not wrap.
+// Whether m records more, behind n, fit the length and do not pass the limit. The limit comes first, so that the product
+// cannot wrap.
 pub fn has_room(length: usize, width: usize, limit: usize, n: usize, m: usize) -> bool
     requires { ⌜ (width ≤ 28) × (limit ≤ 65535) ⌝ }
     ensures { λ r. ⌜ r ≡ room width limit length n m ⌝ }
@@ -340,7 +342,6 @@ pub fn push_text(area: &mut [u8], n: u16, source: &[u8], from: usize, to: usize)
 // ---- zeros
 
 pub fn zero_from(area: &mut [u8], at: usize)
-    requires { ⌜ at ≤ length (now area) ⌝ }
     ensures { λ _. ⌜ now (area .exit) ≡ take at (now (area .entry)) ++ zeros (length (now (area .entry)) - at) ⌝ }
 {
     let mut i = at;
@@ -370,7 +371,7 @@ fn shift_up(tail: &mut [u8], m: usize)
     }
 }
 
-// A record before the first m bytes.
+// A record before the first m bytes, which move up.
 fn insert_front(tail: &mut [u8], m: usize, x: Fault)
     requires { ⌜ m + faultWidth ≤ length (now tail) ⌝ }
     ensures { λ _. ⌜ now (tail .exit) ≡ moveUp faultWidth m (faultBytes x) (now (tail .entry)) ⌝ }

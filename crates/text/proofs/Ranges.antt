@@ -3,14 +3,14 @@ use mathlib.Core.Path.{_≡_, refl, sym, ap, ap₂, _∙_}
 use mathlib.Core.Bool.{Bool, true, false, _&&_, cond, false≢true}
 use mathlib.Core.List.{List, [], _∷_}
 use mathlib.Core.Logic.{⊎-elim}
-use Prim.Native.Nat.{ℕ, zero, suc, _+_, _-_, _≤_, _<_}
+use Prim.Native.Nat.{ℕ, zero, suc, _+_, _-_, _≤_, _<_, min}
 use native.Mathlib.Numerals.{add-one}
 use native.Mathlib.Omega.{arith}
 use borrow.Author.Needs.{needs}
 use borrow.Author.Tests.{eq-eqb, ne-eqb, eqb-true}
 use lib.Dec.{eqb}
 use lib.ListN.{length, take, drop, length-take, length-drop}
-use lib.Seq.{drop-cons, take-length}
+use lib.Seq.{drop-cons, take-length, take-all}
 use Rattle.text.specs.Whitespace.{byte}
 use Rattle.text.specs.Range.{part, sameBytes, sameRange, lookaheadIs}
 use Rattle.text.specs.declared.Found.the-variants.{At, Nothing}
@@ -91,18 +91,51 @@ pub ruleset comparing = (needs, range-start, range-differs, range-again, range-e
 
 -- ---- the calls over it
 
-module _ (s : List ℕ) (a e : ℕ) (t : List ℕ) (c d : ℕ) (fa : a ≤ e) (fe : e ≤ length s) (fc : c ≤ d) (fd : d ≤ length t) where
-  pub range-unequal : (e - a ≡ d - c → ⊥) → false ≡ sameRange s a e t c d
+part-size : (s : List ℕ) (a e : ℕ) → length (part s a e) ≡ min (e - a) (length s - a)
+unfolding part
+part-size s a e = simp (length-take, length-drop)
+
+-- a range that is cut where its text ends
+part-cut : (s : List ℕ) (a e n : ℕ) → n ≡ min (e - a) (length s - a) → part s a (a + n) ≡ part s a e
+unfolding part
+part-cut s a e n q =
+    ⊎-elim
+    (λ h.
+    let z : a + n - a ≡ e - a = omega arith in
+    rw z)
+    (λ h.
+    let z : a + n - a ≡ length (drop a s) = omega (arith, length-drop a s) in
+    rw z (take-length (drop a s) ∙ sym (take-all (e - a) (drop a s) (omega (arith, length-drop a s)))))
+    (le-or-lt (e - a) (length s - a))
+
+no-bytes : (l : List ℕ) → length l ≡ 0 → l ≡ []
+no-bytes [] e = refl
+no-bytes (x ∷ xs) e = absurd (omega arith)
+
+module _ (s : List ℕ) (a e : ℕ) (t : List ℕ) (c d n m : ℕ) (qs : n ≡ min (e - a) (length s - a)) (qt : m ≡ min (d - c) (length t - c)) where
+  pub range-unequal : (n ≡ m → ⊥) → false ≡ sameRange s a e t c d
   unfolding sameRange
-  range-unequal h = same-lengths (part s a e) (part t c d) (λ q. h (sym (part-length s a e fe) ∙ q ∙ part-length t c d fd))
+  range-unequal h = same-lengths (part s a e) (part t c d) (λ q. h (qs ∙ sym (part-size s a e) ∙ q ∙ part-size t c d ∙ sym qt))
 
-  pub range-compared : (r : Bool) → e - a ≡ d - c → r ≡ sameRange s a (a + (e - a)) t c (c + (e - a)) → r ≡ sameRange s a e t c d
-  range-compared r q h =
-      let p : a + (e - a) ≡ e = omega arith in
-      let z : c + (e - a) ≡ d = omega arith in
-      h ∙ ap₂ (λ (x y : ℕ). sameRange s a x t c y) p z
+  pub range-empty : n ≡ m → n ≡ 0 → true ≡ sameRange s a e t c d
+  unfolding sameRange sameBytes
+  range-empty q z =
+      let x : part s a e ≡ [] = no-bytes (part s a e) (part-size s a e ∙ sym qs ∙ z) in
+      let y : part t c d ≡ [] = no-bytes (part t c d) (part-size t c d ∙ sym qt ∙ sym q ∙ z) in
+      rw (x, y)
 
-pub ruleset range-calls = (needs, range-unequal, range-compared)
+  pub range-compared : (r : Bool) → n ≡ m → r ≡ sameRange s a (a + n) t c (c + n) → r ≡ sameRange s a e t c d
+  unfolding sameRange
+  range-compared r q h = h ∙ ap₂ sameBytes (part-cut s a e n qs) (part-cut t c d n (q ∙ qt))
+
+-- what same_bytes asks, where there is a byte to compare
+pub range-inside : (s : List ℕ) (a e n : ℕ) → n ≡ min (e - a) (length s - a) → (n ≡ 0 → ⊥) → a + n ≤ length s
+range-inside s a e n q z = omega arith
+
+pub range-inside-too : (s : List ℕ) (a e n m : ℕ) → m ≡ min (e - a) (length s - a) → n ≡ m → (n ≡ 0 → ⊥) → a + n ≤ length s
+range-inside-too s a e n m q i z = range-inside s a e n (i ∙ q) z
+
+pub ruleset range-calls = (needs, range-unequal, range-empty, range-compared, range-inside, range-inside-too)
 
 part-whole : (w : List ℕ) → part w 0 (0 + length w) ≡ w
 unfolding part

@@ -1,16 +1,17 @@
 -- The laws of the three walks. A scanner's loop has the invariant that the walk from where it stands answers what the walk from its start does;
 -- each law says how that goes on by one step, or ends. The test is a variable, so that each law is proved once for all scanners.
-use mathlib.Core.Path.{_≡_, refl, sym, ap, _∙_}
-use mathlib.Core.Bool.{Bool, true, false, cond}
+use mathlib.Core.Path.{_≡_, refl, sym, ap, subst, _∙_}
+use mathlib.Core.Bool.{Bool, true, false, cond, true≢false}
 use mathlib.Core.Logic.{⊎-elim}
 use Prim.Native.Nat.{ℕ, zero, suc, _+_, _-_, _≤_, _<_}
-use native.Mathlib.Nat.{add-zero, eq-zero-or-pos}
+use native.Mathlib.Nat.{add-zero, eq-or-lt-of-le, eq-zero-or-pos}
 use native.Mathlib.Numerals.{add-one}
 use native.Mathlib.Omega.{arith}
 use borrow.Author.Needs.{needs}
 use borrow.Author.Tests.{eqb-true, eqb-false, eq-eqb, ne-eqb}
 use lib.Dec.{eqb}
-use Rattle.text.specs.Walk.{firstOf, first, last, repeat, skip}
+use Rattle.text.specs.Walk.{firstOf, first, lastOf, last, repeat, skip}
+use Rattle.text.specs.declared.Found.{Found}
 use Rattle.text.specs.declared.Found.the-variants.{At, Nothing}
 use Rattle.text.proofs.Tests.{answer, answer-not, answer-yes, answer-no, unequal, equal}
 
@@ -118,6 +119,36 @@ module _ (test : ℕ → Bool) (i k e : ℕ) (before : last test i e ≡ last te
 
   pub last-ended : k ≤ i → Nothing ≡ last test i e
   last-ended h = last-none test i k h ∙ sym before
+
+-- where a position passes, the last that does is not before it
+pub record Last (f : Found) (j e : ℕ) : Type 0 where
+  pub place : ℕ
+  pub is : f ≡ At place
+  pub from : j ≤ place
+  pub to : place < e
+
+last-of-passed : (test : ℕ → Bool) (n i j : ℕ) → i ≤ j → j < i + n → test j ≡ true → Last (lastOf test i n) j (i + n)
+unfolding lastOf
+last-of-passed test zero i j h l t = absurd (omega arith)
+last-of-passed test (suc n) i j h l t = go (test (i + n)) refl (λ g. last-of-passed test n i j h g t)
+  where
+    at-most : j ≤ i + n
+    at-most = omega arith
+
+    earlier : test (i + n) ≡ false → j < i + n
+    earlier e = ⊎-elim (λ q. absurd (true≢false (sym t ∙ ap test q ∙ e))) (λ g. g) (eq-or-lt-of-le at-most)
+
+    go : (b : Bool) → test (i + n) ≡ b → (j < i + n → Last (lastOf test i n) j (i + n)) → Last (cond b (At (i + n)) (lastOf test i n)) j (i + suc n)
+    go true e before = record { place = i + n; is = refl; from = omega arith; to = omega arith }
+    go false e before =
+        let r = before (earlier e) in
+        record { place = r .place; is = r .is; from = r .from; to = omega (arith, r .to) }
+
+pub last-passed : (test : ℕ → Bool) (i j e : ℕ) → i ≤ j → j < e → test j ≡ true → Last (last test i e) j e
+unfolding last
+last-passed test i j e h l t =
+    let q : i + (e - i) ≡ e = omega arith in
+    subst (λ (m : ℕ). Last (lastOf test i (e - i)) j m) q (last-of-passed test (e - i) i j h (omega arith) t)
 
 pub ruleset scanning-down = (needs, last-found, last-again, last-ended, answer, equal, unequal)
 

@@ -1,6 +1,6 @@
 // Ranges of texts: whether two are the same bytes, and whether a word stands at an offset.
 ghost use mathlib.Core.Path.{_≡_};
-ghost use Prim.Native.Nat.{_+_, _≤_};
+ghost use Prim.Native.Nat.{_+_, _-_, _≤_, min};
 ghost use lib.ListN.{length};
 ghost use Rattle.text.specs.Range.{sameRange, lookaheadIs};
 use crate::Found;
@@ -20,14 +20,33 @@ fn same_bytes(s: &[u8], a: usize, t: &[u8], c: usize, n: usize) -> bool
     true
 }
 
-// Whether the bytes of s from a to e are those of t from c to d. Two texts, or one text twice, or a text and a constant.
+// How many bytes stand from a to before e in a text of n bytes.
+fn part_len(n: usize, a: usize, e: usize) -> usize
+    ensures { λ r. ⌜ r ≡ min (e - a) (n - a) ⌝ }
+{
+    if e <= a {
+        return 0;
+    }
+    if n <= a {
+        return 0;
+    }
+    if e < n {
+        return e - a;
+    }
+    n - a
+}
+
+// Whether the bytes of s from a to e are those of t from c to d: of two texts, of one text lent twice, or of a text and a constant.
+// Lengths are compared first. A range may end past its text, so that records of any content can be compared.
 pub fn same_range(s: &[u8], a: usize, e: usize, t: &[u8], c: usize, d: usize) -> bool
-    requires { ⌜ ((a ≤ e) × (e ≤ length (now s))) × ((c ≤ d) × (d ≤ length (now t))) ⌝ }
     ensures { λ r. ⌜ r ≡ sameRange (now (s .entry)) a e (now (t .entry)) c d ⌝ }
 {
-    let n = e - a;
-    if n != d - c {
+    let n = part_len(s.len(), a, e);
+    if n != part_len(t.len(), c, d) {
         return false;
+    }
+    if n == 0 {
+        return true;
     }
     same_bytes(s, a, t, c, n)
 }

@@ -1,7 +1,7 @@
 -- `area::copy` meets its contract. The invariant: the first i bytes of the text are copied.
 -- Assumes nothing.
 use mathlib.Core.Path.{_≡_}
-use Prim.Native.Nat.{_+_, _-_, _≤_}
+use Prim.Native.Nat.{_-_, _≤_}
 use lib.ListN.{length}
 use lib.Seq.{paste}
 use Rattle.area.proofs.Lists.{copies}

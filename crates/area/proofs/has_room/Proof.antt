@@ -8,7 +8,9 @@ use Rattle.area.proofs.has_room.Statement.{statement}
 use Rattle.area.proofs.has_room.Tie as tie
 
 mul-result : tie.Need-mul-result
-mul-result c = let a = c .before .before .args in omega (arith, product-small (a .width) (a .limit) (a .n + a .m) (omega arith) (omega arith) (omega arith))
+mul-result c =
+    let a = c .before .before .args in
+    omega (arith, product-small (a .width) (a .limit) (a .n + a .m) (omega arith) (omega arith) (omega arith))
 
 pub has-room-spec : {M : Type 1} → statement M
 has-room-spec =

@@ -2,7 +2,7 @@
 -- Assumes nothing.
 use borrow.Author.Needs.{needs}
 use Rattle.area.proofs.Lists.{move-front}
-use Rattle.area.proofs.Decode.{fault-wide}
+use Rattle.area.proofs.Records.{fault-wide}
 use Rattle.area.proofs.insert_front.Statement.{statement}
 use Rattle.area.proofs.insert_front.Tie as tie
 

@@ -6,7 +6,8 @@ use Rattle.area.proofs.write_rule.Statement.{statement}
 use Rattle.area.proofs.write_rule.Tie as tie
 
 returns : tie.Need-returns
-returns c = let c4 = c .before .before .before .before .before .before in
+returns c =
+    let c4 = c .before .before .before .before .before .before in
     let c3 = c4 .before .before .before .before in
     let c2 = c3 .before .before .before .before in
     let c1 = c2 .before .before .before .before in

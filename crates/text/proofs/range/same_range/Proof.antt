@@ -7,7 +7,8 @@ pub same-range-spec : {M : Type 1} → statement M
 same-range-spec =
     tie.close
     (tie.spec
-    (λ c. search range-calls)
+    (λ c κs. search range-calls)
+    (λ c κs. search range-calls)
     (λ c. search range-calls)
     (λ c. search range-calls)
     (λ c κs. search range-calls)

@@ -1,0 +1,124 @@
+//! The side that is compared with the expected answer.
+
+use crate::case::{Answer, Case};
+use crate::misreadings::Misreading;
+use crate::model::{self, Reading};
+
+pub trait Side {
+    fn name(&self) -> String;
+    fn parse(&self, case: &Case) -> Answer;
+}
+
+/// The expected answer with one misreading of 01.
+pub struct Misread(pub Misreading);
+
+impl Side for Misread {
+    fn name(&self) -> String {
+        format!("{:?}", self.0)
+    }
+
+    fn parse(&self, case: &Case) -> Answer {
+        model::answer(case, Reading::wrong(self.0))
+    }
+}
+
+#[cfg(feature = "ours")]
+pub use ours::{Ours, parse_into};
+
+#[cfg(feature = "ours")]
+mod ours {
+    use super::Side;
+    use crate::case::{AREAS, Answer, Case};
+
+    unsafe extern "C" {
+        fn troymantle_parse(
+            source: *const u8,
+            source_length: usize,
+            flags: u64,
+            verdicts: *const u8,
+            verdicts_length: usize,
+            area_1: *mut u8,
+            area_1_length: usize,
+            area_2: *mut u8,
+            area_2_length: usize,
+            area_3: *mut u8,
+            area_3_length: usize,
+            area_4: *mut u8,
+            area_4_length: usize,
+            area_5: *mut u8,
+            area_5_length: usize,
+            area_6: *mut u8,
+            area_6_length: usize,
+            counts: *mut u16,
+        ) -> u64;
+    }
+
+    pub struct Ours;
+
+    /// Bytes before and after each lent area; the call must leave them alone.
+    const GUARD: usize = 16;
+    const GUARD_BYTE: u8 = 0x5a;
+    /// What the areas hold before the call.
+    const OLD_BYTE: u8 = 0xa5;
+
+    pub fn parse_into(
+        source: &[u8],
+        flags: u64,
+        verdicts: &[u8],
+        areas: &mut [&mut [u8]; AREAS],
+        counts: &mut [u16; AREAS],
+    ) -> u64 {
+        let [one, two, three, four, five, six] = areas;
+        // SAFETY: every pointer goes with the length of its own slice, and the call reads and writes only there.
+        unsafe {
+            troymantle_parse(
+                source.as_ptr(),
+                source.len(),
+                flags,
+                verdicts.as_ptr(),
+                verdicts.len(),
+                one.as_mut_ptr(),
+                one.len(),
+                two.as_mut_ptr(),
+                two.len(),
+                three.as_mut_ptr(),
+                three.len(),
+                four.as_mut_ptr(),
+                four.len(),
+                five.as_mut_ptr(),
+                five.len(),
+                six.as_mut_ptr(),
+                six.len(),
+                counts.as_mut_ptr(),
+            )
+        }
+    }
+
+    impl Side for Ours {
+        fn name(&self) -> String {
+            "Troymantle".to_string()
+        }
+
+        fn parse(&self, case: &Case) -> Answer {
+            let mut lent = case.capacities.map(|length| {
+                let mut bytes = vec![GUARD_BYTE; length + 2 * GUARD];
+                bytes[GUARD..GUARD + length].fill(OLD_BYTE);
+                bytes
+            });
+            let mut counts = [0xa5a5; AREAS];
+            let mut areas = lent.each_mut().map(|bytes| {
+                let end = bytes.len() - GUARD;
+                &mut bytes[GUARD..end]
+            });
+            let word = parse_into(&case.source, case.flags, &case.verdicts, &mut areas, &mut counts);
+            let areas = lent.map(|bytes| {
+                let (before, rest) = bytes.split_at(GUARD);
+                let (area, after) = rest.split_at(rest.len() - GUARD);
+                let intact = before.iter().chain(after).all(|byte| *byte == GUARD_BYTE);
+                assert!(intact, "the call wrote outside an area that was lent to it");
+                area.to_vec()
+            });
+            Answer { word, counts, areas }
+        }
+    }
+}
