@@ -111,10 +111,10 @@ module _ {A : Type 0} {F : Format A} (sound : Sound F) where
 
     -- a record in between
     pub held-insert : (p : ℕ) (x : A) (e : List ℕ) → p ≤ n → room (F .width) (F .most) (length l) (length (contents F l n)) 1 ≡ true
-        → e ≡ inserted (F .width) p n (F .write x) l → (contents F e (n + 1) ≡ insertAt p x (contents F l n)) × Held F e (n + 1)
+        → e ≡ inserted (F .width) p n (F .write x) l → (contents F e (n + 1) ≡ insertAt p x (contents F l n)) × Held F e (n + 1) × (length e ≡ length l)
     held-insert p x e g t q =
         let a = area-inserted (sound .wide) (h .area) p g x e t q in
-        (contents-are a, held-of a)
+        (contents-are a, held-of a, area-length (sound .wide) a)
 
   -- an area of zeros holds nothing
   pub held-empty : (l : List ℕ) → l ≡ zeros (length l) → Held F l 0

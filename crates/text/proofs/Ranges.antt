@@ -1,7 +1,7 @@
--- Equal ranges: the comparison says equality of lists, and a loop that has compared k bytes leaves the comparison of what follows.
+-- Equal ranges: the comparison says equality of lists, and a loop that has compared the bytes behind the first k leaves the comparison of those k.
 use mathlib.Core.Path.{_≡_, refl, sym, ap, ap₂, _∙_}
-use mathlib.Core.Bool.{Bool, true, false, _&&_, cond, false≢true}
-use mathlib.Core.List.{List, [], _∷_}
+use mathlib.Core.Bool.{Bool, true, false, _&&_, cond, false≢true, and-true, and-false, and-assoc}
+use mathlib.Core.List.{List, [], _∷_, _++_}
 use mathlib.Core.Logic.{⊎-elim}
 use Prim.Native.Nat.{ℕ, zero, suc, _+_, _-_, _≤_, _<_, min}
 use native.Mathlib.Numerals.{add-one}
@@ -10,7 +10,7 @@ use borrow.Author.Needs.{needs}
 use borrow.Author.Tests.{eq-eqb, ne-eqb, eqb-true}
 use lib.Dec.{eqb}
 use lib.ListN.{length, take, drop, length-take, length-drop}
-use lib.Seq.{drop-cons, take-length, take-all}
+use lib.Seq.{drop-cons, take-length, take-all, take-suc, getD-drop}
 use Rattle.text.specs.Whitespace.{byte}
 use Rattle.text.specs.Range.{part, sameBytes, sameRange, lookaheadIs}
 use Rattle.text.specs.declared.Found.the-variants.{At, Nothing}
@@ -38,6 +38,14 @@ same-lengths xs ys d = go (sameBytes xs ys) refl
     go true e = absurd (d (ap length (same-equal xs ys e)))
     go false e = refl
 
+-- of lists of one length the last bytes can be compared first
+same-last : (xs ys : List ℕ) (x y : ℕ) → length xs ≡ length ys → sameBytes (xs ++ (x ∷ [])) (ys ++ (y ∷ [])) ≡ sameBytes xs ys && eqb x y
+unfolding sameBytes
+same-last [] [] x y q = and-true (eqb x y)
+same-last [] (b ∷ ys) x y q = absurd (omega arith)
+same-last (a ∷ xs) [] x y q = absurd (omega arith)
+same-last (a ∷ xs) (b ∷ ys) x y q = rw (same-last xs ys x y (omega arith)) (sym (and-assoc (eqb a b) (sameBytes xs ys) (eqb x y)))
+
 -- ---- a range, byte by byte
 
 pub part-length : (s : List ℕ) (a e : ℕ) → e ≤ length s → length (part s a e) ≡ e - a
@@ -61,33 +69,37 @@ part-none s a e h =
     let z : e - a ≡ 0 = omega arith in
     rw z
 
--- ---- the loop has compared k of n bytes
+pub part-last : (s : List ℕ) (a k : ℕ) → 0 < k → a + k ≤ length s → part s a (a + k) ≡ part s a (a + (k - 1)) ++ (byte s (a + (k - 1)) ∷ [])
+unfolding part
+part-last s a k p l =
+    let q : a + k - a ≡ suc (k - 1) = omega arith in
+    let z : a + (k - 1) - a ≡ k - 1 = omega arith in
+    let g : k - 1 < length (drop a s) = omega (arith, length-drop a s) in
+    rw (q, z, take-suc (drop a s) (k - 1) 0 g, getD-drop a s (k - 1) 0)
 
-module _ (s : List ℕ) (a : ℕ) (t : List ℕ) (c n k : ℕ) (before : sameRange s a (a + n) t c (c + n) ≡ sameRange s (a + k) (a + n) t (c + k) (c + n)) (fs : a + n ≤ length s) (ft : c + n ≤ length t) where
-  step : k < n → sameRange s (a + k) (a + n) t (c + k) (c + n) ≡ eqb (byte s (a + k)) (byte t (c + k)) && sameRange s (a + (k + 1)) (a + n) t (c + (k + 1)) (c + n)
+-- ---- the loop has compared all but the first k of n bytes
+
+module _ (s : List ℕ) (a : ℕ) (t : List ℕ) (c n k : ℕ) (before : sameRange s a (a + n) t c (c + n) ≡ sameRange s a (a + k) t c (c + k)) where
+  module _ (few : k ≤ n) (fs : a + n ≤ length s) (ft : c + n ≤ length t) (some : 0 < k) where
+    step : sameRange s a (a + k) t c (c + k) ≡ sameRange s a (a + (k - 1)) t c (c + (k - 1)) && eqb (byte s (a + (k - 1))) (byte t (c + (k - 1)))
+    unfolding sameRange
+    step =
+        let ls = part-length s a (a + (k - 1)) (omega arith) in
+        let lt = part-length t c (c + (k - 1)) (omega arith) in
+        rw (part-last s a k some (omega arith), part-last t c k some (omega arith))
+        (same-last (part s a (a + (k - 1))) (part t c (c + (k - 1))) (byte s (a + (k - 1))) (byte t (c + (k - 1))) (omega arith))
+
+    pub range-differs : (byte s (a + (k - 1)) ≡ byte t (c + (k - 1)) → ⊥) → false ≡ sameRange s a (a + n) t c (c + n)
+    range-differs d = sym (before ∙ step ∙ rw (ne-eqb (byte s (a + (k - 1))) (byte t (c + (k - 1))) d, and-false))
+
+    pub range-again : byte s (a + (k - 1)) ≡ byte t (c + (k - 1)) → sameRange s a (a + n) t c (c + n) ≡ sameRange s a (a + (k - 1)) t c (c + (k - 1))
+    range-again e = before ∙ step ∙ rw (eq-eqb (byte s (a + (k - 1))) (byte t (c + (k - 1))) e, and-true)
+
+  pub range-ended : k ≤ 0 → true ≡ sameRange s a (a + n) t c (c + n)
   unfolding sameRange sameBytes
-  step h =
-      let p : a + k + 1 ≡ a + (k + 1) = omega arith in
-      let q : c + k + 1 ≡ c + (k + 1) = omega arith in
-      rw (part-step s (a + k) (a + n) (omega arith) fs, part-step t (c + k) (c + n) (omega arith) ft, p, q)
+  range-ended h = sym (before ∙ rw (part-none s a (a + k) (omega arith), part-none t c (c + k) (omega arith)))
 
-  pub range-differs : k < n → (byte s (a + k) ≡ byte t (c + k) → ⊥) → false ≡ sameRange s a (a + n) t c (c + n)
-  range-differs h d = sym (before ∙ step h ∙ rw (ne-eqb (byte s (a + k)) (byte t (c + k)) d))
-
-  pub range-again : k < n → byte s (a + k) ≡ byte t (c + k) → sameRange s a (a + n) t c (c + n) ≡ sameRange s (a + (k + 1)) (a + n) t (c + (k + 1)) (c + n)
-  range-again h e = before ∙ step h ∙ rw (eq-eqb (byte s (a + k)) (byte t (c + k)) e)
-
-  pub range-ended : n ≤ k → true ≡ sameRange s a (a + n) t c (c + n)
-  unfolding sameRange sameBytes
-  range-ended h = sym (before ∙ rw (part-none s (a + k) (a + n) (omega arith), part-none t (c + k) (c + n) (omega arith)))
-
-pub range-start : (s : List ℕ) (a : ℕ) (t : List ℕ) (c n : ℕ) → sameRange s a (a + n) t c (c + n) ≡ sameRange s (a + 0) (a + n) t (c + 0) (c + n)
-range-start s a t c n =
-    let p : a ≡ a + 0 = omega arith in
-    let q : c ≡ c + 0 = omega arith in
-    ap₂ (λ (x y : ℕ). sameRange s x (a + n) t y (c + n)) p q
-
-pub ruleset comparing = (needs, range-start, range-differs, range-again, range-ended)
+pub ruleset comparing = (needs, range-differs, range-again, range-ended)
 
 -- ---- the calls over it
 

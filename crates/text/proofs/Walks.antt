@@ -13,7 +13,7 @@ use lib.Dec.{eqb}
 use Rattle.text.specs.Walk.{firstOf, first, lastOf, last, repeat, skip}
 use Rattle.text.specs.declared.Found.{Found}
 use Rattle.text.specs.declared.Found.the-variants.{At, Nothing}
-use Rattle.text.proofs.Tests.{answer, answer-not, answer-yes, answer-no, unequal, equal}
+use Rattle.text.proofs.Tests.{answer, answer-not, answer-yes, answer-no, unequal, equal, by-test}
 
 -- ---- the first position that passes
 
@@ -159,6 +159,12 @@ unfolding repeat
 repeat-stop next zero k h = refl
 repeat-stop next (suc n) k h = rw (eq-eqb (next k) k h)
 
+-- what each step keeps holds of where the walk ends
+pub repeat-keeps : (P : ℕ → Type 0) (next : ℕ → ℕ) → ((k : ℕ) → P k → P (next k)) → (n k : ℕ) → P k → P (repeat next n k)
+unfolding repeat
+repeat-keeps P next keeps zero k h = h
+repeat-keeps P next keeps (suc n) k h = by-test P (eqb (next k) k) k _ (λ _. h) (λ _. repeat-keeps P next keeps n (next k) (keeps k h))
+
 -- a measure that falls whenever the step changes something bounds how often it does
 module _ (next : ℕ → ℕ) (μ : ℕ → ℕ) (falls : (k : ℕ) → (next k ≡ k → ⊥) → μ (next k) < μ k) where
   more : (n k : ℕ) → μ k ≤ n → repeat next n k ≡ repeat next (suc n) k
@@ -217,6 +223,15 @@ module _ (width : ℕ → ℕ) (n : ℕ) (inside : (k : ℕ) → 0 < width k →
   pub skip-goes : (k : ℕ) → 0 < width k → skip width n k ≡ skip width n (k + width k)
   unfolding skip
   skip-goes k p = repeat-go (λ j. j + width j) (λ j. n - j) nearer n k (omega arith) (omega arith)
+
+  -- the walk neither goes back nor passes n
+  pub skip-from : (k : ℕ) → k ≤ skip width n k
+  unfolding skip
+  skip-from k = repeat-keeps (λ j. k ≤ j) (λ j. j + width j) (λ j h. omega arith) n k (omega arith)
+
+  pub skip-to : (k : ℕ) → k ≤ n → skip width n k ≤ n
+  unfolding skip
+  skip-to k h = repeat-keeps (λ j. j ≤ n) (λ j. j + width j) (λ j l. ⊎-elim (λ z. omega arith) (λ p. inside j p) (eq-zero-or-pos (width j))) n k h
 
   -- no such character stands where the walk stops
   pub skip-stops : (k : ℕ) → width (skip width n k) ≡ 0

@@ -5,17 +5,18 @@ ghost use lib.ListN.{length};
 ghost use Rattle.text.specs.Range.{sameRange, lookaheadIs};
 use crate::Found;
 
-// Whether the n bytes of s from a on are those of t from c on.
+// Whether the n bytes of s from a on are those of t from c on. From the end, since names that begin alike differ at their ends.
 fn same_bytes(s: &[u8], a: usize, t: &[u8], c: usize, n: usize) -> bool
     requires { ⌜ (a + n ≤ length (now s)) × (c + n ≤ length (now t)) ⌝ }
     ensures { λ r. ⌜ r ≡ sameRange (now (s .entry)) a (a + n) (now (t .entry)) c (c + n) ⌝ }
 {
-    let mut k = 0;
-    while k < n {
-        if s[a + k] != t[c + k] {
+    let mut k = n;
+    while 0 < k {
+        let j = k - 1;
+        if s[a + j] != t[c + j] {
             return false;
         }
-        k += 1;
+        k = j;
     }
     true
 }

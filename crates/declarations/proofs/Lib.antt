@@ -1,0 +1,4 @@
+pub mod Words
+pub mod Expecting
+pub mod Declares
+pub mod Lines

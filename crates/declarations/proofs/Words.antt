@@ -1,0 +1,111 @@
+-- What a declaration's line says: a law for each way through its readers.
+use mathlib.Core.Path.{_≡_, refl, sym, ap, _∙_}
+use mathlib.Core.Bool.{Bool, true, false, cond, not, _&&_, _||_, false≢true}
+use mathlib.Core.List.{List}
+use Prim.Native.Nat.{ℕ, _+_, _-_, _≤_, _<_}
+use native.Mathlib.Omega.{arith}
+use borrow.Author.Needs.{needs}
+use borrow.Author.Tests.{eq-eqb, ne-eqb}
+use lib.Dec.{eqb}
+use lib.ListN.{length}
+use Rattle.text.specs.Class.{isLetter, isDigit}
+use Rattle.text.specs.Walk.{first, Between}
+use Rattle.text.specs.Whitespace.{byte}
+use Rattle.text.specs.Range.{lookaheadIs}
+use Rattle.text.specs.Scan.{findWhitespace, trimEnd, trimStart}
+use Rattle.text.specs.declared.Found.{Found}
+use Rattle.text.proofs.Tests.{answer-not, and-false}
+use Rattle.text.proofs.Walks.{first-again, first-none}
+use Rattle.section.specs.Section.{found}
+use Rattle.names.specs.Names.{allBytes}
+use Rattle.names.proofs.Forms.{bytes-fail, bytes-pass}
+use Rattle.declarations.specs.declared.Declaration.{Declaration}
+use Rattle.declarations.specs.declared.Declaration.the-variants.{States, Expecting, Unknown}
+use Rattle.declarations.specs.Declarations.{isAlphanumeric, declares, expectMissing, statesFrom, declarationBy, declarationTo, declarationOf}
+
+pub alphanumeric-byte : (b : ℕ) (l d : Bool) → l ≡ isLetter b → d ≡ isDigit b → l || d ≡ isAlphanumeric b
+unfolding isAlphanumeric
+alphanumeric-byte b l d e f = rw (e, f)
+
+pub ruleset bytes = (needs, alphanumeric-byte, answer-not, first-again, bytes-fail, bytes-pass)
+
+-- ---- the first word
+
+none-past : (test : ℕ → Bool) (s : List ℕ) (a e : ℕ) → e < a → allBytes test s a e ≡ false
+unfolding allBytes
+none-past test s a e h = rw (← first-none (λ k. not (test (byte s k))) a e (omega arith)) (ne-eqb a e (omega arith))
+
+module _ (x y : ℕ) (s : List ℕ) (i w : ℕ) where
+  pub word-short : w - i < 2 → i ≤ w → false ≡ declares x y s i w
+  unfolding declares
+  word-short h l =
+      sym (ap (λ (t : Bool). eqb (byte s i) 0x25 && ((eqb (byte s (i + 1)) x || eqb (byte s (i + 1)) y) && t)) (none-past isAlphanumeric s (i + 2) w (omega arith))
+      ∙ no-both (eqb (byte s i) 0x25) (eqb (byte s (i + 1)) x || eqb (byte s (i + 1)) y))
+    where
+      no-both : (p q : Bool) → p && (q && false) ≡ false
+      no-both true q = and-false q
+      no-both false q = refl
+
+  module _ (t : Bool) (h : eqb (byte s i) 0x25 && (eqb (byte s (i + 1)) x || eqb (byte s (i + 1)) y) ≡ t) where
+    pub word-other : t ≡ false → false ≡ declares x y s i w
+    unfolding declares
+    word-other q = sym (split (eqb (byte s i) 0x25) (eqb (byte s (i + 1)) x || eqb (byte s (i + 1)) y) (h ∙ q))
+      where
+        split : (p r : Bool) → p && r ≡ false → p && (r && allBytes isAlphanumeric s (i + 2) w) ≡ false
+        split true r e = rw e
+        split false r e = refl
+
+    pub word-rest : (r : Bool) → t ≡ true → r ≡ allBytes isAlphanumeric s (i + 2) w → r ≡ declares x y s i w
+    unfolding declares
+    word-rest r q e = e ∙ sym (split (eqb (byte s i) 0x25) (eqb (byte s (i + 1)) x || eqb (byte s (i + 1)) y) (h ∙ q))
+      where
+        split : (p c : Bool) → p && c ≡ true → p && (c && allBytes isAlphanumeric s (i + 2) w) ≡ allBytes isAlphanumeric s (i + 2) w
+        split true c z = rw z
+        split false c z = absurd (false≢true z)
+
+pub ruleset words = (needs, word-short, word-other, word-rest)
+
+-- ---- what stands behind it
+
+module _ (s : List ℕ) (exclusive e a : ℕ) where
+  pub states-none : a ≡ e → Unknown ≡ statesFrom s exclusive e a
+  unfolding statesFrom
+  states-none q = rw (eq-eqb a e q)
+
+  pub states-some : (t : ℕ) → (a ≡ e → ⊥) → Between a e (trimEnd s a e) t → States exclusive a t ≡ statesFrom s exclusive e a
+  unfolding statesFrom
+  states-some t d b = rw (ne-eqb a e d, ← b .is)
+
+pub ruleset stating = (needs, states-none, states-some)
+
+module _ (s : List ℕ) (i e w r : ℕ) (p : Bool) (inclusive : p ≡ declares 0x73 0x53 s i w) where
+  pub by-inclusive : (a : ℕ) (d : Declaration) → p ≡ true → Between r e (trimStart s r e) a → d ≡ statesFrom s 0 e a → d ≡ declarationBy s i e w r
+  unfolding declarationBy
+  by-inclusive a d q b z = rw (← inclusive, q, ← b .is) z
+
+  module _ (no : p ≡ false) (x : Bool) (exclusive : x ≡ declares 0x78 0x58 s i w) where
+    pub by-exclusive : (a : ℕ) (d : Declaration) → x ≡ true → Between r e (trimStart s r e) a → d ≡ statesFrom s 1 e a → d ≡ declarationBy s i e w r
+    unfolding declarationBy
+    by-exclusive a d q b z = rw (← inclusive, no, ← exclusive, q, ← b .is) z
+
+    module _ (no-x : x ≡ false) (f : Found) (z : Bool) (ahead : f ≡ lookaheadIs s expectMissing i) (is : z ≡ found f) where
+      pub by-expecting : z ≡ true → Expecting r ≡ declarationBy s i e w r
+      unfolding declarationBy
+      by-expecting q = rw (← inclusive, no, ← exclusive, no-x, ← ahead, ← is, q)
+
+      pub by-unknown : z ≡ false → Unknown ≡ declarationBy s i e w r
+      unfolding declarationBy
+      by-unknown q = rw (← inclusive, no, ← exclusive, no-x, ← ahead, ← is, q)
+
+pub ruleset deciding = (needs, by-inclusive, by-exclusive, by-expecting, by-unknown)
+
+module _ (s : List ℕ) (i e t w : ℕ) (trimmed : Between i e (trimEnd s i e) t) (word : Between i t (findWhitespace s i t) w) (d : Declaration) where
+  pub only-word : w ≡ t → d ≡ declarationBy s i e w e → d ≡ declarationOf s i e
+  unfolding declarationOf declarationTo
+  only-word q z = rw (← trimmed .is, ← word .is, eq-eqb w t q) z
+
+  pub word-and-more : (w ≡ t → ⊥) → d ≡ declarationBy s i e w w → d ≡ declarationOf s i e
+  unfolding declarationOf declarationTo
+  word-and-more q z = rw (← trimmed .is, ← word .is, ne-eqb w t q) z
+
+pub ruleset lining = (needs, only-word, word-and-more)

@@ -1,0 +1,219 @@
+-- Where what is rewritten ends. Seen from the start of each piece it is the same position, so a backslash before it is that of a whole escape.
+use mathlib.Core.Path.{_≡_, refl, sym, ap, _∙_}
+use mathlib.Core.Bool.{Bool, true, false}
+use mathlib.Core.List.{List}
+use Prim.Native.Nat.{ℕ, zero, suc, _+_, _-_, _≤_, _<_}
+use native.Mathlib.Nat.{le-refl}
+use native.Mathlib.Omega.{arith}
+use borrow.Author.Needs.{needs}
+use borrow.Author.Tests.{le-ltb, lt-ltb, ltb-true, ltb-false, eqb-true, eq-eqb, ne-eqb}
+use lib.Dec.{ltb, eqb}
+use lib.ListN.{length}
+use Rattle.text.specs.Walk.{first, repeat, Between}
+use Rattle.text.specs.Whitespace.{byte}
+use Rattle.text.proofs.Tests.{by-test}
+use Rattle.text.proofs.Walks.{first-from, first-here, first-next, first-to, repeat-stop, repeat-go}
+use Rattle.escape.specs.Escape.{nextBackslash, hasEscape, escapeAt, charEnd, pastEscape, lastWhole, dropLone, rewrittenEnd, pieceEnd}
+use Rattle.escape.proofs.Passed.{isBackslash, char-from, escape-from, past-nearer}
+
+-- ---- the first position that passes: the test passes there, and an end behind it does not matter
+
+module _ (test : ℕ → Bool) where
+  passes : (n i e : ℕ) → e - i ≤ n → first test i e < e → test (first test i e) ≡ true
+  passes zero i e k h = absurd (omega (arith, first-from test i e))
+  passes (suc n) i e k h = go (test i) refl (passes n (i + 1) e)
+    where
+      inside : i < e
+      inside = omega (arith, first-from test i e)
+
+      go : (t : Bool) → test i ≡ t → (e - (i + 1) ≤ n → first test (i + 1) e < e → test (first test (i + 1) e) ≡ true) → test (first test i e) ≡ true
+      go true t later = ap test (sym (first-here test i e inside t)) ∙ t
+      go false t later =
+          let q : first test i e ≡ first test (i + 1) e = first-next test i e inside t in
+          ap test q ∙ later (omega arith) (omega arith)
+
+  shorter : (n i z e : ℕ) → z - i ≤ n → z ≤ e → first test i e < z → first test i z ≡ first test i e
+  shorter zero i z e k l h = absurd (omega (arith, first-from test i e))
+  shorter (suc n) i z e k l h = go (test i) refl (shorter n (i + 1) z e)
+    where
+      inside : i < z
+      inside = omega (arith, first-from test i e)
+
+      go : (t : Bool) → test i ≡ t → (z - (i + 1) ≤ n → z ≤ e → first test (i + 1) e < z → first test (i + 1) z ≡ first test (i + 1) e) → first test i z ≡ first test i e
+      go true t later = sym (first-here test i z inside t) ∙ first-here test i e (omega (arith, inside)) t
+      go false t later =
+          let q : first test i e ≡ first test (i + 1) e = first-next test i e (omega (arith, inside)) t in
+          first-next test i z inside t ∙ later (omega arith) l (omega arith) ∙ sym q
+
+module _ (s : List ℕ) (c : ℕ) where
+  -- the next backslash from the next one on is the same
+  backslash-again : (p : ℕ) → nextBackslash s c p < c → nextBackslash s c (nextBackslash s c p) ≡ nextBackslash s c p
+  backslash-again p h = sym (first-here (isBackslash s) (nextBackslash s c p) c h (passes (isBackslash s) (c - p) p c (omega arith) h))
+
+  -- ---- the last whole escape
+
+  module _ (p : ℕ) where
+    past-is : hasEscape s c p ≡ true → pastEscape s c p ≡ charEnd s c (escapeAt s c p)
+    unfolding pastEscape
+    past-is e = rw e
+
+    past-stays : hasEscape s c p ≡ false → pastEscape s c p ≡ p
+    unfolding pastEscape
+    past-stays e = rw e
+
+    past-from : p ≤ pastEscape s c p
+    unfolding pastEscape
+    past-from =
+        by-test (λ (x : ℕ). p ≤ x) (hasEscape s c p) (charEnd s c (escapeAt s c p)) p
+        (λ e. omega (arith, escape-from s c p))
+        (λ e. le-refl p)
+
+    whole-stays : hasEscape s c p ≡ false → lastWhole s p c ≡ p
+    unfolding lastWhole
+    whole-stays e = sym (repeat-stop (pastEscape s c) (length s) p (past-stays e))
+
+    whole-over : c ≤ length s → hasEscape s c p ≡ true → lastWhole s p c ≡ lastWhole s (charEnd s c (escapeAt s c p)) c
+    unfolding lastWhole
+    whole-over h e =
+        repeat-go (pastEscape s c) (λ k. c - k) (past-nearer s c) (length s) p (omega arith)
+        (λ q. omega (arith, q, past-is e, escape-from s c p))
+        ∙ ap (λ (k : ℕ). repeat (pastEscape s c) (length s) k) (past-is e)
+
+  repeat-from : (n k : ℕ) → k ≤ repeat (pastEscape s c) n k
+  unfolding repeat
+  repeat-from zero k = le-refl k
+  repeat-from (suc n) k =
+      by-test (λ (x : ℕ). k ≤ x) (eqb (pastEscape s c k) k) k (repeat (pastEscape s c) n (pastEscape s c k))
+      (λ e. le-refl k)
+      (λ e. omega (arith, past-from k, repeat-from n (pastEscape s c k)))
+
+  whole-from : (k : ℕ) → k ≤ lastWhole s k c
+  unfolding lastWhole
+  whole-from k = repeat-from (length s) k
+
+  -- ---- a lone backslash behind it
+
+  drop-lone : (w : ℕ) → nextBackslash s c w < c → dropLone s c w ≡ w
+  unfolding dropLone
+  drop-lone w h = rw (lt-ltb (nextBackslash s c w) c h)
+
+  drop-none : (w : ℕ) → c ≤ nextBackslash s c w → dropLone s c w ≡ c
+  unfolding dropLone
+  drop-none w h = rw (le-ltb (nextBackslash s c w) c h)
+
+  drop-behind : (w b : ℕ) → b < w → b < c → b < dropLone s c w
+  unfolding dropLone
+  drop-behind w b h l = by-test (λ (x : ℕ). b < x) (ltb (nextBackslash s c w) c) w c (λ e. h) (λ e. l)
+
+  -- where no escape follows
+  end-stays : (p : ℕ) → hasEscape s c p ≡ false → rewrittenEnd s p c ≡ dropLone s c p
+  unfolding rewrittenEnd
+  end-stays p e = ap (dropLone s c) (whole-stays p e)
+
+  end-at-end : rewrittenEnd s c c ≡ c
+  unfolding hasEscape
+  end-at-end =
+      let b : c ≤ nextBackslash s c c = first-from (isBackslash s) c c in
+      end-stays c (le-ltb (nextBackslash s c c + 1) c (omega arith)) ∙ drop-none c b
+
+-- ---- a piece starts at p
+
+module _ (s : List ℕ) (c z p : ℕ) (inside : c ≤ length s) (end : z ≡ rewrittenEnd s p c) (before : p < z) (within : z ≤ c) where
+  module _ (b : byte s p ≡ 0x5c) where
+    next-here : nextBackslash s c p ≡ p
+    next-here = sym (first-here (isBackslash s) p c (omega arith) (eq-eqb (byte s p) 0x5c b))
+
+    follows : hasEscape s c p ≡ true
+    follows = go (hasEscape s c p) refl
+      where
+        go : (t : Bool) → hasEscape s c p ≡ t → t ≡ true
+        go true e = refl
+        go false e = absurd (omega (arith, end-stays s c p e, drop-lone s c p (omega (arith, next-here))))
+
+    pub escape-whole : p + 1 < c
+    unfolding hasEscape
+    escape-whole = omega (arith, next-here, ltb-true (escapeAt s c p) c follows)
+
+    end-behind : z ≡ rewrittenEnd s (charEnd s c (p + 1)) c
+    unfolding rewrittenEnd
+    end-behind =
+        end
+        ∙ ap (dropLone s c) (whole-over s c p inside follows)
+        ∙ ap (λ (k : ℕ). dropLone s c (lastWhole s (charEnd s c (k + 1)) c)) next-here
+
+  -- a whole escape follows: the next backslash is its own, and from there the same escapes follow
+  module _ (e : hasEscape s c p ≡ true) where
+    follows-inside : nextBackslash s c p + 1 < c
+    unfolding hasEscape
+    follows-inside = ltb-true (escapeAt s c p) c e
+
+    next-again : nextBackslash s c (nextBackslash s c p) ≡ nextBackslash s c p
+    next-again = backslash-again s c p (omega (arith, follows-inside))
+
+    follows-again : hasEscape s c (nextBackslash s c p) ≡ true
+    unfolding hasEscape
+    follows-again = rw next-again e
+
+    whole-again : lastWhole s (nextBackslash s c p) c ≡ lastWhole s p c
+    whole-again =
+        whole-over s c (nextBackslash s c p) inside follows-again
+        ∙ ap (λ (k : ℕ). lastWhole s (charEnd s c (k + 1)) c) next-again
+        ∙ sym (whole-over s c p inside e)
+
+    next-before : nextBackslash s c p < rewrittenEnd s p c
+    unfolding rewrittenEnd
+    next-before =
+        let w : charEnd s c (escapeAt s c p) ≤ lastWhole s p c = rw (whole-over s c p inside e) (whole-from s c (charEnd s c (escapeAt s c p))) in
+        drop-behind s c (lastWhole s p c) (nextBackslash s c p) (omega (arith, char-from s c (escapeAt s c p))) (omega (arith, follows-inside))
+
+    end-escape : z ≡ rewrittenEnd s (nextBackslash s z p) c
+    unfolding rewrittenEnd
+    end-escape =
+        end
+        ∙ ap (dropLone s c) (sym whole-again)
+        ∙ ap (λ (k : ℕ). dropLone s c (lastWhole s k c)) (sym (shorter (isBackslash s) (z - p) p z c (omega arith) within (omega (arith, next-before))))
+
+  -- none follows: then there is no backslash at all, or p would be the end
+  end-none : hasEscape s c p ≡ false → z ≡ rewrittenEnd s (nextBackslash s z p) c
+  end-none e = go (ltb (nextBackslash s c p) c) refl
+    where
+      go : (t : Bool) → ltb (nextBackslash s c p) c ≡ t → z ≡ rewrittenEnd s (nextBackslash s z p) c
+      go true t = absurd (omega (arith, end-stays s c p e, drop-lone s c p (ltb-true (nextBackslash s c p) c t)))
+      go false t =
+          let h : c ≤ nextBackslash s c p = ltb-false (nextBackslash s c p) c t in
+          let q : z ≡ c = end ∙ end-stays s c p e ∙ drop-none s c p h in
+          let r : nextBackslash s c p ≡ c = omega (arith, first-to (isBackslash s) p c (omega arith)) in
+          q ∙ sym (ap (λ (k : ℕ). rewrittenEnd s (nextBackslash s k p) c) q ∙ ap (λ (k : ℕ). rewrittenEnd s k c) r ∙ end-at-end s c)
+
+  end-text : z ≡ rewrittenEnd s (nextBackslash s z p) c
+  end-text = go (hasEscape s c p) refl
+    where
+      go : (t : Bool) → hasEscape s c p ≡ t → z ≡ rewrittenEnd s (nextBackslash s z p) c
+      go true e = end-escape e
+      go false e = end-none e
+
+  pub end-next : (e : ℕ) → Between (p + 1) c (pieceEnd s c z p) e → z ≡ rewrittenEnd s e c
+  unfolding pieceEnd
+  end-next e f =
+      rw (f .is)
+      (by-test (λ (x : ℕ). z ≡ rewrittenEnd s x c) (eqb (byte s p) 0x5c) (charEnd s c (p + 1)) (nextBackslash s z p)
+      (λ t. end-behind (eqb-true (byte s p) 0x5c t))
+      (λ t. end-text))
+
+  -- ---- where the piece ends
+
+  pub piece-escape : (e : ℕ) → byte s p ≡ 0x5c → Between (p + 1 + 1) c (charEnd s c (p + 1)) e → Between (p + 1) c (pieceEnd s c z p) e
+  unfolding pieceEnd
+  piece-escape e b f = record { is = rw (eq-eqb (byte s p) 0x5c b) (f .is); from = omega (arith, f .from); to = f .to }
+
+  pub piece-text : (e : ℕ) → (byte s p ≡ 0x5c → ⊥) → Between p z (nextBackslash s z p) e → Between (p + 1) c (pieceEnd s c z p) e
+  unfolding pieceEnd
+  piece-text e d f =
+      let t : eqb (byte s p) 0x5c ≡ false = ne-eqb (byte s p) 0x5c d in
+      record {
+        is = rw t (f .is);
+        from = omega (arith, f .is, first-next (isBackslash s) p z before t, first-from (isBackslash s) (p + 1) z);
+        to = omega (arith, f .to);
+      }
+
+pub ruleset cutting = (needs, escape-whole, piece-escape, piece-text)

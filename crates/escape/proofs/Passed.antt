@@ -1,0 +1,124 @@
+-- Escapes passed one after the other. Each step that goes on comes nearer to the pattern's end, so that there are no more steps than bytes,
+-- and the walk from where a loop stands comes to where the walk from its start does.
+use mathlib.Core.Path.{_≡_, refl, sym, _∙_}
+use mathlib.Core.Bool.{Bool, true, false, cond, not}
+use mathlib.Core.List.{List}
+use Prim.Native.Nat.{ℕ, _+_, _-_, _≤_, _<_}
+use native.Mathlib.Omega.{arith}
+use borrow.Author.Needs.{needs}
+use borrow.Author.Tests.{lt-ltb, le-ltb, ltb-true}
+use lib.Dec.{ltb, eqb}
+use lib.ListN.{length}
+use Rattle.text.specs.Walk.{Between}
+use Rattle.text.specs.Whitespace.{byte}
+use Rattle.text.specs.Utf8.{isContinuation}
+use Rattle.text.proofs.Tests.{answer, by-test}
+use Rattle.text.proofs.Walks.{first-from, repeat-stop, repeat-go}
+use Rattle.escape.specs.Escape.{nextBackslash, hasEscape, escapeAt, charEnd, isKept, pastEscape, pastKept, pastAllKept, isRewritten, lastWhole, dropLone, rewrittenEnd}
+
+-- ---- one escape passed: q is the next backslash, r behind the escape
+
+module _ (s : List ℕ) (c p q r : ℕ) (f : Between p c (nextBackslash s c p) q) where
+  pub escape-none : c ≤ q + 1 → p ≤ c → Between p c (pastEscape s c p) p
+  unfolding pastEscape hasEscape
+  escape-none h l = record { is = rw (← f .is, le-ltb (q + 1) c h); from = omega arith; to = l }
+
+  pub escape-passed : Between (q + 1 + 1) c (charEnd s c (q + 1)) r → q + 1 < c → Between p c (pastEscape s c p) r
+  unfolding pastEscape hasEscape
+  escape-passed d h = record { is = rw (← f .is, lt-ltb (q + 1) c h) (d .is); from = omega (arith, f .from, d .from); to = d .to }
+
+  pub kept-none : c ≤ q + 1 → p ≤ c → Between p c (pastKept s c p) p
+  unfolding pastKept hasEscape
+  kept-none h l = record { is = rw (← f .is, le-ltb (q + 1) c h); from = omega arith; to = l }
+
+  pub kept-stopped : isKept s c (q + 1) ≡ false → q + 1 < c → p ≤ c → Between p c (pastKept s c p) p
+  unfolding pastKept hasEscape
+  kept-stopped k h l = record { is = rw (← f .is, lt-ltb (q + 1) c h, k); from = omega arith; to = l }
+
+  pub kept-passed : isKept s c (q + 1) ≡ true → Between (q + 1 + 1) c (charEnd s c (q + 1)) r → q + 1 < c → Between p c (pastKept s c p) r
+  unfolding pastKept hasEscape
+  kept-passed k d h = record { is = rw (← f .is, lt-ltb (q + 1) c h, k) (d .is); from = omega (arith, f .from, d .from); to = d .to }
+
+pub ruleset passing = (needs, answer, escape-none, escape-passed, kept-none, kept-stopped, kept-passed)
+
+-- ---- a step comes nearer to the end
+
+abbrev pub isBackslash : List ℕ → ℕ → Bool
+isBackslash s k = eqb (byte s k) 0x5c
+
+pub char-from : (s : List ℕ) (c q : ℕ) → q + 1 ≤ charEnd s c q
+char-from s c q = first-from (λ k. not (isContinuation (byte s k))) (q + 1) c
+
+module _ (s : List ℕ) (c k : ℕ) where
+  pub escape-from : k + 2 ≤ charEnd s c (escapeAt s c k)
+  escape-from = omega (arith, first-from (isBackslash s) k c, char-from s c (escapeAt s c k))
+
+  escape-inside : hasEscape s c k ≡ true → k < c
+  unfolding hasEscape
+  escape-inside e = omega (arith, ltb-true (escapeAt s c k) c e, first-from (isBackslash s) k c)
+
+  escape-nearer : hasEscape s c k ≡ true → c - charEnd s c (escapeAt s c k) < c - k
+  escape-nearer e = omega (arith, escape-inside e, escape-from)
+
+  pub past-nearer : (pastEscape s c k ≡ k → ⊥) → c - pastEscape s c k < c - k
+  unfolding pastEscape
+  past-nearer =
+      by-test (λ (x : ℕ). (x ≡ k → ⊥) → c - x < c - k) (hasEscape s c k) (charEnd s c (escapeAt s c k)) k
+      (λ e d. escape-nearer e)
+      (λ e d. absurd (d refl))
+
+  pub kept-nearer : (pastKept s c k ≡ k → ⊥) → c - pastKept s c k < c - k
+  unfolding pastKept
+  kept-nearer =
+      by-test (λ (x : ℕ). (x ≡ k → ⊥) → c - x < c - k) (hasEscape s c k) (cond (isKept s c (escapeAt s c k)) (charEnd s c (escapeAt s c k)) k) k
+      (λ e.
+      by-test (λ (x : ℕ). (x ≡ k → ⊥) → c - x < c - k) (isKept s c (escapeAt s c k)) (charEnd s c (escapeAt s c k)) k
+      (λ _ d. escape-nearer e)
+      (λ _ d. absurd (d refl)))
+      (λ e d. absurd (d refl))
+
+-- ---- a loop over escapes, which began at i and stands at p; e is behind the next one
+
+module _ (s : List ℕ) (i c p e : ℕ) where
+  module _ (before : lastWhole s i c ≡ lastWhole s p c) (f : Between p c (pastEscape s c p) e) where
+    pub whole-ended : e ≡ p → i ≤ p → p ≤ c → Between i c (lastWhole s i c) p
+    unfolding lastWhole
+    whole-ended q h l = record { is = repeat-stop (pastEscape s c) (length s) p (sym (f .is) ∙ q) ∙ sym before; from = h; to = l }
+
+    pub whole-again : (e ≡ p → ⊥) → c ≤ length s → lastWhole s i c ≡ lastWhole s e c
+    unfolding lastWhole
+    whole-again d h =
+        rw (f .is) (before ∙ repeat-go (pastEscape s c) (λ k. c - k) (past-nearer s c) (length s) p (omega arith) (λ z. d (f .is ∙ z)))
+
+  module _ (before : pastAllKept s i c ≡ pastAllKept s p c) (f : Between p c (pastKept s c p) e) where
+    pub all-ended : e ≡ p → i ≤ p → p ≤ c → Between i c (pastAllKept s i c) p
+    unfolding pastAllKept
+    all-ended q h l = record { is = repeat-stop (pastKept s c) (length s) p (sym (f .is) ∙ q) ∙ sym before; from = h; to = l }
+
+    pub all-again : (e ≡ p → ⊥) → c ≤ length s → pastAllKept s i c ≡ pastAllKept s e c
+    unfolding pastAllKept
+    all-again d h =
+        rw (f .is) (before ∙ repeat-go (pastKept s c) (λ k. c - k) (kept-nearer s c) (length s) p (omega arith) (λ z. d (f .is ∙ z)))
+
+pub ruleset wholes = (needs, whole-ended, whole-again)
+
+pub ruleset alls = (needs, all-ended, all-again)
+
+-- ---- what follows them
+
+pub rewritten-test : (s : List ℕ) (i c p q : ℕ) → Between i c (pastAllKept s i c) p → Between p c (nextBackslash s c p) q → ltb (q + 1) c ≡ isRewritten s i c
+unfolding isRewritten hasEscape
+rewritten-test s i c p q f g = rw (← f .is, ← g .is)
+
+pub ruleset asking = (needs, rewritten-test)
+
+module _ (s : List ℕ) (i c w q : ℕ) (f : Between i c (lastWhole s i c) w) (g : Between w c (nextBackslash s c w) q) where
+  pub end-lone : q < c → Between i c (rewrittenEnd s i c) w
+  unfolding rewrittenEnd dropLone
+  end-lone h = record { is = rw (← f .is, ← g .is, lt-ltb q c h); from = f .from; to = f .to }
+
+  pub end-whole : c ≤ q → i ≤ c → Between i c (rewrittenEnd s i c) c
+  unfolding rewrittenEnd dropLone
+  end-whole h l = record { is = rw (← f .is, ← g .is, le-ltb q c h); from = l; to = omega arith }
+
+pub ruleset endings = (needs, end-lone, end-whole)

@@ -1,0 +1,13 @@
+-- `escape::is_rewritten` meets its contract: an escape follows behind those that stay.
+use Rattle.escape.proofs.Passed.{asking}
+use Rattle.escape.proofs.is_rewritten.Statement.{statement}
+use Rattle.escape.proofs.is_rewritten.Tie as tie
+
+pub is-rewritten-spec : {M : Type 1} → statement M
+is-rewritten-spec =
+    tie.close
+    (tie.spec
+    (λ c κs. search asking)
+    (λ c κs. search asking)
+    (λ c. search asking)
+    (λ c. search asking))

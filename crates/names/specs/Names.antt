@@ -1,0 +1,45 @@
+-- Names of states and of rules: their form, and the record whose name stands in the source from a to e (01, Declarations and Rules).
+use Prim.Native.Nat.{ℕ, _+_}
+use mathlib.Core.Bool.{Bool, true, false, cond, not, _&&_, _||_}
+use mathlib.Core.List.{List, [], _∷_}
+use lib.Dec.{eqb, ltb}
+use lib.ListN.{length}
+use Rattle.text.specs.Class.{among, isLetter, isDigit}
+use Rattle.text.specs.Walk.{first}
+use Rattle.text.specs.Whitespace.{byte}
+use Rattle.text.specs.Range.{sameRange}
+use Rattle.area.specs.declared.State.{State}
+use Rattle.area.specs.declared.Rule.{Rule}
+use Rattle.area.specs.Records.{nthState, nthRule}
+
+-- the bytes from a to before e all pass the test
+unfoldable pub allBytes : (ℕ → Bool) → List ℕ → ℕ → ℕ → Bool
+allBytes test s a e = eqb (first (λ k. not (test (byte s k))) a e) e
+
+-- a letter, a digit, `_` or `.` (01, Declarations)
+unfoldable pub isNameByte : ℕ → Bool
+isNameByte b = isLetter b || (isDigit b || among (0x5f ∷ 0x2e ∷ []) b)
+
+-- a letter, and then bytes of names (01, Declarations)
+unfoldable pub isStateName : List ℕ → ℕ → ℕ → Bool
+isStateName s a e = ltb a e && (isLetter (byte s a) && allBytes isNameByte s (a + 1) e)
+
+-- INITIAL
+abbrev pub initial : List ℕ
+initial = 0x49 ∷ 0x4e ∷ 0x49 ∷ 0x54 ∷ 0x49 ∷ 0x41 ∷ 0x4c ∷ []
+
+-- the state j has the name from a to e: state 0 is INITIAL, the others' names stand at their spans (01, Areas, 1)
+unfoldable pub isState : List ℕ → ℕ → ℕ → List State → ℕ → Bool
+isState s a e xs j = cond (eqb j 0) (sameRange s a e initial 0 7) (sameRange s a e s (nthState xs j .start) (nthState xs j .end))
+
+-- the state of that name; the number of states where there is none
+unfoldable pub findState : List ℕ → ℕ → ℕ → List State → ℕ
+findState s a e xs = first (isState s a e xs) 0 (length xs)
+
+-- the rule x has the name from a to e
+unfoldable pub hasName : List ℕ → ℕ → ℕ → Rule → Bool
+hasName s a e x = eqb (x .named) 1 && sameRange s a e s (x .«name_from») (x .«name_from» + x .«name_length»)
+
+-- the rule of that name; the number of rules where there is none
+unfoldable pub findRule : List ℕ → ℕ → ℕ → List Rule → ℕ
+findRule s a e xs = first (λ j. hasName s a e (nthRule xs j)) 0 (length xs)
