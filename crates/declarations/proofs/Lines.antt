@@ -1,13 +1,12 @@
 -- A declaration, and the loop over the declarations: a law for each way through. What a part of the areas comes to is the outcome for all of
 -- them, the others unchanged; and a line that is read has a byte, so the loop goes forward.
 use mathlib.Core.Path.{_≡_, refl, sym, ap, subst, _∙_}
-use mathlib.Core.Bool.{Bool, true, false, cond, not, _&&_, false≢true}
+use mathlib.Core.Bool.{Bool, true, false, cond, not, _&&_}
 use mathlib.Core.List.{List}
 use Prim.Native.Nat.{ℕ, _+_, _-_, _≤_, _<_}
 use native.Mathlib.Nat.{le-refl}
 use native.Mathlib.Omega.{arith}
 use borrow.Author.Needs.{needs}
-use borrow.Author.Tests.{eqb-false}
 use lib.Dec.{eqb}
 use lib.ListN.{length}
 use Rattle.text.specs.Walk.{Between, skip}
@@ -27,7 +26,7 @@ use Rattle.fault.specs.Step.{Out, go, bad, full, next, onto, loop, Does, progre
 use Rattle.fault.specs.Faults.{UnknownDeclaration, PrematureEnd}
 use Rattle.fault.proofs.Steps.{Loops, loops-stop, loops-next, loops-bad, loops-full, going-start, does-go, does-bad, does-full, was-go, was-bad, was-full, bad-goes, full-goes, then-go, then-bad, then-full}
 use Rattle.section.specs.Section.{found, percents, toDeclaration, inSection}
-use Rattle.section.proofs.Lines.{ahead-within, declaration-starts, line-has-byte}
+use Rattle.section.proofs.Lines.{ahead-within, in-section-inside, declaration-starts, line-has-byte}
 use Rattle.declarations.specs.declared.Declaration.{Declaration}
 use Rattle.declarations.specs.declared.Declaration.the-variants.{States, Expecting, Unknown}
 use Rattle.declarations.specs.declared.NameCounts.{NameCounts}
@@ -158,14 +157,6 @@ declared-at s k i e d {j} {t} z = by (declarationOf s i e) z
     by (States x a b) y = at-end (onto (withNames d) (stateNames s (k .c1) (k .c6) x b a (names (d .states) (d .faults)))) y
     by (Expecting w) y = at-end (onto (withExpected d) (expectedNames s (k .c5) i e w (d .expected))) y
     by Unknown y = absurd (bad-goes y)
-
-in-section-inside : (s : List ℕ) (i : ℕ) (t : Bool) → t ≡ inSection s i → t ≡ true → i ≤ length s → i < length s
-unfolding inSection
-in-section-inside s i t e q l = by (eqb i (length s)) refl
-  where
-    by : (b : Bool) → eqb i (length s) ≡ b → i < length s
-    by true z = absurd (false≢true (rw z at (sym e ∙ q)))
-    by false z = omega (arith, eqb-false i (length s) z)
 
 abbrev sizes : List ℕ → List ℕ → List ℕ → Caps
 sizes l1 l5 l6 = capsOf (length l1) (length l5) (length l6)

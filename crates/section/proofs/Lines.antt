@@ -1,14 +1,14 @@
 -- Lines that are skipped. Each way to skip goes forward, and not past the end of the text; so repeating it comes to rest, and the loop that
 -- repeats it comes to rest at the same place from wherever it stands.
 use mathlib.Core.Path.{_≡_, refl, sym, ap, _∙_}
-use mathlib.Core.Bool.{Bool, true, false, cond, not, _&&_}
+use mathlib.Core.Bool.{Bool, true, false, cond, not, _&&_, false≢true}
 use mathlib.Core.List.{List}
 use mathlib.Core.Logic.{⊎-elim}
 use Prim.Native.Nat.{ℕ, _+_, _-_, _%_, _≤_, _<_, max}
 use native.Mathlib.Nat.{eq-zero-or-pos}
 use native.Mathlib.Omega.{arith}
 use borrow.Author.Needs.{needs}
-use borrow.Author.Tests.{eq-eqb, ne-eqb}
+use borrow.Author.Tests.{eq-eqb, ne-eqb, eqb-false}
 use lib.Dec.{eqb}
 use lib.ListN.{length, length-take, length-drop}
 use Rattle.text.specs.Walk.{first, repeat, skip, Between}
@@ -201,3 +201,12 @@ pub line-has-byte : (s : List ℕ) (i : ℕ) → i < length s → lineEndLen s i
 line-has-byte s i h z =
     let on : lineEnd s i ≡ lineEnd s (i + 1) = first-next (atLineEnd s) i (length s) h (rw z) in
     omega (arith, first-from (atLineEnd s) (i + 1) (length s))
+
+-- a section that goes on at i has a byte there
+pub in-section-inside : (s : List ℕ) (i : ℕ) (t : Bool) → t ≡ inSection s i → t ≡ true → i ≤ length s → i < length s
+unfolding inSection
+in-section-inside s i t e q l = by (eqb i (length s)) refl
+  where
+    by : (b : Bool) → eqb i (length s) ≡ b → i < length s
+    by true z = absurd (false≢true (rw z at (sym e ∙ q)))
+    by false z = omega (arith, eqb-false i (length s) z)

@@ -1,0 +1,150 @@
+-- The pattern of a rule and its record: a law for each way through. The record's step on the rules is the outcome for rules, list entries and
+-- text together, with the counts that the list or the rewriting left.
+use mathlib.Core.Path.{_≡_, refl, sym, ap, subst, _∙_}
+use mathlib.Core.List.{List}
+use Prim.Native.Nat.{ℕ, _+_, _-_, _≤_, _<_}
+use native.Mathlib.Omega.{arith}
+use borrow.Author.Needs.{needs}
+use mir.Syntax.{w16, w64}
+use mir.Val.{Fits}
+use lib.ListN.{length}
+use Rattle.area.specs.declared.State.{State}
+use Rattle.area.specs.declared.Rule.{Rule}
+use Rattle.area.specs.declared.Appended.{Appended}
+use Rattle.area.specs.declared.Appended.the-variants as Appended
+use Rattle.area.specs.Contents.{append, contents, ruleFormat, entryFormat, textFormat, Grows, Held, leftBy}
+use Rattle.area.proofs.Contents.{contents-length, rule-sound, entry-sound, text-sound}
+use Rattle.fault.specs.declared.Progress.{Progress}
+use Rattle.fault.specs.declared.Progress.the-variants as Progress
+use Rattle.fault.specs.Step.{Out, go, bad, full, onto, Does, progress}
+use Rattle.fault.specs.Faults.{InvalidStartState}
+use Rattle.fault.proofs.Steps.{does-bad, does-full, does-onto, was-go, was-bad, was-full}
+use Rattle.escape.specs.Escape.{unescaped}
+use Rattle.rules.specs.declared.Head.{Head}
+use Rattle.rules.specs.declared.Body.{Body}
+use Rattle.rules.specs.declared.Body.the-variants.{Unclosed, Listed, Rewritten, Plain}
+use Rattle.rules.specs.Heading.{bodyOf}
+use Rattle.rules.proofs.Patterns.{listed-from, listed-to}
+use Rattle.rules.specs.Rules.{Sheet, sheet, Caps, entries, ruleOf, recordRule, sourceRule, listedRule, rewrittenRule, ruleBody, pattern}
+use Rattle.parse.specs.declared.SheetCounts.{SheetCounts}
+use Rattle.parse.specs.declared.SheetProgress.{SheetProgress}
+use Rattle.parse.specs.declared.SheetProgress.the-variants.{Go, Bad, Full}
+use Rattle.parse.specs.Answers.{sheetProgress, sheetIn, HeldSheet, sheetCounts, sizesOf}
+
+-- ---- a progress with further counts
+
+module _ (p : Progress) (e t : ℕ) where
+  abbrev counted : Out SheetCounts
+  counted = onto (λ n. sheetCounts n e t) (progress p)
+
+  pub counted-go : (i n : ℕ) → p ≡ Progress.Go i n → go i (sheetCounts n e t) ≡ counted
+  counted-go i n q = ap (λ (x : Progress). onto (λ n. sheetCounts n e t) (progress x)) (sym q)
+
+  pub counted-bad : (kind at n : ℕ) → p ≡ Progress.Bad kind at n → bad kind at (sheetCounts n e t) ≡ counted
+  counted-bad kind at n q = ap (λ (x : Progress). onto (λ n. sheetCounts n e t) (progress x)) (sym q)
+
+  pub counted-full : (n : ℕ) → p ≡ Progress.Full n → full n ≡ counted
+  counted-full n q = ap (λ (x : Progress). onto (λ n. sheetCounts n e t) (progress x)) (sym q)
+
+pub ruleset counting = (needs, counted-go, counted-bad, counted-full)
+
+-- ---- a list of states is closed within the pattern
+
+module _ (s : List ℕ) (i c : ℕ) (b : Body) (is : b ≡ bodyOf s i c) (g : ℕ) (q : b ≡ Listed g) where
+  pub list-to : c ≤ length s → g < length s
+  list-to h = omega (arith, listed-to s i c b is g q)
+
+  pub list-closed : g + 1 ≤ c
+  list-closed = omega (arith, listed-to s i c b is g q)
+
+  pub list-place : c ≤ length s → length s ≤ 65535 → Fits w64 (g + 1)
+  list-place h k = record { fits = omega (arith, listed-to s i c b is g q) }
+
+  pub list-field : c ≤ length s → length s ≤ 65535 → Fits w16 (g + 1)
+  list-field h k = record { fits = omega (arith, listed-to s i c b is g q) }
+
+-- ---- the ways through a pattern
+
+pub rules-held : {l2 l3 l4 : List ℕ} {q : SheetCounts} → HeldSheet l2 l3 l4 q → Held ruleFormat l2 (q .rules)
+rules-held h = h .rules
+
+module _ (s : List ℕ) (flags : ℕ) (verdicts : List ℕ) (xs : List State) (i e : ℕ) (h : Head) (c : ℕ) (l2 l3 l4 : List ℕ) (q : SheetCounts) (held : HeldSheet l2 l3 l4 q)
+    (b : Body) (is : b ≡ bodyOf s i c) where
+  abbrev caps : Caps
+  caps = sizesOf (length l2) (length l3) (length l4)
+
+  abbrev before : Sheet
+  before = sheetIn l2 l3 l4 q
+
+  abbrev Done : List ℕ → List ℕ → List ℕ → Out SheetCounts → Type 0
+  Done v2 v3 v4 o = Does (HeldSheet v2 v3 v4) (pattern s flags verdicts xs caps i e h c) before (sheetIn v2 v3 v4) o
+
+  step : (y : Body) → b ≡ y → pattern s flags verdicts xs caps i e h c before ≡ ruleBody s flags verdicts xs caps i e h c y before
+  unfolding pattern
+  step y z = ap (λ (x : Body). ruleBody s flags verdicts xs caps i e h c x before) (sym is ∙ z)
+
+  rule-count : length (contents ruleFormat l2 (q .rules)) ≡ q .rules
+  rule-count = contents-length rule-sound (held .rules)
+
+  entry-count : length (contents entryFormat l3 (q .entries)) ≡ q .entries
+  entry-count = contents-length entry-sound (held .entries)
+
+  text-count : length (contents textFormat l4 (q .text)) ≡ q .text
+  text-count = contents-length text-sound (held .text)
+
+  pub pattern-unclosed : b ≡ Unclosed → Done l2 l3 l4 (bad InvalidStartState i q)
+  unfolding ruleBody
+  pattern-unclosed z = does-bad (step Unclosed z) held
+
+  -- the record was made, of the rule x
+  module _ (x : Rule) (p : Progress) {v2 : List ℕ}
+      (d : Does (Held ruleFormat v2) (recordRule verdicts (length l2) i e x) (contents ruleFormat l2 (q .rules)) (contents ruleFormat v2) (progress p)) (r : SheetProgress) where
+    recorded : (l3′ l4′ : List ℕ) (m t : ℕ) → Held entryFormat l3′ m → Held textFormat l4′ t → sheetProgress r ≡ onto (λ n. sheetCounts n m t) (progress p)
+        → pattern s flags verdicts xs caps i e h c before ≡ onto (λ rs. sheet rs (contents entryFormat l3′ m) (contents textFormat l4′ t)) (recordRule verdicts (length l2) i e x (contents ruleFormat l2 (q .rules)))
+        → Done v2 l3′ l4′ (sheetProgress r)
+    recorded l3′ l4′ m t he ht z y =
+        subst (Done v2 l3′ l4′) (sym z)
+        (does-onto (λ rs. sheet rs (contents entryFormat l3′ m) (contents textFormat l4′ t)) (λ n. sheetCounts n m t) (sheetIn v2 l3′ l4′) y (λ n. refl)
+        (λ n g. record { rules = g; entries = he; text = ht }) (progress p) d)
+
+    pub pattern-plain : b ≡ Plain → x ≡ ruleOf h (q .rules) 0 i (c - i) (q .entries) 0 → sheetProgress r ≡ onto (λ n. sheetCounts n (q .entries) (q .text)) (progress p) → Done v2 l3 l4 (sheetProgress r)
+    unfolding ruleBody sourceRule
+    pattern-plain z y w =
+        let none-more : length (contents entryFormat l3 (q .entries)) - length (contents entryFormat l3 (q .entries)) ≡ 0 = omega arith in
+        recorded l3 l4 (q .entries) (q .text) (held .entries) (held .text) w (step Plain z ∙ rw (none-more, rule-count, entry-count, ← y))
+
+    module _ (g : ℕ) (z : b ≡ Listed g) {v3 : List ℕ} (o : Progress)
+        (n : Does (Held entryFormat v3) (entries s (length l3) xs i g) (contents entryFormat l3 (q .entries)) (contents entryFormat v3) (progress o)) (j m : ℕ) (went : o ≡ Progress.Go j m) where
+      pub pattern-listed : (k : ℕ) → x ≡ ruleOf h (q .rules) 0 (g + 1) (c - (g + 1)) (q .entries) k → k ≡ m - q .entries → sheetProgress r ≡ onto (λ n. sheetCounts n m (q .text)) (progress p) → Done v2 v3 l4 (sheetProgress r)
+      unfolding ruleBody listedRule sourceRule
+      pattern-listed k y u w =
+          let more : length (contents entryFormat v3 m) ≡ m = contents-length entry-sound (n .goes j m (ap progress went)) in
+          recorded v3 l4 m (q .text) (n .goes j m (ap progress went)) (held .text) w
+          (step (Listed g) z ∙ ap (listedRule verdicts caps i e h (g + 1) (c - (g + 1)) before) (was-go n (ap progress went)) ∙ rw (more, rule-count, entry-count, ← u, ← y))
+
+    module _ (z : b ≡ Rewritten) (o : Appended) {v4 : List ℕ} (n : Grows textFormat (append textFormat (length l4) (unescaped s flags i c)) l4 (q .text) o v4) (m : ℕ) (went : o ≡ Appended.Next m) where
+      pub pattern-rewritten : (k : ℕ) → x ≡ ruleOf h (q .rules) 1 (q .text) k (q .entries) 0 → k ≡ m - q .text → sheetProgress r ≡ onto (λ n. sheetCounts n (q .entries) m) (progress p) → Done v2 l3 v4 (sheetProgress r)
+      unfolding ruleBody rewrittenRule
+      pattern-rewritten k y u w =
+          let more : length (contents textFormat v4 m) ≡ m = contents-length text-sound (n .held m went) in
+          recorded l3 v4 (q .entries) m (held .entries) (n .held m went) w
+          (step Rewritten z ∙ ap (rewrittenRule verdicts caps i e h before) (n .says ∙ ap (leftBy textFormat v4) went) ∙ rw (more, rule-count, entry-count, text-count, ← u, ← y))
+
+  module _ (g : ℕ) (z : b ≡ Listed g) {v3 : List ℕ} (o : Progress)
+      (n : Does (Held entryFormat v3) (entries s (length l3) xs i g) (contents entryFormat l3 (q .entries)) (contents entryFormat v3) (progress o)) where
+    pub pattern-list-bad : (kind at m : ℕ) → o ≡ Progress.Bad kind at m → Done l2 v3 l4 (bad kind at (sheetCounts (q .rules) m (q .text)))
+    unfolding ruleBody listedRule
+    pattern-list-bad kind at m y =
+        does-bad (step (Listed g) z ∙ ap (listedRule verdicts caps i e h (g + 1) (c - (g + 1)) before) (was-bad n (ap progress y)))
+        (record { rules = held .rules; entries = n .ends kind at m (ap progress y); text = held .text })
+
+    pub pattern-list-full : (k : ℕ) → o ≡ Progress.Full k → Done l2 v3 l4 (full k)
+    unfolding ruleBody listedRule
+    pattern-list-full k y = does-full (step (Listed g) z ∙ ap (listedRule verdicts caps i e h (g + 1) (c - (g + 1)) before) (was-full n (ap progress y)))
+
+  module _ (z : b ≡ Rewritten) (o : Appended) {v4 : List ℕ} (n : Grows textFormat (append textFormat (length l4) (unescaped s flags i c)) l4 (q .text) o v4) where
+    pub pattern-text-full : o ≡ Appended.Full → Done l2 l3 v4 (full 4)
+    unfolding ruleBody rewrittenRule
+    pattern-text-full y = does-full (step Rewritten z ∙ ap (rewrittenRule verdicts caps i e h before) (n .says ∙ ap (leftBy textFormat v4) y))
+
+pub ruleset patterning = (needs, rules-held, listed-from, list-to, list-closed, list-place, list-field, pattern-unclosed, pattern-plain, pattern-listed, pattern-rewritten, pattern-list-bad, pattern-list-full, pattern-text-full)

@@ -1,0 +1,172 @@
+-- The meaning of a file, and of the parse call (01, Numbers given at the counter, and Areas).
+use Prim.Native.Nat.{ℕ, _+_, _*_}
+use mathlib.Core.Bool.{Bool, true, false, cond}
+use mathlib.Core.List.{List, [], _∷_}
+use mathlib.Core.Option.{Option, none, some}
+use lib.Dec.{eqb, ltb}
+use lib.ListN.{length}
+use Rattle.text.specs.Utf8.{utf8}
+use Rattle.area.specs.declared.State.{State}
+use Rattle.area.specs.declared.Rule.{Rule}
+use Rattle.area.specs.declared.Expected.{Expected}
+use Rattle.area.specs.declared.Fault.{Fault}
+use Rattle.area.specs.Bytes.{bytes, pad, zeros}
+use Rattle.area.specs.Contents.{Format, append, stateFormat, ruleFormat, entryFormat, textFormat, expectedFormat, faultFormat}
+use Rattle.fault.specs.Step.{Out, go, bad, full}
+use Rattle.fault.specs.Faults.{addFault}
+use Rattle.declarations.specs.Declarations.{Declared, declarations, state}
+use Rattle.rules.specs.Rules.{Ruled, rulesSection}
+use Rattle.declarations.specs.Declarations as D
+use Rattle.rules.specs.Rules as R
+use Rattle.parse.specs.declared.Answer.{Answer}
+use Rattle.parse.specs.declared.Answer.the-variants.{Accepted, LongFile, StrayFlag, NotText, AreaFull, FaultyFile}
+
+-- what stands in the six areas
+pub record Contents : Type 0 where
+  pub states : List State
+  pub rules : List Rule
+  pub lists : List ℕ
+  pub text : List ℕ
+  pub expected : List Expected
+  pub faults : List Fault
+
+-- how many bytes each area has
+pub record Caps : Type 0 where
+  pub c1 : ℕ
+  pub c2 : ℕ
+  pub c3 : ℕ
+  pub c4 : ℕ
+  pub c5 : ℕ
+  pub c6 : ℕ
+
+abbrev pub caps : ℕ → ℕ → ℕ → ℕ → ℕ → ℕ → Caps
+caps x1 x2 x3 x4 x5 x6 = record { c1 = x1; c2 = x2; c3 = x3; c4 = x4; c5 = x5; c6 = x6 }
+
+abbrev pub declarationCaps : Caps → D.Caps
+declarationCaps k = record { c1 = k .c1; c5 = k .c5; c6 = k .c6 }
+
+abbrev pub ruleCaps : Caps → R.Caps
+ruleCaps k = record { c2 = k .c2; c3 = k .c3; c4 = k .c4 }
+
+-- what becomes of a file: refused by the number 1, 2 or 3; the area of a number was full (4); these faults (5); or accepted
+pub data Outcome : Type 0 where
+  long : Outcome
+  stray : Outcome
+  untext : Outcome
+  short : ℕ → Outcome
+  faulty : List Fault → Outcome
+  accepted : Contents → Outcome
+
+-- the fault that ends parsing goes behind the others, in an area of cap bytes
+unfoldable pub closed : Option (List Fault) → Outcome
+closed none = short 6
+closed (some fs) = faulty fs
+
+-- what a section comes to: on with g, or the end
+abbrev pub ending : {S : Type 0} → (S → List Fault) → ℕ → Out S → (ℕ → S → Outcome) → Outcome
+ending faults cap (go i s) g = g i s
+ending faults cap (bad kind at s) g = closed (addFault cap kind at at (faults s))
+ending faults cap (full n) g = short n
+
+-- number 5 where the fault list is not empty at the end
+unfoldable pub judge : Contents → Outcome
+judge b = cond (eqb (length (b .faults)) 0) (accepted b) (faulty (b .faults))
+
+abbrev pub contentsOf : Declared → Ruled → Contents
+contentsOf d r =
+    record { states = d .states; rules = r .rules; lists = r .lists; text = r .text; expected = d .expected; faults = r .faults }
+
+-- no rules yet
+abbrev pub noRules : Declared → Ruled
+noRules d = record { rules = []; lists = []; text = []; faults = d .faults }
+
+-- the rules from i on, and what follows them
+unfoldable pub rulesFrom : List ℕ → ℕ → List ℕ → Caps → ℕ → Declared → Outcome
+rulesFrom s flags verdicts k i d =
+    ending (λ r. r .faults) (k .c6) (rulesSection s flags verdicts (d .states) (ruleCaps k) (k .c6) i (noRules d)) (λ j r. judge (contentsOf d r))
+
+-- state 0 is INITIAL with the span (0,0), not exclusive
+abbrev pub onlyInitial : List State → Declared
+onlyInitial xs = record { states = xs; expected = []; faults = [] }
+
+-- the file from its start
+unfoldable pub fileFrom : List ℕ → ℕ → List ℕ → Caps → Option (List State) → Outcome
+fileFrom s flags verdicts k none = short 1
+fileFrom s flags verdicts k (some xs) =
+    ending (λ d. d .faults) (k .c6) (declarations s flags (declarationCaps k) 0 (onlyInitial xs)) (rulesFrom s flags verdicts k)
+
+-- state 0 is written first of all
+unfoldable pub file : List ℕ → ℕ → List ℕ → Caps → Outcome
+file s flags verdicts k = fileFrom s flags verdicts k (append stateFormat (k .c1) (state 0 0 0 ∷ []) [])
+
+-- 1, 2, 3, then 4 or 5, whichever comes first
+unfoldable pub outcome : List ℕ → ℕ → List ℕ → Caps → Outcome
+outcome s flags verdicts k = cond (ltb 65535 (length s)) long (cond (ltb 3 flags) stray (cond (utf8 s) (file s flags verdicts k) untext))
+
+-- ---- the call
+
+-- what the call leaves: its answer, the six counts and the six areas
+pub record Left : Type 0 where
+  pub answer : Answer
+  pub counts : List ℕ
+  pub area1 : List ℕ
+  pub area2 : List ℕ
+  pub area3 : List ℕ
+  pub area4 : List ℕ
+  pub area5 : List ℕ
+  pub area6 : List ℕ
+
+abbrev pub left : Answer → List ℕ → List ℕ → List ℕ → List ℕ → List ℕ → List ℕ → List ℕ → Left
+left r n x1 x2 x3 x4 x5 x6 = record { answer = r; counts = n; area1 = x1; area2 = x2; area3 = x3; area4 = x4; area5 = x5; area6 = x6 }
+
+-- the records of a list in an area of cap bytes, and zeros behind them
+abbrev pub laid : {A : Type 0} → Format A → ℕ → List A → List ℕ
+laid F cap xs = pad cap (bytes (F .write) xs)
+
+-- 1 to 4: all six areas zero
+abbrev pub cleared : Answer → Caps → Left
+cleared r k = left r (zeros 6) (zeros (k .c1)) (zeros (k .c2)) (zeros (k .c3)) (zeros (k .c4)) (zeros (k .c5)) (zeros (k .c6))
+
+-- 5: all but the fault records
+abbrev pub faultsLeft : List Fault → Caps → Left
+faultsLeft fs k =
+    left (FaultyFile (length fs)) (zeros 6) (zeros (k .c1)) (zeros (k .c2)) (zeros (k .c3)) (zeros (k .c4)) (zeros (k .c5)) (laid faultFormat (k .c6) fs)
+
+-- the count of each area's records or bytes
+abbrev pub countsOf : Contents → List ℕ
+countsOf b = length (b .states) ∷ length (b .rules) ∷ length (b .lists) ∷ length (b .text) ∷ length (b .expected) ∷ length (b .faults) ∷ []
+
+-- accepted: everything past the records is zero
+abbrev pub sheetLeft : Contents → Caps → Left
+sheetLeft b k =
+    left Accepted (countsOf b)
+    (laid stateFormat (k .c1) (b .states))
+    (laid ruleFormat (k .c2) (b .rules))
+    (laid entryFormat (k .c3) (b .lists))
+    (laid textFormat (k .c4) (b .text))
+    (laid expectedFormat (k .c5) (b .expected))
+    (laid faultFormat (k .c6) (b .faults))
+
+unfoldable pub leaves : Caps → Outcome → Left
+leaves k long = cleared LongFile k
+leaves k stray = cleared StrayFlag k
+leaves k untext = cleared NotText k
+leaves k (short n) = cleared (AreaFull n) k
+leaves k (faulty fs) = faultsLeft fs k
+leaves k (accepted b) = sheetLeft b k
+
+-- the parse call
+unfoldable pub parseCall : List ℕ → ℕ → List ℕ → Caps → Left
+parseCall s flags verdicts k = leaves k (outcome s flags verdicts k)
+
+-- the number and the value of each answer, as one word of two-byte fields
+abbrev pub word : ℕ → ℕ → ℕ
+word number a = number + 65536 * a
+
+unfoldable pub wordOf : Answer → ℕ
+wordOf Accepted = word 0 0
+wordOf LongFile = word 1 0
+wordOf StrayFlag = word 2 0
+wordOf NotText = word 3 0
+wordOf (AreaFull n) = word 4 n
+wordOf (FaultyFile n) = word 5 n

@@ -1,0 +1,5 @@
+pub mod Recording
+pub mod Listing
+pub mod Targets
+pub mod Heads
+pub mod Patterns

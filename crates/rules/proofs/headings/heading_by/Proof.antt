@@ -1,0 +1,20 @@
+-- `rules::headings::heading_by` meets its contract: a branch for each label; a name in quotes has more than 2 bytes.
+use Rattle.rules.proofs.Heads.{heading}
+use Rattle.rules.proofs.headings.heading_by.Statement.{statement}
+use Rattle.rules.proofs.headings.heading_by.Tie as tie
+
+pub heading-by-spec : {M : Type 1} → statement M
+heading-by-spec =
+    tie.close
+    (tie.spec
+    (λ c κs. search heading)
+    (λ c. search heading)
+    (λ c κs. search heading)
+    (λ c. search heading)
+    (λ c κs. search heading)
+    (λ c κs. search heading)
+    (λ c. search heading)
+    (λ c. search heading)
+    (λ c. search heading)
+    (λ c. search heading)
+    (λ c. search heading))

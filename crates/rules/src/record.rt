@@ -1,0 +1,43 @@
+// The record of a rule: the engine's verdict, then the record (01, Rules).
+ghost use mathlib.Core.Path.{_≡_};
+ghost use lib.ListN.{length};
+ghost use Rattle.area.specs.Contents.{ruleFormat, contents, Held};
+ghost use Rattle.fault.specs.Step.{Does, progress};
+ghost use Rattle.rules.specs.Rules.{refuses, recordRule};
+use area::Appended;
+use area::Rule;
+use area::push_rule;
+use fault::Progress;
+use text::whitespace::byte_at;
+
+const REGEX_ERROR: u16 = 10;
+
+const RULE_AREA: u16 = 2;
+
+// Whether the engine refuses the rule at the position k. Past the end of the verdicts it passes.
+fn refuses(verdicts: &[u8], k: usize) -> bool
+    ensures { λ r. ⌜ r ≡ refuses (now (verdicts .entry)) k ⌝ }
+{
+    byte_at(verdicts, k) != 0
+}
+
+// The rule x of the line from i to e, behind n2 rules.
+pub fn record_rule(
+    verdicts: &[u8],
+    i: usize,
+    e: usize,
+    x: Rule,
+    area2: &mut [u8],
+    n2: u16,
+) -> Progress
+    requires { ⌜ Held ruleFormat (now area2) n2 ⌝ }
+    ensures { λ r. ⌜ Does (Held ruleFormat (now (area2 .exit))) (recordRule (now (verdicts .entry)) (length (now (area2 .entry))) i e x) (contents ruleFormat (now (area2 .entry)) n2) (contents ruleFormat (now (area2 .exit))) (progress r) ⌝ }
+{
+    if refuses(verdicts, n2 as usize) {
+        return Progress::Bad(REGEX_ERROR, i, n2);
+    }
+    match push_rule(area2, n2, x) {
+        Appended::Next(m) => Progress::Go(e, m),
+        Appended::Full => Progress::Full(RULE_AREA),
+    }
+}
