@@ -46,7 +46,7 @@ pub struct NameCounts {
 // What a step over areas 1 and 6 comes to.
 pub enum NameProgress {
     Go(usize, NameCounts),
-    Bad(u16, usize, NameCounts),
+    Bad(u16, u16, NameCounts),
     Full(u16),
 }
 
@@ -60,7 +60,7 @@ pub struct DeclarationCounts {
 // What a step over areas 1, 5 and 6 comes to.
 pub enum DeclarationProgress {
     Go(usize, DeclarationCounts),
-    Bad(u16, usize, DeclarationCounts),
+    Bad(u16, u16, DeclarationCounts),
     Full(u16),
 }
 
@@ -108,7 +108,7 @@ fn parse_declaration(
                 NameProgress::Full(n) => DeclarationProgress::Full(n),
             }
         }
-        Declaration::Expecting(w) => match expected_names(src, i, e, w, area5, expected) {
+        Declaration::Expecting(w) => match expected_names(src, i as u16, e, w, area5, expected) {
             Progress::Go(_, m) => DeclarationProgress::Go(
                 e,
                 DeclarationCounts {
@@ -128,7 +128,7 @@ fn parse_declaration(
             ),
             Progress::Full(n) => DeclarationProgress::Full(n),
         },
-        Declaration::Unknown => DeclarationProgress::Bad(UNKNOWN_DECLARATION, i, q),
+        Declaration::Unknown => DeclarationProgress::Bad(UNKNOWN_DECLARATION, i as u16, q),
     }
 }
 
@@ -165,6 +165,6 @@ pub fn parse_declarations(
     }
     match lookahead_is(src, b"%%", at) {
         Found::At(j) => DeclarationProgress::Go(parse_spaces(src, j), counts),
-        Found::Nothing => DeclarationProgress::Bad(PREMATURE_END, at, counts),
+        Found::Nothing => DeclarationProgress::Bad(PREMATURE_END, at as u16, counts),
     }
 }

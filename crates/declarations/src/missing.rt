@@ -27,7 +27,7 @@ fn is_quoted(src: &[u8], a: usize, e: usize) -> bool
 }
 
 // The next name from a on, in the line from i to e.
-fn next_expected(src: &[u8], i: usize, e: usize, a: usize, area: &mut [u8], n: u16) -> Progress
+fn next_expected(src: &[u8], i: u16, e: usize, a: usize, area: &mut [u8], n: u16) -> Progress
     requires { ⌜ ((a < e) × (e ≤ length (now src))) × (length (now src) ≤ 65535) ⌝ }
     requires { ⌜ Held expectedFormat (now area) n ⌝ }
     ensures { λ r. ⌜ Does (Held expectedFormat (now (area .exit))) (nextExpected (now (src .entry)) (length (now (area .entry))) i e a) (contents expectedFormat (now (area .entry)) n) (contents expectedFormat (now (area .exit))) (progress r) ⌝ }
@@ -47,7 +47,7 @@ fn next_expected(src: &[u8], i: usize, e: usize, a: usize, area: &mut [u8], n: u
 }
 
 // The names from w to the line's end e.
-pub fn expected_names(src: &[u8], i: usize, e: usize, w: usize, area: &mut [u8], n: u16) -> Progress
+pub fn expected_names(src: &[u8], i: u16, e: usize, w: usize, area: &mut [u8], n: u16) -> Progress
     requires { ⌜ ((w ≤ e) × (e ≤ length (now src))) × (length (now src) ≤ 65535) ⌝ }
     requires { ⌜ Held expectedFormat (now area) n ⌝ }
     ensures { λ r. ⌜ Does (Held expectedFormat (now (area .exit))) (expectedNames (now (src .entry)) (length (now (area .entry))) i e w) (contents expectedFormat (now (area .entry)) n) (contents expectedFormat (now (area .exit))) (progress r) ⌝ }

@@ -66,7 +66,7 @@ fn declare_state(
     let start = a as u16;
     let end = e as u16;
     match validate_start_state(src, a, e, area1, states) {
-        Naming::Malformed => NameProgress::Bad(INVALID_START_STATE_NAME, a, q),
+        Naming::Malformed => NameProgress::Bad(INVALID_START_STATE_NAME, start, q),
         Naming::Known(first_start, first_end) => {
             let first = Span {
                 start: first_start,

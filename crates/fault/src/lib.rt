@@ -16,7 +16,7 @@ use area::read_fault;
 // area of a number is full.
 pub enum Progress {
     Go(usize, u16),
-    Bad(u16, usize, u16),
+    Bad(u16, u16, u16),
     Full(u16),
 }
 

@@ -13,7 +13,7 @@ pub struct SheetCounts {
 // What a step over areas 2, 3 and 4 comes to.
 pub enum SheetProgress {
     Go(usize, SheetCounts),
-    Bad(u16, usize, SheetCounts),
+    Bad(u16, u16, SheetCounts),
     Full(u16),
 }
 
@@ -28,7 +28,7 @@ pub struct RuleCounts {
 // What a step over areas 2, 3, 4 and 6 comes to.
 pub enum RuleProgress {
     Go(usize, RuleCounts),
-    Bad(u16, usize, RuleCounts),
+    Bad(u16, u16, RuleCounts),
     Full(u16),
 }
 

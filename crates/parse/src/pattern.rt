@@ -110,11 +110,12 @@ pub fn parse_pattern(
     requires { ⌜ HeldSheet (now area2) (now area3) (now area4) q ⌝ }
     ensures { λ r. ⌜ Does (HeldSheet (now (area2 .exit)) (now (area3 .exit)) (now (area4 .exit))) (pattern (now (src .entry)) flags (now (verdicts .entry)) (contents stateFormat (now (area1 .entry)) n1) (sizesOf (length (now (area2 .entry))) (length (now (area3 .entry))) (length (now (area4 .entry)))) i e h c) (sheetIn (now (area2 .entry)) (now (area3 .entry)) (now (area4 .entry)) q) (sheetIn (now (area2 .exit)) (now (area3 .exit)) (now (area4 .exit))) (sheetProgress r) ⌝ }
 {
+    let place = i as u16;
     let rules = q.rules;
     let entries = q.entries;
     let text = q.text;
     match body_of(src, i, c) {
-        Body::Unclosed => SheetProgress::Bad(INVALID_START_STATE, i, q),
+        Body::Unclosed => SheetProgress::Bad(INVALID_START_STATE, place, q),
         Body::Listed(g) => {
             let from = (g + 1) as u16;
             let length = (c - (g + 1)) as u16;
@@ -128,7 +129,7 @@ pub fn parse_pattern(
                         list_count: more(entries, m),
                     };
                     with_counts(
-                        record_rule(verdicts, i, e, rule_with(h, rules, t), area2, rules),
+                        record_rule(verdicts, place, e, rule_with(h, rules, t), area2, rules),
                         m,
                         text,
                     )
@@ -155,7 +156,7 @@ pub fn parse_pattern(
                     list_count: 0,
                 };
                 with_counts(
-                    record_rule(verdicts, i, e, rule_with(h, rules, t), area2, rules),
+                    record_rule(verdicts, place, e, rule_with(h, rules, t), area2, rules),
                     entries,
                     m,
                 )
@@ -165,13 +166,13 @@ pub fn parse_pattern(
         Body::Plain => {
             let t = Text {
                 place: 0,
-                from: i as u16,
+                from: place,
                 length: (c - i) as u16,
                 list_from: entries,
                 list_count: 0,
             };
             with_counts(
-                record_rule(verdicts, i, e, rule_with(h, rules, t), area2, rules),
+                record_rule(verdicts, place, e, rule_with(h, rules, t), area2, rules),
                 entries,
                 text,
             )

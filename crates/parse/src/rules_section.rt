@@ -65,7 +65,7 @@ pub fn parse_rules(
         }
     }
     if has_routines(src, at) {
-        return RuleProgress::Bad(ROUTINES_NOT_SUPPORTED, at, counts);
+        return RuleProgress::Bad(ROUTINES_NOT_SUPPORTED, at as u16, counts);
     }
     RuleProgress::Go(at, counts)
 }

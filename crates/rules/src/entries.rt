@@ -32,7 +32,7 @@ fn state_between(src: &[u8], a: usize, e: usize, area1: &[u8], n1: u16) -> usize
 // The next name from a on, up to a comma or the `>` at g. The line starts at i.
 fn next_entry(
     src: &[u8],
-    i: usize,
+    i: u16,
     g: usize,
     a: usize,
     area1: &[u8],
@@ -66,7 +66,7 @@ pub fn parse_entries(
     area3: &mut [u8],
     n3: u16,
 ) -> Progress
-    requires { ⌜ (i ≤ g) × (g < length (now src)) ⌝ }
+    requires { ⌜ ((i ≤ g) × (g < length (now src))) × (length (now src) ≤ 65535) ⌝ }
     requires { ⌜ Held stateFormat (now area1) n1 ⌝ }
     requires { ⌜ Held entryFormat (now area3) n3 ⌝ }
     ensures { λ r. ⌜ Does (Held entryFormat (now (area3 .exit))) (entries (now (src .entry)) (length (now (area3 .entry))) (contents stateFormat (now (area1 .entry)) n1) i g) (contents entryFormat (now (area3 .entry)) n3) (contents entryFormat (now (area3 .exit))) (progress r) ⌝ }
@@ -74,7 +74,7 @@ pub fn parse_entries(
     let mut a = i + 1;
     let mut count = n3;
     while a <= g {
-        match next_entry(src, i, g, a, area1, n1, area3, count) {
+        match next_entry(src, i as u16, g, a, area1, n1, area3, count) {
             Progress::Go(next, m) => {
                 a = next;
                 count = m;

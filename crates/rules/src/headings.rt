@@ -51,7 +51,7 @@ fn target_at(
     area1: &[u8],
     n1: u16,
 ) -> Target
-    requires { ⌜ (r ≤ g) × (g < length (now src)) ⌝ }
+    requires { ⌜ ((r ≤ g) × (g < length (now src))) × (length (now src) ≤ 65535) ⌝ }
     requires { ⌜ Held stateFormat (now area1) n1 ⌝ }
     ensures { λ k. ⌜ k ≡ targetAt (length (contents stateFormat (now (area1 .entry)) n1)) r g operation (findState (now (src .entry)) a g (contents stateFormat (now (area1 .entry)) n1)) ⌝ }
 {
@@ -59,7 +59,7 @@ fn target_at(
     if j < n1 as usize {
         return Target::To(operation, j as u16, g + 1);
     }
-    Target::Wrong(UNKNOWN_START_STATE, r + 1)
+    Target::Wrong(UNKNOWN_START_STATE, (r + 1) as u16)
 }
 
 // The name starts behind the `<`, or behind the `+` or `-` that follows.
@@ -84,7 +84,7 @@ fn target_to(src: &[u8], r: usize, t: usize, area1: &[u8], n1: u16) -> Target
     if g < t {
         return target_by(src, r, g, operation_of(byte_at(src, r + 2)), area1, n1);
     }
-    Target::Wrong(INVALID_START_STATE, r)
+    Target::Wrong(INVALID_START_STATE, r as u16)
 }
 
 fn target_of(src: &[u8], r: usize, t: usize, area1: &[u8], n1: u16) -> Target
@@ -192,7 +192,7 @@ fn heading_by(
             let h = head_named(r, p, t, operation, target);
             heading_at(src, r, t, p, h, area2, n2)
         }
-        Label::Misnamed => Heading::Faulty(INVALID_NAME, r + 1),
+        Label::Misnamed => Heading::Faulty(INVALID_NAME, (r + 1) as u16),
     }
 }
 
@@ -229,13 +229,13 @@ pub fn heading_of(
     area2: &[u8],
     n2: u16,
 ) -> Heading
-    requires { ⌜ (t ≤ length (now src)) × (length (now src) ≤ 65535) ⌝ }
+    requires { ⌜ ((i ≤ t) × (t ≤ length (now src))) × (length (now src) ≤ 65535) ⌝ }
     requires { ⌜ Held stateFormat (now area1) n1 ⌝ }
     requires { ⌜ Held ruleFormat (now area2) n2 ⌝ }
     ensures { λ k. ⌜ k ≡ headingOf (now (src .entry)) i t (contents stateFormat (now (area1 .entry)) n1) (contents ruleFormat (now (area2 .entry)) n2) ⌝ }
 {
     match last_blank(src, i, t) {
         Found::At(r) => heading_after(src, r, t, area1, n1, area2, n2),
-        Found::Nothing => Heading::Faulty(MISSING_SPACE, i),
+        Found::Nothing => Heading::Faulty(MISSING_SPACE, i as u16),
     }
 }

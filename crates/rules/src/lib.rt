@@ -7,7 +7,7 @@ pub mod record; // the record of a rule
 // A target: operation, state id and the place behind it; or the kind and the place of its fault.
 pub enum Target {
     To(u16, u16, usize),
-    Wrong(u16, usize),
+    Wrong(u16, u16),
 }
 
 // What a rule's name part is.
@@ -31,7 +31,7 @@ pub struct Head {
 // What a rule's line says but for its pattern: the kind and the place of a fault; a repeated name (the span of the first, its own);
 // or the place of the last blank and what stands behind it.
 pub enum Heading {
-    Faulty(u16, usize),
+    Faulty(u16, u16),
     Repeated(u16, u16, u16, u16),
     Fresh(usize, Head),
 }

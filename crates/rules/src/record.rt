@@ -24,7 +24,7 @@ fn refuses(verdicts: &[u8], k: usize) -> bool
 // The rule x of the line from i to e, behind n2 rules.
 pub fn record_rule(
     verdicts: &[u8],
-    i: usize,
+    i: u16,
     e: usize,
     x: Rule,
     area2: &mut [u8],

@@ -50,4 +50,5 @@ parse-declarations-spec =
     (λ c. search sectioning)
     (λ c. search sectioning)
     (λ c. search sectioning)
+    (λ c. search sectioning)
     (λ c. search sectioning))

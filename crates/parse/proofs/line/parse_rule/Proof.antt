@@ -1,7 +1,14 @@
 -- `parse::line::parse_rule` meets its contract: each return is an outcome of what the heading is.
+use native.Mathlib.Omega.{arith}
 use Rattle.parse.proofs.RuleLines.{ruling, sheet-held, rule-fresh}
 use Rattle.parse.proofs.line.parse_rule.Statement.{statement}
 use Rattle.parse.proofs.line.parse_rule.Tie as tie
+
+heading-of-requires : tie.Need-heading-of-requires
+heading-of-requires c κs =
+    let start = c .before .before .before .before .before .before .before .before .before in
+    let trimmed = c .before .trim-end .ensures in
+    (((trimmed .from, omega (arith, trimmed .to, start .pre .0 .0 .1)), start .pre .0 .1), (start .pre .1 .0, start .pre .1 .1 .rules))
 
 parse-pattern-requires : tie.Need-parse-pattern-requires
 parse-pattern-requires c κs =
@@ -22,7 +29,7 @@ parse-rule-spec =
     tie.close
     (tie.spec
     (λ c κs. search ruling)
-    (λ c κs. search ruling)
+    heading-of-requires
     (λ c. search ruling)
     (λ c. search ruling)
     (λ c κs. search ruling)

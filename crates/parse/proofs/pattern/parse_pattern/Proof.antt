@@ -9,7 +9,7 @@ parse-entries-requires c κs =
     let start = c .before .before .before .before .before .before .before .before .before .before .before in
     let body = c .before .before .before .before .body-of .ensures in
     let listed = c .before .before .g .given .1 in (
-      (listed-from _ _ _ _ body _ listed, list-to _ _ _ _ body _ listed (start .pre .0 .0 .1)),
+      ((listed-from _ _ _ _ body _ listed, list-to _ _ _ _ body _ listed (start .pre .0 .0 .1)), start .pre .0 .1),
       (start .pre .1 .0, start .pre .1 .1 .entries),
     )
 
@@ -42,6 +42,7 @@ pub parse-pattern-spec : {M : Type 1} → statement M
 parse-pattern-spec =
     tie.close
     (tie.spec
+    (λ c. search patterning)
     (λ c κs. search patterning)
     (λ c. search patterning)
     (λ c. search patterning)
@@ -65,7 +66,6 @@ parse-pattern-spec =
     (λ c κs. search patterning)
     record-rule-requires-2
     (λ c κs. search patterning)
-    (λ c. search patterning)
     (λ c. search patterning)
     (λ c. search patterning)
     (λ c. search patterning)

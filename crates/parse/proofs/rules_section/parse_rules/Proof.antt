@@ -4,8 +4,7 @@ use lib.ListN.{length}
 use Rattle.area.specs.Contents.{contents, stateFormat}
 use Rattle.rules.specs.Rules.{rules}
 use Rattle.parse.specs.Answers.{ruledIn, sizesOf}
-use Rattle.parse.proofs.RuleLines.{Rules}
-use Rattle.parse.proofs.RuleLines.{sectioning}
+use Rattle.parse.proofs.RuleLines.{Rules, sectioning, rules-routines}
 use Rattle.parse.proofs.rules_section.parse_rules.Statement.{statement}
 use Rattle.parse.proofs.rules_section.parse_rules.Tie as tie
 
@@ -20,6 +19,10 @@ parse-line-requires c κs =
     let start = c .before .before .before .before .before .before .before .before .before .before .before .before .before .before .before .before in
     let e = c .before .before .before .before .line-end .ensures in
     (((e .from, e .to), start .pre .0 .1), (start .pre .1 .0, c .before .before .before .before .before .before .before .loop .inv .held))
+
+returns-3 : tie.Need-returns-3 Inv-loop μ-loop
+returns-3 c =
+    rules-routines _ _ _ _ _ _ _ _ (c .before .before .before .before .loop .inv) _ (c .before .before .before .in-section .ensures) (c .before .before .if1 .left) _ (c .before .has-routines .ensures) (c .if2 .taken)
 
 pub parse-rules-spec : {M : Type 1} → statement M
 parse-rules-spec =
@@ -54,6 +57,7 @@ parse-rules-spec =
     (λ c. search sectioning)
     (λ c. search sectioning)
     (λ c. search sectioning)
+    returns-3
     (λ c. search sectioning)
     (λ c. search sectioning)
     (λ c. search sectioning)

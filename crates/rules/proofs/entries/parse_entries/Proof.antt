@@ -21,6 +21,7 @@ parse-entries-spec =
     μ-loop
     (λ c. search listing-all)
     (λ c. search listing-all)
+    (λ c. search listing-all)
     (λ c κs. search listing-all)
     (λ c. search listing-all)
     (λ c. search listing-all)

@@ -17,4 +17,5 @@ heading-by-spec =
     (λ c. search heading)
     (λ c. search heading)
     (λ c. search heading)
+    (λ c. search heading)
     (λ c. search heading))

@@ -12,4 +12,5 @@ heading-of-spec =
     (λ c κs. search heading)
     (λ c. search heading)
     (λ c. search heading)
+    (λ c. search heading)
     (λ c. search heading))

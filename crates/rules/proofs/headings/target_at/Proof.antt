@@ -12,4 +12,5 @@ target-at-spec =
     (λ c. search aiming)
     (λ c. search aiming)
     (λ c. search aiming)
+    (λ c. search aiming)
     (λ c. search aiming))

@@ -14,4 +14,5 @@ target-to-spec =
     (λ c κs. search aiming)
     (λ c κs. search aiming)
     (λ c. search aiming)
+    (λ c. search aiming)
     (λ c. search aiming))
