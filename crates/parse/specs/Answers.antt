@@ -1,12 +1,22 @@
 -- What the functions of the rules section answer: the outcome of a step, with counts of records in place of the records.
 use Prim.Native.Nat.{ℕ}
-use mathlib.Core.List.{List}
+use mathlib.Core.Path.{_≡_}
+use mathlib.Core.Bool.{cond}
+use mathlib.Core.List.{List, []}
+use lib.Dec.{eqb}
+use lib.ListN.{length}
+use Rattle.area.specs.Bytes.{zeros}
 use Rattle.area.specs.declared.Appended.{Appended}
 use Rattle.area.specs.declared.Appended.the-variants.{Next, Full}
-use Rattle.area.specs.Contents.{contents, ruleFormat, entryFormat, textFormat, faultFormat, Held}
+use Rattle.area.specs.Contents.{contents, stateFormat, ruleFormat, entryFormat, textFormat, expectedFormat, faultFormat, Held}
 use Rattle.fault.specs.Step.{Out, go, bad, full}
 use Rattle.fault.specs.Faults.{HeldFaults}
+use Rattle.declarations.specs.declared.DeclarationCounts.{DeclarationCounts}
 use Rattle.rules.specs.Rules.{Sheet, sheet, Ruled, Caps}
+use Rattle.parse.specs.Parse.{Contents, Outcome, accepted, faulty, short}
+use Rattle.parse.specs.declared.FileCounts.{FileCounts}
+use Rattle.parse.specs.declared.Parsed.{Parsed}
+use Rattle.parse.specs.declared.Parsed.the-variants.{Clean, Faulty, Short}
 use Rattle.parse.specs.declared.SheetCounts.{SheetCounts}
 use Rattle.parse.specs.declared.SheetProgress.{SheetProgress}
 use Rattle.parse.specs.declared.SheetProgress.the-variants as S
@@ -61,3 +71,56 @@ sizesOf c2 c3 c4 = record { c2 = c2; c3 = c3; c4 = c4 }
 abbrev pub afterFaults : ℕ → RuleCounts → Appended → Out RuleCounts
 afterFaults e q (Next m) = go e (ruleCounts (q .rules) (q .entries) (q .text) m)
 afterFaults e q Full = full 6
+
+-- ---- the file as a whole
+
+-- the fault that ends parsing is written: the spans, or area 6 is full
+abbrev pub closedBy : Appended → Parsed
+closedBy (Next m) = Faulty m
+closedBy Full = Short 6
+
+-- no fault, or these spans
+abbrev pub judgedBy : DeclarationCounts → RuleCounts → Parsed
+judgedBy d q =
+    cond (eqb (q .faults) 0) (Clean (record { states = d .states; rules = q .rules; entries = q .entries; text = q .text; expected = d .expected }))
+    (Faulty (q .faults))
+
+-- what stands in the areas of a file without faults
+abbrev pub contentsIn : List ℕ → List ℕ → List ℕ → List ℕ → List ℕ → FileCounts → Contents
+contentsIn l1 l2 l3 l4 l5 q = record {
+  states = contents stateFormat l1 (q .states);
+  rules = contents ruleFormat l2 (q .rules);
+  lists = contents entryFormat l3 (q .entries);
+  text = contents textFormat l4 (q .text);
+  expected = contents expectedFormat l5 (q .expected);
+  faults = [];
+}
+
+-- the outcome that an answer tells
+abbrev pub tells : List ℕ → List ℕ → List ℕ → List ℕ → List ℕ → List ℕ → Parsed → Outcome
+tells l1 l2 l3 l4 l5 l6 (Clean q) = accepted (contentsIn l1 l2 l3 l4 l5 q)
+tells l1 l2 l3 l4 l5 l6 (Faulty n) = faulty (contents faultFormat l6 n)
+tells l1 l2 l3 l4 l5 l6 (Short n) = short n
+
+pub record HeldFile (l1 l2 l3 l4 l5 l6 : List ℕ) (q : FileCounts) : Type 0 where
+  pub states : Held stateFormat l1 (q .states)
+  pub rules : Held ruleFormat l2 (q .rules)
+  pub entries : Held entryFormat l3 (q .entries)
+  pub text : Held textFormat l4 (q .text)
+  pub expected : Held expectedFormat l5 (q .expected)
+  pub faults : Held faultFormat l6 0
+
+-- an answer to the file whose outcome is o, and what the areas hold then
+pub record Parses (o : Outcome) (l1 l2 l3 l4 l5 l6 : List ℕ) (p : Parsed) : Type 0 where
+  pub says : o ≡ tells l1 l2 l3 l4 l5 l6 p
+  pub clean : (q : FileCounts) → p ≡ Clean q → HeldFile l1 l2 l3 l4 l5 l6 q
+  pub faults : (n : ℕ) → p ≡ Faulty n → Held faultFormat l6 n
+
+-- every area is zero
+pub record Zeroed (l1 l2 l3 l4 l5 l6 : List ℕ) : Type 0 where
+  pub zero1 : l1 ≡ zeros (length l1)
+  pub zero2 : l2 ≡ zeros (length l2)
+  pub zero3 : l3 ≡ zeros (length l3)
+  pub zero4 : l4 ≡ zeros (length l4)
+  pub zero5 : l5 ≡ zeros (length l5)
+  pub zero6 : l6 ≡ zeros (length l6)

@@ -12,7 +12,7 @@ use Rattle.area.specs.declared.Expected.{Expected}
 use Rattle.area.specs.declared.Fault.{Fault}
 use Rattle.area.specs.Bytes.{bytes, pad, zeros}
 use Rattle.area.specs.Contents.{Format, append, stateFormat, ruleFormat, entryFormat, textFormat, expectedFormat, faultFormat}
-use Rattle.fault.specs.Step.{Out, go, bad, full}
+use Rattle.fault.specs.Step.{Out, go, bad, full, next, onto, written}
 use Rattle.fault.specs.Faults.{addFault}
 use Rattle.declarations.specs.Declarations.{Declared, declarations, state}
 use Rattle.rules.specs.Rules.{Ruled, rulesSection}
@@ -85,19 +85,20 @@ unfoldable pub rulesFrom : List ℕ → ℕ → List ℕ → Caps → ℕ → De
 rulesFrom s flags verdicts k i d =
     ending (λ r. r .faults) (k .c6) (rulesSection s flags verdicts (d .states) (ruleCaps k) (k .c6) i (noRules d)) (λ j r. judge (contentsOf d r))
 
--- state 0 is INITIAL with the span (0,0), not exclusive
-abbrev pub onlyInitial : List State → Declared
-onlyInitial xs = record { states = xs; expected = []; faults = [] }
+-- nothing is declared yet
+abbrev pub undeclared : Declared
+undeclared = record { states = []; expected = []; faults = [] }
+
+abbrev pub withStates : Declared → List State → Declared
+withStates d xs = record { states = xs; expected = d .expected; faults = d .faults }
+
+-- state 0 is written first of all: INITIAL with the span (0,0), not exclusive; then the declarations
+unfoldable pub opening : List ℕ → ℕ → D.Caps → Declared → Out Declared
+opening s flags k d = next (onto (withStates d) (written 1 0 (append stateFormat (k .c1) (state 0 0 0 ∷ []) (d .states)))) (declarations s flags k)
 
 -- the file from its start
-unfoldable pub fileFrom : List ℕ → ℕ → List ℕ → Caps → Option (List State) → Outcome
-fileFrom s flags verdicts k none = short 1
-fileFrom s flags verdicts k (some xs) =
-    ending (λ d. d .faults) (k .c6) (declarations s flags (declarationCaps k) 0 (onlyInitial xs)) (rulesFrom s flags verdicts k)
-
--- state 0 is written first of all
 unfoldable pub file : List ℕ → ℕ → List ℕ → Caps → Outcome
-file s flags verdicts k = fileFrom s flags verdicts k (append stateFormat (k .c1) (state 0 0 0 ∷ []) [])
+file s flags verdicts k = ending (λ d. d .faults) (k .c6) (opening s flags (declarationCaps k) undeclared) (rulesFrom s flags verdicts k)
 
 -- 1, 2, 3, then 4 or 5, whichever comes first
 unfoldable pub outcome : List ℕ → ℕ → List ℕ → Caps → Outcome

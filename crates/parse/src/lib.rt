@@ -2,6 +2,7 @@
 mod pattern; // the pattern of a rule, and the rule's record
 mod line; // a line of the rules section
 mod rules_section; // the rules section
+mod sections; // the file from its start
 
 // How many rules, list entries and bytes of rewritten text there are.
 pub struct SheetCounts {
@@ -30,6 +31,22 @@ pub enum RuleProgress {
     Go(usize, RuleCounts),
     Bad(u16, u16, RuleCounts),
     Full(u16),
+}
+
+// How many records each area has where there are no faults.
+pub struct FileCounts {
+    pub states: u16,
+    pub rules: u16,
+    pub entries: u16,
+    pub text: u16,
+    pub expected: u16,
+}
+
+// What a file comes to: no fault; a number of fault spans; or the area of a number was full.
+pub enum Parsed {
+    Clean(FileCounts),
+    Faulty(u16),
+    Short(u16),
 }
 
 // The answers of the parse call: accepted, or refused by a number of 01.
