@@ -215,7 +215,6 @@ module _ (s : List ℕ) (flags : ℕ) (l1 l2 l3 l4 l5 l6 : List ℕ) (zero : Zer
         → GrowsFaults (addFault (length w6) kind at at) w6 (c .faults) p y6 → (t : Parsed) → t ≡ closedBy p → Parses whole v1 l2 l3 l4 v5 y6 t
     file-closed kind at c z long p y6 g t q = parses-closed (length l6) kind at (c .faults) w6 p (opened (bad kind at c) (ap declarationProgress z)) long g t q
 
-
     module _ (i : ℕ) (c : DeclarationCounts) (went : r ≡ Declaring.Go i c) where
       module _ (v2 v3 v4 x6 : List ℕ) (q : RuleProgress)
           (g : Does (HeldRuled v2 v3 v4 x6) (rulesSection s flags verdicts (contents stateFormat v1 (c .states)) (sizesOf (length l2) (length l3) (length l4)) (length w6) i) (ruledIn l2 l3 l4 w6 (ruleCounts 0 0 0 (c .faults))) (ruledIn v2 v3 v4 x6) (ruleProgress q))
@@ -246,7 +245,7 @@ module _ (s : List ℕ) (flags : ℕ) (l1 l2 l3 l4 l5 l6 : List ℕ) (zero : Zer
 
             is : whole ≡ cond (eqb (m .faults) 0) (accepted (contentsOf (declaredIn v1 v5 w6 c) (ruledIn v2 v3 v4 x6 m))) (faulty (contents faultFormat x6 (m .faults)))
             is = ruled (go j m) (ap ruleProgress z)
-              ∙ ap (λ (k : ℕ). cond (eqb k 0) (accepted (contentsOf (declaredIn v1 v5 w6 c) (ruledIn v2 v3 v4 x6 m))) (faulty (contents faultFormat x6 (m .faults)))) (contents-length fault-sound (held .faults .held))
+                ∙ ap (λ (k : ℕ). cond (eqb k 0) (accepted (contentsOf (declaredIn v1 v5 w6 c) (ruledIn v2 v3 v4 x6 m))) (faulty (contents faultFormat x6 (m .faults)))) (contents-length fault-sound (held .faults .held))
 
             none-left : m .faults ≡ 0 → contents faultFormat x6 (m .faults) ≡ []
             none-left e = ap (contents faultFormat x6) e

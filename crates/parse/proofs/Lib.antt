@@ -1,3 +1,4 @@
 pub mod Patterns
 pub mod RuleLines
 pub mod Files
+pub mod Calls

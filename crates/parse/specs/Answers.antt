@@ -124,3 +124,12 @@ pub record Zeroed (l1 l2 l3 l4 l5 l6 : List ℕ) : Type 0 where
   pub zero4 : l4 ≡ zeros (length l4)
   pub zero5 : l5 ≡ zeros (length l5)
   pub zero6 : l6 ≡ zeros (length l6)
+
+-- the areas are zero, of these many bytes
+pub record Cleared (c1 c2 c3 c4 c5 c6 : ℕ) (l1 l2 l3 l4 l5 l6 : List ℕ) : Type 0 where
+  pub is1 : l1 ≡ zeros c1
+  pub is2 : l2 ≡ zeros c2
+  pub is3 : l3 ≡ zeros c3
+  pub is4 : l4 ≡ zeros c4
+  pub is5 : l5 ≡ zeros c5
+  pub is6 : l6 ≡ zeros c6

@@ -3,6 +3,7 @@ mod pattern; // the pattern of a rule, and the rule's record
 mod line; // a line of the rules section
 mod rules_section; // the rules section
 mod sections; // the file from its start
+pub mod call; // the parse call
 
 // How many rules, list entries and bytes of rewritten text there are.
 pub struct SheetCounts {

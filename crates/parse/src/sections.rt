@@ -7,10 +7,17 @@ ghost use Rattle.fault.specs.Step.{Does};
 ghost use Rattle.declarations.specs.Answers.{HeldDeclared, declaredIn, declarationProgress, capsOf};
 ghost use Rattle.parse.specs.Parse.{opening, undeclared, file, caps};
 ghost use Rattle.parse.specs.Answers.{closedBy, judgedBy, Parses, Zeroed};
+use crate::FileCounts;
+use crate::Parsed;
+use crate::RuleCounts;
+use crate::RuleProgress;
 use crate::rules_section::parse_rules;
-use crate::{FileCounts, Parsed, RuleCounts, RuleProgress};
-use area::{Appended, State, push_state};
-use declarations::{DeclarationCounts, DeclarationProgress, parse_declarations};
+use area::Appended;
+use area::State;
+use area::push_state;
+use declarations::DeclarationCounts;
+use declarations::DeclarationProgress;
+use declarations::parse_declarations;
 use fault::add_fault;
 
 const STATE_AREA: u16 = 1;
@@ -18,7 +25,13 @@ const STATE_AREA: u16 = 1;
 const FAULT_AREA: u16 = 6;
 
 // State 0, then the declarations.
-fn parse_opening(src: &[u8], flags: u64, area1: &mut [u8], area5: &mut [u8], area6: &mut [u8]) -> DeclarationProgress
+fn parse_opening(
+    src: &[u8],
+    flags: u64,
+    area1: &mut [u8],
+    area5: &mut [u8],
+    area6: &mut [u8],
+) -> DeclarationProgress
     requires { ⌜ length (now src) ≤ 65535 ⌝ }
     requires { ⌜ (now area1 ≡ zeros (length (now area1))) × ((now area5 ≡ zeros (length (now area5))) × (now area6 ≡ zeros (length (now area6)))) ⌝ }
     ensures { λ r. ⌜ Does (HeldDeclared (now (area1 .exit)) (now (area5 .exit)) (now (area6 .exit))) (opening (now (src .entry)) flags (capsOf (length (now (area1 .entry))) (length (now (area5 .entry))) (length (now (area6 .entry))))) undeclared (declaredIn (now (area1 .exit)) (now (area5 .exit)) (now (area6 .exit))) (declarationProgress r) ⌝ }
@@ -68,7 +81,17 @@ fn judge(d: DeclarationCounts, q: RuleCounts) -> Parsed
 }
 
 // A file of at most 65,535 bytes, into areas that are zero.
-pub fn parse_sections(src: &[u8], flags: u64, verdicts: &[u8], area1: &mut [u8], area2: &mut [u8], area3: &mut [u8], area4: &mut [u8], area5: &mut [u8], area6: &mut [u8]) -> Parsed
+pub fn parse_sections(
+    src: &[u8],
+    flags: u64,
+    verdicts: &[u8],
+    area1: &mut [u8],
+    area2: &mut [u8],
+    area3: &mut [u8],
+    area4: &mut [u8],
+    area5: &mut [u8],
+    area6: &mut [u8],
+) -> Parsed
     requires { ⌜ length (now src) ≤ 65535 ⌝ }
     requires { ⌜ Zeroed (now area1) (now area2) (now area3) (now area4) (now area5) (now area6) ⌝ }
     ensures { λ r. ⌜ Parses (file (now (src .entry)) flags (now (verdicts .entry)) (caps (length (now (area1 .entry))) (length (now (area2 .entry))) (length (now (area3 .entry))) (length (now (area4 .entry))) (length (now (area5 .entry))) (length (now (area6 .entry))))) (now (area1 .exit)) (now (area2 .exit)) (now (area3 .exit)) (now (area4 .exit)) (now (area5 .exit)) (now (area6 .exit)) r ⌝ }
@@ -81,7 +104,19 @@ pub fn parse_sections(src: &[u8], flags: u64, verdicts: &[u8], area1: &mut [u8],
                 text: 0,
                 faults: d.faults,
             };
-            match parse_rules(src, flags, verdicts, i, q, area1, d.states, area2, area3, area4, area6) {
+            match parse_rules(
+                src,
+                flags,
+                verdicts,
+                i,
+                q,
+                area1,
+                d.states,
+                area2,
+                area3,
+                area4,
+                area6,
+            ) {
                 RuleProgress::Go(_, p) => judge(d, p),
                 RuleProgress::Bad(kind, at, p) => close(add_fault(area6, p.faults, kind, at, at)),
                 RuleProgress::Full(n) => Parsed::Short(n),

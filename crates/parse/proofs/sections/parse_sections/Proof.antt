@@ -12,9 +12,10 @@ parse-rules-requires : tie.Need-parse-rules-requires
 parse-rules-requires c κs =
     let start = c .before .before .before .before .before .before .before .before .before .before .before .before .before .before .before .before .before .before .before .before .before .before .before .before .before .before in
     let opening = c .before .before .before .before .before .before .before .before .before .before .before .before .before .before .parse-opening in
-    let went = c .before .before .before .before .before .before .i .given .1 in
-    ( (rules-inside _ _ _ _ _ _ _ _ (start .pre .1) _ _ _ (opening .result) (opening .ensures) _ _ went, start .pre .0)
-    , (states-held _ _ _ _ _ _ _ _ (start .pre .1) _ _ _ (opening .result) (opening .ensures) _ _ went, rules-held _ _ _ _ _ _ _ _ (start .pre .1) _ _ _ (opening .result) (opening .ensures) _ _ went) )
+    let went = c .before .before .before .before .before .before .i .given .1 in (
+      (rules-inside _ _ _ _ _ _ _ _ (start .pre .1) _ _ _ (opening .result) (opening .ensures) _ _ went, start .pre .0),
+      (states-held _ _ _ _ _ _ _ _ (start .pre .1) _ _ _ (opening .result) (opening .ensures) _ _ went, rules-held _ _ _ _ _ _ _ _ (start .pre .1) _ _ _ (opening .result) (opening .ensures) _ _ went),
+    )
 
 add-fault-requires : tie.Need-add-fault-requires
 add-fault-requires c κs =
