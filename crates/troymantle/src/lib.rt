@@ -1,0 +1,50 @@
+// The calls of the host, as C functions (01, Numbers given at the counter). An answer is one word of four two-byte fields: its number, then its values.
+ghost use mathlib.Core.Path.{_≡_};
+ghost use lib.ListN.{length};
+ghost use Rattle.parse.specs.Parse.{caps, parseCall, wordOf};
+ghost use Rattle.troymantle.specs.Words.{inWords, leftInWords};
+use parse::Answer;
+use parse::call::parse;
+
+fn word_of(answer: Answer) -> u64
+    ensures { λ r. ⌜ r ≡ wordOf answer ⌝ }
+{
+    match answer {
+        Answer::Accepted => 0,
+        Answer::LongFile => 1,
+        Answer::StrayFlag => 2,
+        Answer::NotText => 3,
+        Answer::AreaFull(n) => 4 + 65536 * (n as u64),
+        Answer::FaultyFile(n) => 5 + 65536 * (n as u64),
+    }
+}
+
+// Reads a lex file into six areas. On refusal the areas and counts are zero, but for the fault spans of number 5.
+#[no_mangle]
+pub extern "C" fn troymantle_parse(
+    src: &[u8],
+    flags: u64,
+    verdicts: &[u8],
+    area1: &mut [u8],
+    area2: &mut [u8],
+    area3: &mut [u8],
+    area4: &mut [u8],
+    area5: &mut [u8],
+    area6: &mut [u8],
+    counts: &mut [u16; 6],
+) -> u64
+    ensures { λ r. ⌜ leftInWords r (now (counts .exit)) (now (area1 .exit)) (now (area2 .exit)) (now (area3 .exit)) (now (area4 .exit)) (now (area5 .exit)) (now (area6 .exit)) ≡ inWords (parseCall (now (src .entry)) flags (now (verdicts .entry)) (caps (length (now (area1 .entry))) (length (now (area2 .entry))) (length (now (area3 .entry))) (length (now (area4 .entry))) (length (now (area5 .entry))) (length (now (area6 .entry))))) ⌝ }
+{
+    word_of(parse(
+        src,
+        flags,
+        verdicts,
+        counts,
+        area1,
+        area2,
+        area3,
+        area4,
+        area5,
+        area6,
+    ))
+}
