@@ -20,6 +20,7 @@ pub record Row : Type 0 where
   pub becomes : Outcome
   pub texts : List (List ℕ)
 
+-- the record of these
 abbrev pub row : List ℕ → ℕ → Outcome → List (List ℕ) → Row
 row s flags o ts = record { file = s; flags = flags; becomes = o; texts = ts }
 
@@ -37,6 +38,7 @@ initialOnly = state 0 0 0 ∷ []
 
 -- ---- the table
 
+-- each case has its number in 01, and its file above its row (01, Files to try)
 abbrev pub table : List Row
 table =
     -- 1. empty: kind 0 at 0
@@ -92,6 +94,7 @@ areas = caps 384 57344 32768 32768 32768 32768
 abbrev pub textOf : List ℕ → Contents → Rule → List ℕ
 textOf s b x = part (cond (eqb (x .place) 1) (b .text) s) (x .«text_from») (x .«text_from» + x .«text_length»)
 
+-- the texts of the rules of an accepted file; other files have none
 abbrev pub textsOf : List ℕ → Outcome → List (List ℕ)
 textsOf s (accepted b) = map (textOf s b) (b .rules)
 textsOf s (faulty fs) = []

@@ -50,6 +50,6 @@ charLen s k = cond (leb (k + charAt s k) (length s)) (charAt s k) 0
 abbrev pub skipChars : List ℕ → ℕ → ℕ
 skipChars s k = skip (charLen s) (length s) k
 
--- s is well formed: from its start characters follow one another to its end
+-- s is well formed: from its start characters follow one another to its end (01, Numbers given at the counter, 3)
 unfoldable pub utf8 : List ℕ → Bool
 utf8 s = eqb (skipChars s 0) (length s)
