@@ -1,5 +1,5 @@
 -- The scanners that declarations and rules are read with, each one walk (01, Declarations and Rules).
-use mathlib.Core.Bool.{Bool, true, false, cond, not}
+use mathlib.Core.Bool.{cond, not}
 use mathlib.Core.List.{List}
 use Prim.Native.Nat.{ℕ, _+_, _-_, _%_, min}
 use lib.Dec.{eqb, leb}

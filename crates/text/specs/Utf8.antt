@@ -1,5 +1,5 @@
 -- Well-formed UTF-8, by the Unicode standard's table of well-formed byte sequences (table 3-7). Number 3 of 01 refuses all else.
-use mathlib.Core.Bool.{Bool, true, false, cond, _&&_, _||_}
+use mathlib.Core.Bool.{Bool, cond, _&&_, _||_}
 use mathlib.Core.List.{List}
 use Prim.Native.Nat.{ℕ, _+_}
 use lib.Dec.{eqb, leb, ltb}

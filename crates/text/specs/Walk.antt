@@ -1,6 +1,6 @@
 -- Three walks over positions, of which every scanner is an instance. A `let` keeps a walk from computing past its answer.
 use mathlib.Core.Path.{_≡_}
-use mathlib.Core.Bool.{Bool, true, false, cond}
+use mathlib.Core.Bool.{Bool, cond}
 use Prim.Native.Nat.{ℕ, zero, suc, _+_, _-_, _≤_}
 use lib.Dec.{eqb}
 use Rattle.text.specs.declared.Found.{Found}

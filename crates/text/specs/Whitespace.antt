@@ -1,6 +1,6 @@
 -- 01, Characters: whitespace characters and line ends, as they stand in the bytes of a text. `Unicode` has their code points.
 use mathlib.Core.Path.{_≡_}
-use mathlib.Core.Bool.{Bool, true, false, _&&_, _||_, cond}
+use mathlib.Core.Bool.{Bool, _&&_, _||_, cond}
 use mathlib.Core.List.{List}
 use Prim.Native.Nat.{ℕ, _+_, _≤_}
 use lib.Dec.{eqb, ltb}
