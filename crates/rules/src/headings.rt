@@ -11,20 +11,16 @@ use crate::Heading;
 use crate::Label;
 use crate::Target;
 use area::read_rule;
+use fault::kinds::INVALID_NAME;
+use fault::kinds::INVALID_START_STATE;
+use fault::kinds::MISSING_SPACE;
+use fault::kinds::UNKNOWN_START_STATE;
 use names::find_rule;
 use names::get_start_state_by_name;
 use text::Found;
 use text::scan::find_byte;
 use text::scan::last_blank;
 use text::whitespace::byte_at;
-
-const MISSING_SPACE: u16 = 3;
-
-const INVALID_NAME: u16 = 4;
-
-const UNKNOWN_START_STATE: u16 = 5;
-
-const INVALID_START_STATE: u16 = 7;
 
 // ---- the target, behind the blank at r of a line trimmed at t
 
