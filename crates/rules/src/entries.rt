@@ -55,7 +55,7 @@ fn next_entry(
 }
 
 // Each name between the `<` at i and the `>` at g, in turn.
-pub fn parse_entries(
+pub fn parse_start_states(
     src: &[u8],
     i: usize,
     g: usize,

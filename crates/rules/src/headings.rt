@@ -25,7 +25,7 @@ use text::whitespace::byte_at;
 // ---- the target, behind the blank at r of a line trimmed at t
 
 // 2 push for `+`, 3 pop for `-`, else 1 replace.
-fn operation_of(x: u8) -> u16
+fn parse_start_state_ops(x: u8) -> u16
     ensures { λ r. ⌜ r ≡ operationOf x ⌝ }
 {
     if x == b'+' {
@@ -78,7 +78,14 @@ fn target_to(src: &[u8], r: usize, t: usize, area1: &[u8], n1: u16) -> Target
 {
     let g = find_byte(src, r + 1, t, b'>');
     if g < t {
-        return target_by(src, r, g, operation_of(byte_at(src, r + 2)), area1, n1);
+        return target_by(
+            src,
+            r,
+            g,
+            parse_start_state_ops(byte_at(src, r + 2)),
+            area1,
+            n1,
+        );
     }
     Target::Wrong(INVALID_START_STATE, r as u16)
 }
