@@ -49,6 +49,10 @@ unfoldable pub isEscapeLetter : ℕ → Bool
 isEscapeLetter b =
     among (0x61 ∷ 0x66 ∷ 0x6e ∷ 0x72 ∷ 0x74 ∷ 0x76 ∷ 0x70 ∷ 0x50 ∷ 0x64 ∷ 0x44 ∷ 0x73 ∷ 0x53 ∷ 0x77 ∷ 0x57 ∷ 0x41 ∷ 0x7a ∷ []) b
 
+-- a meta character, a digit or an escape letter: an escape of it stays as it is (01, Rules)
+unfoldable pub isAlwaysKept : ℕ → Bool
+isAlwaysKept b = isMetaCharacter b || (isDigit b || isEscapeLetter b)
+
 -- the number x has a bit of the mask m
 abbrev pub has : ℕ → ℕ → Bool
 has x m = not (eqb (bitAnd x m) 0)

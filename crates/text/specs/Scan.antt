@@ -22,9 +22,13 @@ skipLineEnds s i = skip (lineEndLen s) (length s) i
 abbrev pub skipBlanks : List ℕ → ℕ → ℕ
 skipBlanks s i = first (λ k. not (isBlank (byte s k))) i (length s)
 
+-- the first line end from i to before e, or e
+abbrev pub findLineEnd : List ℕ → ℕ → ℕ → ℕ
+findLineEnd s i e = first (atLineEnd s) i e
+
 -- the end of the line that i stands in: the first line end from i on, or the end of the text
 abbrev pub lineEnd : List ℕ → ℕ → ℕ
-lineEnd s i = first (atLineEnd s) i (length s)
+lineEnd s i = findLineEnd s i (length s)
 
 -- the first whitespace character from i to before e, or e
 abbrev pub findWhitespace : List ℕ → ℕ → ℕ → ℕ

@@ -3,7 +3,7 @@ use mathlib.Core.Path.{_≡_}
 use mathlib.Core.Bool.{Bool, _&&_, _||_, cond}
 use mathlib.Core.List.{List}
 use Prim.Native.Nat.{ℕ, _+_, _≤_}
-use lib.Dec.{eqb, ltb}
+use lib.Dec.{eqb, ltb, leb}
 use lib.ListN.{getD, length}
 use Rattle.text.specs.Class.{isWhitespaceByte, isLineEnd}
 
@@ -46,6 +46,10 @@ atWhitespace s i = ltb 0 (whitespaceLen s i)
 -- a line end starts at i
 abbrev pub atLineEnd : List ℕ → ℕ → Bool
 atLineEnd s i = ltb 0 (lineEndLen s i)
+
+-- the bytes that a line end may start with: U+000A to U+000D, and E2
+abbrev pub mayEndLine : ℕ → Bool
+mayEndLine a = (leb 0x0a a && leb a 0x0d) || eqb a 0xe2
 
 -- what a function that measures a character at i answers: n, and that many bytes stand there
 pub record Width (s : List ℕ) (i n r : ℕ) : Type 0 where
