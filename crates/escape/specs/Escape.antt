@@ -4,7 +4,7 @@ use mathlib.Core.Bool.{Bool, cond, not, _&&_, _||_}
 use mathlib.Core.List.{List, [], _∷_, _++_}
 use lib.Dec.{eqb, ltb}
 use lib.ListN.{length}
-use Rattle.text.specs.Class.{among, isDigit, isHexDigit, isMetaCharacter, isEscapeLetter}
+use Rattle.text.specs.Class.{among, isHexDigit, isAlwaysKept}
 use Rattle.text.specs.Walk.{first, repeat}
 use Rattle.text.specs.Whitespace.{byte}
 use Rattle.text.specs.Range.{part}
@@ -35,9 +35,13 @@ charEnd s c q = first (λ k. not (isContinuation (byte s k))) (q + 1) c
 unfoldable pub isCodeLetter : ℕ → Bool
 isCodeLetter b = among (0x78 ∷ 0x75 ∷ 0x55 ∷ []) b
 
--- whether the backslash before the byte x is kept: x is a meta character, a digit or an escape letter, or a code letter whose next byte y is a hex digit; more says that there is such a byte (01, Rules)
+-- the byte x is a code letter and the next byte y a hex digit; more says that there is such a byte (01, Rules)
+unfoldable pub isCode : ℕ → ℕ → Bool → Bool
+isCode x y more = isCodeLetter x && (more && isHexDigit y)
+
+-- whether the backslash before the byte x is kept: x is a meta character, a digit or an escape letter, or starts a code (01, Rules)
 unfoldable pub isKeptBy : ℕ → ℕ → Bool → Bool
-isKeptBy x y more = isMetaCharacter x || (isDigit x || (isEscapeLetter x || (isCodeLetter x && (more && isHexDigit y))))
+isKeptBy x y more = isAlwaysKept x || isCode x y more
 
 -- the escape whose character starts at q is of the kept kind (01, Rules)
 unfoldable pub isKept : List ℕ → ℕ → ℕ → Bool

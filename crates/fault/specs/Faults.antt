@@ -1,8 +1,8 @@
 -- The fault list: a fault is one or more spans with its number, one after the other (01, Areas, 6).
 use Prim.Native.Nat.{ℕ, _+_, _-_}
 use mathlib.Core.Path.{_≡_}
-use mathlib.Core.Bool.{Bool, true, false, cond, not, _&&_, _||_}
-use mathlib.Core.List.{List, [], _∷_, _++_}
+use mathlib.Core.Bool.{Bool, cond, not, _&&_, _||_}
+use mathlib.Core.List.{List, [], _∷_}
 use mathlib.Core.Option.{Option, none, some}
 use lib.Dec.{eqb, ltb}
 use lib.ListN.{length}
@@ -14,7 +14,7 @@ use Rattle.area.specs.declared.Fault.{Fault}
 use Rattle.area.specs.Areas.{room, insertAt}
 use Rattle.area.specs.Records.{nthFault, faultWidth, mostOthers}
 use Rattle.area.specs.declared.Appended.{Appended}
-use Rattle.area.specs.declared.Appended.the-variants.{Next, Full}
+use Rattle.area.specs.declared.Appended.the-variants.{Next}
 use Rattle.area.specs.Contents.{append, faultFormat, contents, Held, leftBy}
 
 -- the kinds, in the order of LexErrorKind (01, Areas, 6)

@@ -1,6 +1,6 @@
 -- What a step of the parse comes to, and how steps follow one another. What the step writes is its state, a variable here.
 use Prim.Native.Nat.{ℕ, zero, suc}
-use mathlib.Core.Bool.{Bool, true, false, cond}
+use mathlib.Core.Bool.{Bool, cond}
 use mathlib.Core.Option.{Option, none, some}
 use mathlib.Core.Path.{_≡_}
 use Rattle.fault.specs.declared.Progress.{Progress}

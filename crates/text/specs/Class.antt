@@ -1,7 +1,7 @@
 -- 01, Characters: the classes of a byte. A byte of 128 or more is in none of them.
 use Prim.Native.Nat.{ℕ}
 use mathlib.Core.Path.{_≡_}
-use mathlib.Core.Bool.{Bool, true, false, _&&_, _||_, not}
+use mathlib.Core.Bool.{Bool, false, _&&_, _||_, not}
 use mathlib.Core.List.{List, [], _∷_}
 use lib.Dec.{leb, eqb}
 use lib.Bits.{bitAnd}
@@ -48,6 +48,10 @@ isMetaCharacter b =
 unfoldable pub isEscapeLetter : ℕ → Bool
 isEscapeLetter b =
     among (0x61 ∷ 0x66 ∷ 0x6e ∷ 0x72 ∷ 0x74 ∷ 0x76 ∷ 0x70 ∷ 0x50 ∷ 0x64 ∷ 0x44 ∷ 0x73 ∷ 0x53 ∷ 0x77 ∷ 0x57 ∷ 0x41 ∷ 0x7a ∷ []) b
+
+-- a meta character, a digit or an escape letter: an escape of it stays as it is (01, Rules)
+unfoldable pub isAlwaysKept : ℕ → Bool
+isAlwaysKept b = isMetaCharacter b || (isDigit b || isEscapeLetter b)
 
 -- the number x has a bit of the mask m
 abbrev pub has : ℕ → ℕ → Bool

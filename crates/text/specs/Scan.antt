@@ -1,5 +1,5 @@
 -- The scanners that declarations and rules are read with, each one walk (01, Declarations and Rules).
-use mathlib.Core.Bool.{Bool, true, false, cond, not}
+use mathlib.Core.Bool.{cond, not}
 use mathlib.Core.List.{List}
 use Prim.Native.Nat.{ℕ, _+_, _-_, _%_, min}
 use lib.Dec.{eqb, leb}
@@ -22,9 +22,13 @@ skipLineEnds s i = skip (lineEndLen s) (length s) i
 abbrev pub skipBlanks : List ℕ → ℕ → ℕ
 skipBlanks s i = first (λ k. not (isBlank (byte s k))) i (length s)
 
+-- the first line end from i to before e, or e (01, Characters)
+abbrev pub findLineEnd : List ℕ → ℕ → ℕ → ℕ
+findLineEnd s i e = first (atLineEnd s) i e
+
 -- the end of the line that i stands in: the first line end from i on, or the end of the text (01, Characters)
 abbrev pub lineEnd : List ℕ → ℕ → ℕ
-lineEnd s i = first (atLineEnd s) i (length s)
+lineEnd s i = findLineEnd s i (length s)
 
 -- the first whitespace character from i to before e, or e (01, Declarations)
 abbrev pub findWhitespace : List ℕ → ℕ → ℕ → ℕ

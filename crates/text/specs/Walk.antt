@@ -1,6 +1,6 @@
--- Three walks over positions, of which every scanner is an instance. A `let` keeps a walk from computing past its answer.
+-- Walks over positions, of which every scanner is an instance. A `let` keeps a walk from computing past its answer.
 use mathlib.Core.Path.{_≡_}
-use mathlib.Core.Bool.{Bool, true, false, cond}
+use mathlib.Core.Bool.{Bool, false, cond, _||_}
 use Prim.Native.Nat.{ℕ, zero, suc, _+_, _-_, _≤_}
 use lib.Dec.{eqb}
 use Rattle.text.specs.declared.Found.{Found}
@@ -25,6 +25,11 @@ lastOf test i (suc n) = let r = lastOf test i n in cond (test (i + n)) (At (i + 
 unfoldable pub last : (ℕ → Bool) → ℕ → ℕ → Found
 unfolding lastOf
 last test i e = lastOf test i (e - i)
+
+-- one of the first n positions passes the test
+unfoldable pub any : (ℕ → Bool) → ℕ → Bool
+any test zero = false
+any test (suc n) = any test n || test n
 
 -- k, then next k, and so on until it stays the same: at most n times
 unfoldable pub repeat : (ℕ → ℕ) → ℕ → ℕ → ℕ
