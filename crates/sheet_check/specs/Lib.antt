@@ -1,1 +1,2 @@
 pub mod SheetCheck
+pub mod Pattern
