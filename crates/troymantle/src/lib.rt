@@ -6,6 +6,8 @@ ghost use Rattle.troymantle.specs.Words.{inWords, leftInWords};
 use parse::Answer;
 use parse::call::parse;
 
+mod pattern;
+
 fn word_of(answer: Answer) -> u64
     ensures { λ r. ⌜ r ≡ wordOf answer ⌝ }
 {

@@ -1,0 +1,31 @@
+-- `sheet_check::check::good_states` meets its contract: the tests so far are those of the records so far.
+use mathlib.Core.Path.{_≡_}
+use Prim.Native.Nat.{_≤_, _-_}
+use Rattle.area.specs.Contents.{contents, stateFormat}
+use Rattle.sheet_check.specs.SheetCheck.{all, goodState}
+use Rattle.sheet_check.proofs.Judging.{judging, all-next}
+use Rattle.sheet_check.proofs.check.good_states.Statement.{statement}
+use Rattle.sheet_check.proofs.check.good_states.Tie as tie
+
+abbrev Inv-loop : tie.InvT-loop
+Inv-loop area count n most good₀ k₀ good k = (k ≤ count) × (good ≡ all (goodState n) (contents stateFormat area k))
+
+abbrev μ-loop : tie.MeasureT-loop
+μ-loop area count n most good₀ k₀ good k = count - k
+
+loop-again : tie.Need-loop-again Inv-loop μ-loop
+loop-again c = (search judging, all-next stateFormat _ _ _ _ _ _ (c .before .before .before .loop .inv .1) (c .before .read-state .ensures) (c .good-state .ensures))
+
+pub good-states-spec : {M : Type 1} → statement M
+good-states-spec =
+    tie.close
+    (tie.spec
+    Inv-loop
+    μ-loop
+    (λ c. search judging)
+    (λ c κs. search judging)
+    (λ c κs. search judging)
+    (λ c. search judging)
+    (λ c. search judging)
+    loop-again
+    (λ c. search judging))
