@@ -1,0 +1,4 @@
+pub mod Going
+pub mod Elements
+pub mod Places
+pub mod Declaring
