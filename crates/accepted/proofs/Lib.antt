@@ -4,3 +4,4 @@ pub mod Places
 pub mod Declaring
 pub mod Headings
 pub mod Ruling
+pub mod Accepting
