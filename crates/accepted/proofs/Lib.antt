@@ -5,3 +5,5 @@ pub mod Declaring
 pub mod Headings
 pub mod Ruling
 pub mod Accepting
+pub mod Checking
+pub mod Decoding

@@ -13,7 +13,8 @@ use Rattle.area.specs.declared.Expected.{Expected}
 use Rattle.area.specs.Records.{nthState, nthRule, nthExpected, stateOf, ruleOf, expectedOf}
 use Rattle.area.specs.Contents.{Format, stateFormat, ruleFormat, entryFormat, textFormat, expectedFormat}
 use Rattle.declarations.specs.Declarations.{state}
-use Rattle.parse.specs.Parse.{Contents, Caps}
+use Rattle.parse.specs.Parse.{Contents, Caps, Left}
+use Rattle.sheet_check.specs.SheetCheck.{SheetBytes, sheetBytes}
 
 -- P holds of each element of the list and its place; d is what stands past the end
 pub record Each {A : Type 0} (P : ℕ → A → Type 0) (d : A) (xs : List A) : Type 0 where
@@ -90,3 +91,15 @@ pub record ContentsHold (s : List ℕ) (k : Caps) (c : Contents) : Type 0 where
   pub text : Fits textFormat (k .c4) (c .text)
   pub expected : ExpectedsHold (length s) (k .c5) (c .expected)
   pub faults : c .faults ≡ []
+
+-- each list fits its area
+pub record ContentsFit (k : Caps) (c : Contents) : Type 0 where
+  pub states : Fits stateFormat (k .c1) (c .states)
+  pub rules : Fits ruleFormat (k .c2) (c .rules)
+  pub lists : Fits entryFormat (k .c3) (c .lists)
+  pub text : Fits textFormat (k .c4) (c .text)
+  pub expected : Fits expectedFormat (k .c5) (c .expected)
+
+-- the sheet that the parse call of the source s leaves: its areas 1 to 5 and its counts
+abbrev pub sheetLeftBy : List ℕ → Left → SheetBytes
+sheetLeftBy s l = sheetBytes s (l .area1) (l .area2) (l .area3) (l .area4) (l .area5) (l .counts)
