@@ -2,7 +2,7 @@
 -- determines its records.
 use Prim.Native.Nat.{ℕ, _+_, _*_, _≤_, _<_}
 use mathlib.Core.Path.{_≡_, refl, sym, ap, subst, _∙_}
-use mathlib.Core.Bool.{Bool, true, false, cond, _&&_}
+use mathlib.Core.Bool.{Bool, true, false, cond, _&&_, false≢true}
 use mathlib.Core.List.{List, []}
 use native.Mathlib.Omega.{arith}
 use borrow.Author.Tests.{le-leb}
@@ -20,7 +20,7 @@ use Rattle.parse.specs.declared.Answer.{Answer}
 use Rattle.parse.specs.declared.Answer.the-variants.{Accepted, LongFile, StrayFlag, NotText, AreaFull, FaultyFile}
 use Rattle.parse.specs.Parse.{Contents, Caps, Outcome, long, stray, untext, short, faulty, accepted, outcome, Left, laid, countsOf, sheetLeft, leaves, parseCall}
 use Rattle.sheet_check.specs.SheetCheck.{SheetBytes, sheetBytes, decoded, goodContents, longEnough, sheetCheck}
-use Rattle.accepted.specs.Accepted.{Fits, ContentsFit, sheetLeftBy}
+use Rattle.accepted.specs.Accepted.{Fits, ContentsFit, AreasHold, sheetLeftBy}
 use Rattle.accepted.proofs.Checking.{accepted-good, accepted-fits, accepted-faultless}
 
 -- ---- one list in its area
@@ -62,6 +62,16 @@ module _ (s : List ℕ) (k : Caps) (c : Contents) (f : ContentsFit k c) where
   laid-enough =
       rw (le-leb _ _ (laid-long state-sound (f .states)), le-leb _ _ (laid-long rule-sound (f .rules)), le-leb _ _ (laid-long entry-sound (f .lists)), le-leb (length (c .text)) (length (laid textFormat (k .c4) (c .text))) (omega (arith, laid-long text-sound (f .text))), le-leb _ _ (laid-long expected-sound (f .expected)))
 
+-- ---- the call
+
+abbrev isAccepted : Answer → Bool
+isAccepted Accepted = true
+isAccepted LongFile = false
+isAccepted StrayFlag = false
+isAccepted NotText = false
+isAccepted (AreaFull n) = false
+isAccepted (FaultyFile n) = false
+
 module _ (s : List ℕ) (flags : ℕ) (verdicts : List ℕ) (k : Caps) where
   module _ (c : Contents) (is : outcome s flags verdicts k ≡ accepted c) where
     abbrev sheet : SheetBytes
@@ -82,3 +92,30 @@ module _ (s : List ℕ) (flags : ℕ) (verdicts : List ℕ) (k : Caps) where
     unfolding sheetCheck
     accepted-checks =
         rw (accepted-decodes, accepted-leaves, laid-enough s k c (accepted-fits s flags verdicts k c is)) (accepted-good s flags verdicts k c is)
+
+    -- each area holds its list, and zeros behind it
+    pub accepted-held : AreasHold c (parseCall s flags verdicts k)
+    accepted-held =
+        let f = accepted-fits s flags verdicts k c is in
+        subst (AreasHold c) (sym accepted-leaves)
+        (record {
+          states = laid-held state-sound (f .states);
+          rules = laid-held rule-sound (f .rules);
+          lists = laid-held entry-sound (f .lists);
+          text = laid-held text-sound (f .text);
+          expected = laid-held expected-sound (f .expected);
+          counts = refl;
+        })
+
+  -- a call that answers that it accepts has contents
+  pub answer-accepted : parseCall s flags verdicts k .answer ≡ Accepted → (c : Contents) × (outcome s flags verdicts k ≡ accepted c)
+  unfolding parseCall leaves
+  answer-accepted e = by (outcome s flags verdicts k) refl e
+    where
+      by : (o : Outcome) → outcome s flags verdicts k ≡ o → leaves k o .answer ≡ Accepted → (c : Contents) × (outcome s flags verdicts k ≡ accepted c)
+      by (accepted c) q z = (c, q)
+      by long q z = absurd (false≢true (ap isAccepted z))
+      by stray q z = absurd (false≢true (ap isAccepted z))
+      by untext q z = absurd (false≢true (ap isAccepted z))
+      by (short n) q z = absurd (false≢true (ap isAccepted z))
+      by (faulty fs) q z = absurd (false≢true (ap isAccepted z))

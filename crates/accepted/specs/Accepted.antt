@@ -11,9 +11,9 @@ use Rattle.area.specs.declared.State.{State}
 use Rattle.area.specs.declared.Rule.{Rule}
 use Rattle.area.specs.declared.Expected.{Expected}
 use Rattle.area.specs.Records.{nthState, nthRule, nthExpected, stateOf, ruleOf, expectedOf}
-use Rattle.area.specs.Contents.{Format, stateFormat, ruleFormat, entryFormat, textFormat, expectedFormat}
+use Rattle.area.specs.Contents.{Format, Held, stateFormat, ruleFormat, entryFormat, textFormat, expectedFormat}
 use Rattle.declarations.specs.Declarations.{state}
-use Rattle.parse.specs.Parse.{Contents, Caps, Left}
+use Rattle.parse.specs.Parse.{Contents, Caps, Left, countsOf}
 use Rattle.sheet_check.specs.SheetCheck.{SheetBytes, sheetBytes}
 
 -- P holds of each element of the list and its place; d is what stands past the end
@@ -103,3 +103,12 @@ pub record ContentsFit (k : Caps) (c : Contents) : Type 0 where
 -- the sheet that the parse call of the source s leaves: its areas 1 to 5 and its counts
 abbrev pub sheetLeftBy : List ℕ → Left → SheetBytes
 sheetLeftBy s l = sheetBytes s (l .area1) (l .area2) (l .area3) (l .area4) (l .area5) (l .counts)
+
+-- areas 1 to 5 hold the lists and zeros behind them, and the counts are their lengths
+pub record AreasHold (c : Contents) (l : Left) : Type 0 where
+  pub states : Held stateFormat (l .area1) (length (c .states))
+  pub rules : Held ruleFormat (l .area2) (length (c .rules))
+  pub lists : Held entryFormat (l .area3) (length (c .lists))
+  pub text : Held textFormat (l .area4) (length (c .text))
+  pub expected : Held expectedFormat (l .area5) (length (c .expected))
+  pub counts : l .counts ≡ countsOf c
