@@ -20,9 +20,11 @@ use Rattle.fault.specs.Faults.{addFault}
 use Rattle.declarations.specs.Declarations.{Declared, declarations, state}
 use Rattle.rules.specs.Rules.{Ruled, sheetOf, rulesSection}
 use Rattle.parse.specs.Parse.{Contents, Caps, declarationCaps, ruleCaps, Outcome, long, stray, untext, short, faulty, accepted, closed, ending, judge, contentsOf, noRules, rulesFrom, undeclared, withStates, opening, file, outcome}
-use Rattle.accepted.specs.Accepted.{Each, Fits, StateHolds, ExpectedHolds, EntryHolds, RuleHolds, StatesHold, ExpectedsHold, EntriesHold, NamesDiffer, RulesHold, ContentsHold}
+use Rattle.sheet_check.specs.SheetCheck.{all}
+use Rattle.accepted.specs.Accepted.{Each, Fits, StateHolds, ExpectedHolds, EntryHolds, RuleHolds, StatesHold, ExpectedsHold, EntriesHold, NamesDiffer, RulesHold, ContentsHold, isByte}
 use Rattle.accepted.proofs.Going.{Yields, yields-next, yields-onto, yields-append}
 use Rattle.accepted.proofs.Elements.{each-none, each-snoc}
+use Rattle.accepted.proofs.ByteLists.{utf8-bytes}
 use Rattle.accepted.proofs.Declaring.{DeclaredHolds, declarations-hold}
 use Rattle.accepted.proofs.Ruling.{SheetHolds, rules-hold}
 
@@ -63,6 +65,7 @@ nothing-fits F cap = record { few = omega arith; fits = omega arith }
 
 module _ (s : List ℕ) (flags : ℕ) (verdicts : List ℕ) (k : Caps) where
   no-rules-hold : (d : Declared) → SheetHolds s (length (d .states)) (ruleCaps k) (sheetOf (noRules d))
+  unfolding all
   no-rules-hold d = record {
     rules = record {
       each = each-none (RuleHolds (length s) (length (d .states)) 0 0) (ruleOf (λ _. 0));
@@ -70,15 +73,15 @@ module _ (s : List ℕ) (flags : ℕ) (verdicts : List ℕ) (k : Caps) where
       fits = nothing-fits ruleFormat (k .c2);
     };
     lists = record { each = each-none (EntryHolds (length (d .states))) 0; fits = nothing-fits entryFormat (k .c3) };
-    text = nothing-fits textFormat (k .c4);
+    text = record { bytes = refl; fits = nothing-fits textFormat (k .c4) };
   }
 
-  rules-accept : (i : ℕ) (d : Declared) → DeclaredHolds s (declarationCaps k) i d → Accepts (ContentsHold s k) (rulesFrom s flags verdicts k i d)
+  rules-accept : all isByte s ≡ true → (i : ℕ) (d : Declared) → DeclaredHolds s (declarationCaps k) i d → Accepts (ContentsHold s k) (rulesFrom s flags verdicts k i d)
   unfolding rulesFrom
-  rules-accept i d h =
+  rules-accept source i d h =
       ending-accepts (ContentsHold s k) (λ _ r. SheetHolds s (length (d .states)) (ruleCaps k) (sheetOf r)) (λ r. r .faults) (k .c6)
       (rulesSection s flags verdicts (d .states) (ruleCaps k) (k .c6) i (noRules d)) (λ j r. judge (contentsOf d r))
-      (rules-hold s flags verdicts (d .states) (h .states .some) (ruleCaps k) (k .c6) i (noRules d) (h .place) (no-rules-hold d))
+      (rules-hold s flags verdicts (d .states) (h .states .some) source (ruleCaps k) (k .c6) i (noRules d) (h .place) (no-rules-hold d))
       (λ j r g. judge-accepts (ContentsHold s k) (contentsOf d r)
       (λ e. record { states = h .states; rules = g .rules; lists = g .lists; text = g .text; expected = h .expected; faults = e }))
 
@@ -103,11 +106,11 @@ module _ (s : List ℕ) (flags : ℕ) (verdicts : List ℕ) (k : Caps) where
       (λ i xs h. record { place = h .0; states = h .1; expected = record { each = each-none (ExpectedHolds (length s)) (expectedOf (λ _. 0)); fits = nothing-fits expectedFormat (k .c5) } }))
       (λ i d h. declarations-hold s flags (declarationCaps k) i d h)
 
-  file-accepts : Accepts (ContentsHold s k) (file s flags verdicts k)
+  file-accepts : all isByte s ≡ true → Accepts (ContentsHold s k) (file s flags verdicts k)
   unfolding file
-  file-accepts =
+  file-accepts source =
       ending-accepts (ContentsHold s k) (DeclaredHolds s (declarationCaps k)) (λ d. d .faults) (k .c6) (opening s flags (declarationCaps k) undeclared) (rulesFrom s flags verdicts k)
-      opening-holds rules-accept
+      opening-holds (rules-accept source)
 
   -- the tests before the file is read were passed
   record Passed (c : Contents) : Type 0 where
@@ -128,7 +131,7 @@ module _ (s : List ℕ) (flags : ℕ) (verdicts : List ℕ) (k : Caps) where
   outcome-accepts =
       by-test (Accepts Passed) (ltb 65535 (length s)) long (cond (ltb 3 flags) stray (cond (utf8 s) (file s flags verdicts k) untext)) (λ _. tt)
       (λ l. by-test (Accepts Passed) (ltb 3 flags) stray (cond (utf8 s) (file s flags verdicts k) untext) (λ _. tt)
-      (λ _. by-test (Accepts Passed) (utf8 s) (file s flags verdicts k) untext (λ t. passed (ltb-false 65535 (length s) l) t (file s flags verdicts k) file-accepts) (λ _. tt)))
+      (λ _. by-test (Accepts Passed) (utf8 s) (file s flags verdicts k) untext (λ t. passed (ltb-false 65535 (length s) l) t (file s flags verdicts k) (file-accepts (utf8-bytes s t))) (λ _. tt)))
 
   module _ (c : Contents) (is : outcome s flags verdicts k ≡ accepted c) where
     -- what holds of the contents

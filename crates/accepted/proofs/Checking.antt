@@ -16,8 +16,8 @@ use Rattle.area.specs.declared.Expected.{Expected}
 use Rattle.area.specs.Records.{stateOf, ruleOf, expectedOf, nthRule}
 use Rattle.parse.specs.Parse.{Contents, Caps, outcome, accepted}
 use Rattle.sheet_check.specs.SheetCheck.{all, declared, goodState, goodRule, goodExpected, goodContents}
-use Rattle.accepted.specs.Accepted.{Each, StateHolds, ExpectedHolds, EntryHolds, RuleHolds, ContentsHold, ContentsFit, nameOf}
-use Rattle.accepted.proofs.Elements.{each-weaken, each-all}
+use Rattle.accepted.specs.Accepted.{Each, StateHolds, ExpectedHolds, EntryHolds, RuleHolds, ContentsHold, ContentsFit, nameOf, isByte}
+use Rattle.accepted.proofs.Elements.{all-pass}
 use Rattle.accepted.proofs.Accepting.{accepted-holds}
 
 -- ---- each record
@@ -35,10 +35,6 @@ unfolding goodRule
 rule-good n m a b j x h =
     rw (h .hasId, le-leb (x .named) 1 (h .named), le-leb (x .place) 1 (h .place), le-leb (x .«span_start») (x .«span_end») (h .ordered), le-leb (x .«span_end») n (h .inside), le-leb (x .«name_from» + x .«name_length») n (h .name), le-leb (x .«text_from» + x .«text_length») (cond (eqb (x .place) 1) b n) (h .text), le-leb (x .«list_from» + x .«list_count») a (h .list), le-leb (x .operation) 3 (h .operation), lt-ltb (x .target) m (h .target))
 
--- what holds of each element by its place, and implies a test, passes the test of all
-all-pass : {A : Type 0} (P : ℕ → A → Type 0) (test : A → Bool) (d : A) (xs : List A) → ((j : ℕ) (x : A) → P j x → test x ≡ true) → Each P d xs → all test xs ≡ true
-all-pass P test d xs f e = each-all test d xs (each-weaken P d xs (λ _ x. test x ≡ true) f e)
-
 -- ---- the contents
 
 contents-good : (s : List ℕ) (k : Caps) (c : Contents) → ContentsHold s k c → goodContents (length s) c ≡ true
@@ -46,7 +42,7 @@ unfolding goodContents
 contents-good s k c h =
     let n = length s in
     let m = length (c .states) in
-    rw (le-leb 1 m (h .states .some), le-leb m 64 (h .states .fits .few), le-leb (length (c .rules)) 2048 (h .rules .fits .few), all-pass (StateHolds n) (goodState n) (stateOf (λ _. 0)) (c .states) (state-good n) (h .states .each), all-pass (RuleHolds n m (length (c .lists)) (length (c .text))) (goodRule n m (length (c .lists)) (length (c .text))) (ruleOf (λ _. 0)) (c .rules) (rule-good n m (length (c .lists)) (length (c .text))) (h .rules .each), all-pass (EntryHolds m) (declared m) 0 (c .lists) (λ j id. lt-ltb id m) (h .lists .each), all-pass (ExpectedHolds n) (goodExpected n) (expectedOf (λ _. 0)) (c .expected) (expected-good n) (h .expected .each))
+    rw (le-leb 1 m (h .states .some), le-leb m 64 (h .states .fits .few), le-leb (length (c .rules)) 2048 (h .rules .fits .few), all-pass (StateHolds n) (goodState n) (stateOf (λ _. 0)) (c .states) (λ j x _. state-good n j x) (h .states .each), all-pass (RuleHolds n m (length (c .lists)) (length (c .text))) (goodRule n m (length (c .lists)) (length (c .text))) (ruleOf (λ _. 0)) (c .rules) (λ j x _. rule-good n m (length (c .lists)) (length (c .text)) j x) (h .rules .each), all-pass (EntryHolds m) (declared m) 0 (c .lists) (λ j id _. lt-ltb id m) (h .lists .each), all-pass (ExpectedHolds n) (goodExpected n) (expectedOf (λ _. 0)) (c .expected) (λ j x _. expected-good n j x) (h .expected .each))
 
 module _ (s : List ℕ) (flags : ℕ) (verdicts : List ℕ) (k : Caps) (c : Contents) (is : outcome s flags verdicts k ≡ accepted c) where
   -- the contents of an accepted parse pass the check of contents
@@ -63,7 +59,11 @@ module _ (s : List ℕ) (flags : ℕ) (verdicts : List ℕ) (k : Caps) (c : Cont
   pub accepted-fits : ContentsFit k c
   accepted-fits =
       let h = accepted-holds s flags verdicts k c is in
-      record { states = h .states .fits; rules = h .rules .fits; lists = h .lists .fits; text = h .text; expected = h .expected .fits }
+      record { states = h .states .fits; rules = h .rules .fits; lists = h .lists .fits; text = h .text .fits; expected = h .expected .fits }
+
+  -- rewritten text consists of bytes
+  pub accepted-text-bytes : all isByte (c .text) ≡ true
+  accepted-text-bytes = accepted-holds s flags verdicts k c is .text .bytes
 
   -- an accepted parse has no faults
   pub accepted-faultless : c .faults ≡ []

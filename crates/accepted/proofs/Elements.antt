@@ -28,11 +28,15 @@ module _ {A : Type 0} (P : ℕ → A → Type 0) (d : A) (xs : List A) where
         (λ q. subst (λ (i : ℕ). P i (getD (xs ++ (x ∷ [])) i d)) (sym q) (subst (P (length xs)) (sym (getD-append-seam xs x [] d)) p));
   }
 
-  pub each-weaken : (Q : ℕ → A → Type 0) → ((j : ℕ) (x : A) → P j x → Q j x) → Each P d xs → Each Q d xs
-  each-weaken Q f e = record { at = λ j h. f j (getD xs j d) (e .at j h) }
+  pub each-weaken : (Q : ℕ → A → Type 0) → ((j : ℕ) (x : A) → j < length xs → P j x → Q j x) → Each P d xs → Each Q d xs
+  each-weaken Q f e = record { at = λ j h. f j (getD xs j d) h (e .at j h) }
 
 -- a test that each element passes passes all of them
 pub each-all : {A : Type 0} (test : A → Bool) (d : A) (xs : List A) → Each (λ _ x. test x ≡ true) d xs → all test xs ≡ true
 unfolding all
 each-all test d [] e = refl
 each-all test d (x ∷ xs) e = rw (e .at 0 (suc-le-suc zero-le)) (each-all test d xs (record { at = λ j h. e .at (suc j) (suc-le-suc h) }))
+
+-- what holds of each element by its place, and implies a test, passes the test of all
+pub all-pass : {A : Type 0} (P : ℕ → A → Type 0) (test : A → Bool) (d : A) (xs : List A) → ((j : ℕ) (x : A) → j < length xs → P j x → test x ≡ true) → Each P d xs → all test xs ≡ true
+all-pass P test d xs f e = each-all test d xs (each-weaken P d xs (λ _ x. test x ≡ true) f e)

@@ -36,10 +36,12 @@ use Rattle.rules.specs.Rules.{Sheet, Caps, sheet, entryAt, entryFrom, nextEntry
 use Rattle.rules.specs.Rules as R
 use Rattle.rules.proofs.Heads.{fresh-from, fresh-to}
 use Rattle.rules.proofs.Patterns.{listed-to}
-use Rattle.accepted.specs.Accepted.{Each, Fits, RuleHolds, EntryHolds, NamesDiffer, RulesHold, EntriesHold, nameOf}
+use Rattle.sheet_check.specs.SheetCheck.{all}
+use Rattle.accepted.specs.Accepted.{Each, Fits, RuleHolds, EntryHolds, NamesDiffer, RulesHold, EntriesHold, TextHolds, nameOf, isByte}
 use Rattle.accepted.proofs.Going.{Yields, yields-next, yields-onto, yields-append, yields-written, yields-loop, room-holds}
 use Rattle.accepted.proofs.Elements.{each-snoc, each-weaken, place-cases}
 use Rattle.accepted.proofs.Places.{rule-to, pattern-to}
+use Rattle.accepted.proofs.ByteLists.{all-append, unescaped-bytes}
 use Rattle.accepted.proofs.Headings.{Unused, HeadHolds, heading-holds}
 
 -- ---- a rule more, and more entries and text behind the rules
@@ -75,8 +77,8 @@ module _ (s : List ℕ) (m a b cap : ℕ) (rs : List Rule) where
     fits = h .fits;
   }
     where
-      more : (j : ℕ) (x : Rule) → RuleHolds (length s) m a b j x → RuleHolds (length s) m a′ b′ j x
-      more j x g = record {
+      more : (j : ℕ) (x : Rule) → j < length rs → RuleHolds (length s) m a b j x → RuleHolds (length s) m a′ b′ j x
+      more j x _ g = record {
         hasId = g .hasId;
         id = g .id;
         named = g .named;
@@ -126,7 +128,7 @@ module _ (s : List ℕ) (c3 n : ℕ) (xs : List State) where
 pub record SheetHolds (s : List ℕ) (m : ℕ) (k : Caps) (w : Sheet) : Type 0 where
   pub rules : RulesHold s m (length (w .lists)) (length (w .text)) (k .c2) (w .rules)
   pub lists : EntriesHold m (k .c3) (w .lists)
-  pub text : Fits textFormat (k .c4) (w .text)
+  pub text : TextHolds (k .c4) (w .text)
 
 module _ (s : List ℕ) (m a b : ℕ) where
   record-kept : (verdicts : List ℕ) (c2 i e : ℕ) (x : Rule) (rs : List Rule) → RulesHold s m a b c2 rs → RuleHolds (length s) m a b (length rs) x
@@ -179,7 +181,7 @@ module _ (s : List ℕ) (xs : List State) (verdicts : List ℕ) (k : Caps) (i e 
     listed-kept from len t (bad kind at ids) g = tt
     listed-kept from len t (full n) g = tt
 
-    text-kept : (t : List ℕ) → length (w .text) ≤ length t → Fits textFormat (k .c4) t → Yields Sheets (rewrittenRule verdicts k i e h w (some t))
+    text-kept : (t : List ℕ) → length (w .text) ≤ length t → TextHolds (k .c4) t → Yields Sheets (rewrittenRule verdicts k i e h w (some t))
     unfolding rewrittenRule
     text-kept t l f =
         let a = length (w .lists) in
@@ -192,25 +194,25 @@ module _ (s : List ℕ) (xs : List State) (verdicts : List ℕ) (k : Caps) (i e 
         (head .unused))
         (λ _ rs r. record { rules = r; lists = holds .lists; text = f })
 
-    rewritten-kept : (u : List ℕ) → Yields Sheets (rewrittenRule verdicts k i e h w (append textFormat (k .c4) u (w .text)))
+    rewritten-kept : (u : List ℕ) → all isByte u ≡ true → Yields Sheets (rewrittenRule verdicts k i e h w (append textFormat (k .c4) u (w .text)))
     unfolding append rewrittenRule
-    rewritten-kept u =
+    rewritten-kept u g =
         by-test (λ o. Yields Sheets (rewrittenRule verdicts k i e h w o)) (room 1 (textFormat .most) (k .c4) (length (w .text)) (length u)) (some (w .text ++ u)) none
-        (λ q. text-kept (w .text ++ u) (omega (arith, length-append (w .text) u)) (room-holds textFormat (k .c4) (w .text) u q)) (λ _. tt)
+        (λ q. text-kept (w .text ++ u) (omega (arith, length-append (w .text) u)) (record { bytes = all-append isByte (w .text) u (holds .text .bytes) g; fits = room-holds textFormat (k .c4) (w .text) u q })) (λ _. tt)
 
-    body-kept : (flags c : ℕ) → i ≤ length s → c ≤ length s → (x : Body) → bodyOf s i c ≡ x → Yields Sheets (ruleBody s flags verdicts xs k i e h c x w)
+    body-kept : (flags c : ℕ) → all isByte s ≡ true → i ≤ length s → c ≤ length s → (x : Body) → bodyOf s i c ≡ x → Yields Sheets (ruleBody s flags verdicts xs k i e h c x w)
     unfolding ruleBody
-    body-kept flags c il cl Unclosed q = tt
-    body-kept flags c il cl (Listed g) q =
+    body-kept flags c source il cl Unclosed q = tt
+    body-kept flags c source il cl (Listed g) q =
         listed-kept (g + 1) (c - (g + 1)) (omega (arith, listed-to s i c (bodyOf s i c) refl g q)) (entries s (k .c3) xs i g (w .lists))
         (entries-kept s (k .c3) (length (w .lists)) xs i g (w .lists) (record { longer = le-refl (length (w .lists)); hold = holds .lists }))
-    body-kept flags c il cl Rewritten q = rewritten-kept (unescaped s flags i c)
-    body-kept flags c il cl Plain q =
+    body-kept flags c source il cl Rewritten q = rewritten-kept (unescaped s flags i c) (unescaped-bytes s flags c source i)
+    body-kept flags c source il cl Plain q =
         source-kept i (c - i) (w .lists) (omega arith) (record { longer = le-refl (length (w .lists)); hold = holds .lists })
 
 -- ---- a line, and the section
 
-module _ (s : List ℕ) (flags : ℕ) (verdicts : List ℕ) (xs : List State) (stated : 0 < length xs) (k : Caps) (c6 : ℕ) where
+module _ (s : List ℕ) (flags : ℕ) (verdicts : List ℕ) (xs : List State) (stated : 0 < length xs) (source : all isByte s ≡ true) (k : Caps) (c6 : ℕ) where
   abbrev Lined : ℕ → Ruled → Type 0
   Lined i r = SheetHolds s (length xs) k (sheetOf r)
 
@@ -230,7 +232,7 @@ module _ (s : List ℕ) (flags : ℕ) (verdicts : List ℕ) (xs : List State) (s
       let bt : b < t = fresh-to s i t xs (r .rules) (Fresh b hd) (sym q) b hd refl in
       let c = trimEndUnescaped s i b in
       yields-onto (Sheets s xs verdicts k i e) Lined (withSheet r) (pattern s flags verdicts xs k i e hd c (sheetOf r))
-      (body-kept s xs verdicts k i e (sheetOf r) h hd (heading-holds s xs stated (r .rules) i t (omega arith) b hd q) flags c (omega arith)
+      (body-kept s xs verdicts k i e (sheetOf r) h hd (heading-holds s xs stated (r .rules) i t (omega arith) b hd q) flags c source (omega arith)
       (pattern-to s i b bi (omega arith)) (bodyOf s i c) refl)
       (λ _ w g. g)
 

@@ -2,19 +2,26 @@
 -- and the sheet check at the end of Linking).
 use Prim.Native.Nat.{ℕ, _+_, _*_, _≤_, _<_}
 use mathlib.Core.Path.{_≡_}
-use mathlib.Core.Bool.{cond}
+use mathlib.Core.Bool.{Bool, true, cond}
 use mathlib.Core.List.{List, []}
-use lib.Dec.{eqb}
+use lib.Dec.{eqb, ltb}
 use lib.ListN.{length, getD}
 use Rattle.text.specs.Range.{part}
 use Rattle.area.specs.declared.State.{State}
 use Rattle.area.specs.declared.Rule.{Rule}
 use Rattle.area.specs.declared.Expected.{Expected}
-use Rattle.area.specs.Records.{nthState, nthRule, nthExpected, stateOf, ruleOf, expectedOf}
+use Rattle.area.specs.Records.{nthState, nthRule, nthExpected, stateOf, ruleOf, expectedOf, stateFields, ruleFields, expectedFields}
 use Rattle.area.specs.Contents.{Format, Held, stateFormat, ruleFormat, entryFormat, textFormat, expectedFormat}
 use Rattle.declarations.specs.Declarations.{state}
 use Rattle.parse.specs.Parse.{Contents, Caps, Left, countsOf}
-use Rattle.sheet_check.specs.SheetCheck.{SheetBytes, sheetBytes}
+use Rattle.sheet_check.specs.SheetCheck.{SheetBytes, sheetBytes, all}
+
+-- a number that fits a byte, and one that fits a field (01, the introduction)
+abbrev pub isByte : ℕ → Bool
+isByte v = ltb v 256
+
+abbrev pub isField : ℕ → Bool
+isField v = ltb v 65536
 
 -- P holds of each element of the list and its place; d is what stands past the end
 pub record Each {A : Type 0} (P : ℕ → A → Type 0) (d : A) (xs : List A) : Type 0 where
@@ -78,6 +85,11 @@ pub record EntriesHold (states cap : ℕ) (ids : List ℕ) : Type 0 where
   pub each : Each (EntryHolds states) 0 ids
   pub fits : Fits entryFormat cap ids
 
+-- rewritten text (01, Areas, 4)
+pub record TextHolds (cap : ℕ) (t : List ℕ) : Type 0 where
+  pub bytes : all isByte t ≡ true
+  pub fits : Fits textFormat cap t
+
 pub record RulesHold (s : List ℕ) (states entries rewritten cap : ℕ) (rs : List Rule) : Type 0 where
   pub each : Each (RuleHolds (length s) states entries rewritten) (ruleOf (λ _. 0)) rs
   pub differ : NamesDiffer s rs
@@ -88,7 +100,7 @@ pub record ContentsHold (s : List ℕ) (k : Caps) (c : Contents) : Type 0 where
   pub states : StatesHold (length s) (k .c1) (c .states)
   pub rules : RulesHold s (length (c .states)) (length (c .lists)) (length (c .text)) (k .c2) (c .rules)
   pub lists : EntriesHold (length (c .states)) (k .c3) (c .lists)
-  pub text : Fits textFormat (k .c4) (c .text)
+  pub text : TextHolds (k .c4) (c .text)
   pub expected : ExpectedsHold (length s) (k .c5) (c .expected)
   pub faults : c .faults ≡ []
 
@@ -99,6 +111,13 @@ pub record ContentsFit (k : Caps) (c : Contents) : Type 0 where
   pub lists : Fits entryFormat (k .c3) (c .lists)
   pub text : Fits textFormat (k .c4) (c .text)
   pub expected : Fits expectedFormat (k .c5) (c .expected)
+
+-- each number of each record fits a field
+pub record FieldsFit (c : Contents) : Type 0 where
+  pub states : all (λ x. all isField (stateFields x)) (c .states) ≡ true
+  pub rules : all (λ x. all isField (ruleFields x)) (c .rules) ≡ true
+  pub lists : all isField (c .lists) ≡ true
+  pub expected : all (λ x. all isField (expectedFields x)) (c .expected) ≡ true
 
 -- the sheet that the parse call of the source s leaves: its areas 1 to 5 and its counts
 abbrev pub sheetLeftBy : List ℕ → Left → SheetBytes
