@@ -45,7 +45,7 @@ use Rattle.parse.specs.declared.RuleProgress.the-variants as Ruling
 use Rattle.parse.specs.declared.FileCounts.{FileCounts}
 use Rattle.parse.specs.declared.Parsed.{Parsed}
 use Rattle.parse.specs.declared.Parsed.the-variants.{Clean, Faulty, Short}
-use Rattle.parse.specs.Parse.{Caps, Outcome, accepted, faulty, short, caps, closed, ending, judge, contentsOf, rulesFrom, undeclared, withStates, opening, file}
+use Rattle.parse.specs.Parse.{Caps, Outcome, accepted, faulty, areaFull, caps, closed, ending, judge, contentsOf, rulesFrom, undeclared, withStates, opening, file}
 use Rattle.parse.specs.Answers.{ruleProgress, ruledIn, HeldRuled, ruleCounts, sizesOf, closedBy, judgedBy, contentsIn, tells, HeldFile, Parses, Zeroed}
 
 -- ---- state 0 and the declarations
@@ -151,7 +151,7 @@ tag (Faulty n) = 1
 tag (Short n) = 2
 
 module _ {o : Outcome} {l1 l2 l3 l4 l5 l6 : List ℕ} where
-  parses-short : {n : ℕ} → o ≡ short n → Parses o l1 l2 l3 l4 l5 l6 (Short n)
+  parses-short : {n : ℕ} → o ≡ areaFull n → Parses o l1 l2 l3 l4 l5 l6 (Short n)
   unfolding tag
   parses-short e = record { says = e; clean = λ q z. absurd (omega (arith, ap tag z)); faults = λ n z. absurd (omega (arith, ap tag z)) }
 

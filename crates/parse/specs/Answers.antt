@@ -13,7 +13,7 @@ use Rattle.fault.specs.Step.{Out, go, bad, full}
 use Rattle.fault.specs.Faults.{HeldFaults}
 use Rattle.declarations.specs.declared.DeclarationCounts.{DeclarationCounts}
 use Rattle.rules.specs.Rules.{Sheet, sheet, Ruled, Caps}
-use Rattle.parse.specs.Parse.{Contents, Outcome, accepted, faulty, short}
+use Rattle.parse.specs.Parse.{Contents, Outcome, accepted, faulty, areaFull}
 use Rattle.parse.specs.declared.FileCounts.{FileCounts}
 use Rattle.parse.specs.declared.Parsed.{Parsed}
 use Rattle.parse.specs.declared.Parsed.the-variants.{Clean, Faulty, Short}
@@ -100,7 +100,7 @@ contentsIn l1 l2 l3 l4 l5 q = record {
 abbrev pub tells : List ℕ → List ℕ → List ℕ → List ℕ → List ℕ → List ℕ → Parsed → Outcome
 tells l1 l2 l3 l4 l5 l6 (Clean q) = accepted (contentsIn l1 l2 l3 l4 l5 q)
 tells l1 l2 l3 l4 l5 l6 (Faulty n) = faulty (contents faultFormat l6 n)
-tells l1 l2 l3 l4 l5 l6 (Short n) = short n
+tells l1 l2 l3 l4 l5 l6 (Short n) = areaFull n
 
 pub record HeldFile (l1 l2 l3 l4 l5 l6 : List ℕ) (q : FileCounts) : Type 0 where
   pub states : Held stateFormat l1 (q .states)

@@ -4,7 +4,7 @@ use mathlib.Core.List.{List}
 use Prim.Native.Nat.{ℕ, _+_, _*_}
 use borrow.Author.Needs.{needs}
 use Rattle.parse.specs.declared.Answer.{Answer}
-use Rattle.parse.specs.declared.Answer.the-variants.{Accepted, LongFile, StrayFlag, NotText, AreaFull, FaultyFile}
+use Rattle.parse.specs.declared.Answer.the-variants.{Accepted, LongFile, UnknownFlag, InvalidUtf8, AreaFull, FaultyFile}
 use Rattle.parse.specs.Parse.{Left, left, wordOf}
 use Rattle.troymantle.specs.Words.{leftInWords, inWords}
 
@@ -17,13 +17,13 @@ module _ (a : Answer) where
   unfolding wordOf
   word-long z = ap wordOf (sym z)
 
-  pub word-stray : a ≡ StrayFlag → 2 ≡ wordOf a
+  pub word-unknown-flag : a ≡ UnknownFlag → 2 ≡ wordOf a
   unfolding wordOf
-  word-stray z = ap wordOf (sym z)
+  word-unknown-flag z = ap wordOf (sym z)
 
-  pub word-untext : a ≡ NotText → 3 ≡ wordOf a
+  pub word-invalid-utf8 : a ≡ InvalidUtf8 → 3 ≡ wordOf a
   unfolding wordOf
-  word-untext z = ap wordOf (sym z)
+  word-invalid-utf8 z = ap wordOf (sym z)
 
   pub word-full : (n : ℕ) → a ≡ AreaFull n → 4 + 65536 * n ≡ wordOf a
   unfolding wordOf
@@ -36,4 +36,4 @@ module _ (a : Answer) where
 pub word-left : (a : Answer) (r : ℕ) → r ≡ wordOf a → (n x1 x2 x3 x4 x5 x6 : List ℕ) (y : Left) → left a n x1 x2 x3 x4 x5 x6 ≡ y → leftInWords r n x1 x2 x3 x4 x5 x6 ≡ inWords y
 word-left a r w n x1 x2 x3 x4 x5 x6 y e = ap (λ (k : ℕ). leftInWords k n x1 x2 x3 x4 x5 x6) w ∙ ap inWords e
 
-pub ruleset words = (needs, word-accepted, word-long, word-stray, word-untext, word-full, word-faulty, word-left)
+pub ruleset words = (needs, word-accepted, word-long, word-unknown-flag, word-invalid-utf8, word-full, word-faulty, word-left)
