@@ -83,12 +83,12 @@ text-short {c1} {c2} {c3} {c4} {c5} {c6} {o} {w1} {w2} {w3} {w4} {w5} {w6} {v1} 
 
 pub zeroed-by : {c1 c2 c3 c4 c5 c6 : ℕ} {v1 v2 v3 v4 v5 v6 : List ℕ} → Cleared c1 c2 c3 c4 c5 c6 v1 v2 v3 v4 v5 v6 → Long c1 c2 c3 c4 c5 c6 v1 v2 v3 v4 v5 v6 → Zeroed v1 v2 v3 v4 v5 v6
 zeroed-by z e = record {
-  zero1 = z .is1 ∙ ap zeros (sym (e .long1));
-  zero2 = z .is2 ∙ ap zeros (sym (e .long2));
-  zero3 = z .is3 ∙ ap zeros (sym (e .long3));
-  zero4 = z .is4 ∙ ap zeros (sym (e .long4));
-  zero5 = z .is5 ∙ ap zeros (sym (e .long5));
-  zero6 = z .is6 ∙ ap zeros (sym (e .long6));
+  is1 = z .is1 ∙ ap zeros (sym (e .long1));
+  is2 = z .is2 ∙ ap zeros (sym (e .long2));
+  is3 = z .is3 ∙ ap zeros (sym (e .long3));
+  is4 = z .is4 ∙ ap zeros (sym (e .long4));
+  is5 = z .is5 ∙ ap zeros (sym (e .long5));
+  is6 = z .is6 ∙ ap zeros (sym (e .long6));
 }
 
 -- ---- the tests

@@ -195,7 +195,7 @@ module _ (s : List ℕ) (flags : ℕ) (l1 l2 l3 l4 l5 l6 : List ℕ) (zero : Zer
     states-held = kept .states
 
     pub rules-held : HeldRuled l2 l3 l4 w6 (ruleCounts 0 0 0 (c .faults))
-    rules-held = record { rules = held-empty rule-sound l2 (zero .zero2); entries = held-empty entry-sound l3 (zero .zero3); text = held-empty text-sound l4 (zero .zero4); faults = kept .faults }
+    rules-held = record { rules = held-empty rule-sound l2 (zero .is2); entries = held-empty entry-sound l3 (zero .is3); text = held-empty text-sound l4 (zero .is4); faults = kept .faults }
 
   module _ (verdicts : List ℕ) where
     abbrev sizes : Caps

@@ -116,15 +116,6 @@ pub record Parses (o : Outcome) (l1 l2 l3 l4 l5 l6 : List ℕ) (p : Parsed) : Ty
   pub clean : (q : FileCounts) → p ≡ Clean q → HeldFile l1 l2 l3 l4 l5 l6 q
   pub faults : (n : ℕ) → p ≡ Faulty n → Held faultFormat l6 n
 
--- every area is zero
-pub record Zeroed (l1 l2 l3 l4 l5 l6 : List ℕ) : Type 0 where
-  pub zero1 : l1 ≡ zeros (length l1)
-  pub zero2 : l2 ≡ zeros (length l2)
-  pub zero3 : l3 ≡ zeros (length l3)
-  pub zero4 : l4 ≡ zeros (length l4)
-  pub zero5 : l5 ≡ zeros (length l5)
-  pub zero6 : l6 ≡ zeros (length l6)
-
 -- the areas are zero, of these many bytes
 pub record Cleared (c1 c2 c3 c4 c5 c6 : ℕ) (l1 l2 l3 l4 l5 l6 : List ℕ) : Type 0 where
   pub is1 : l1 ≡ zeros c1
@@ -133,3 +124,7 @@ pub record Cleared (c1 c2 c3 c4 c5 c6 : ℕ) (l1 l2 l3 l4 l5 l6 : List ℕ) : Ty
   pub is4 : l4 ≡ zeros c4
   pub is5 : l5 ≡ zeros c5
   pub is6 : l6 ≡ zeros c6
+
+-- every area is zero
+abbrev pub Zeroed : List ℕ → List ℕ → List ℕ → List ℕ → List ℕ → List ℕ → Type 0
+Zeroed l1 l2 l3 l4 l5 l6 = Cleared (length l1) (length l2) (length l3) (length l4) (length l5) (length l6) l1 l2 l3 l4 l5 l6
