@@ -135,13 +135,7 @@ judged-clean d q z = rw (eq-eqb (q .faults) 0 z)
 pub judged-faulty : (d : DeclarationCounts) (q : RuleCounts) → (q .faults ≡ 0 → ⊥) → Faulty (q .faults) ≡ judgedBy d q
 judged-faulty d q z = rw (ne-eqb (q .faults) 0 z)
 
-pub closed-next : (p : Appended) (m : ℕ) → p ≡ Appended.Next m → Faulty m ≡ closedBy p
-closed-next p m z = ap closedBy (sym z)
-
-pub closed-full : (p : Appended) → p ≡ Appended.Full → Short 6 ≡ closedBy p
-closed-full p z = ap closedBy (sym z)
-
-pub ruleset answering = (needs, judged-clean, judged-faulty, closed-next, closed-full)
+pub ruleset judging = (needs, judged-clean, judged-faulty)
 
 -- ---- the file
 

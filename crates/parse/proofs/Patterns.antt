@@ -31,23 +31,6 @@ use Rattle.parse.specs.declared.SheetProgress.{SheetProgress}
 use Rattle.parse.specs.declared.SheetProgress.the-variants.{Go, Bad, Full}
 use Rattle.parse.specs.Answers.{sheetProgress, sheetIn, HeldSheet, sheetCounts, sizesOf}
 
--- ---- a progress with further counts
-
-module _ (p : Progress) (e t : ℕ) where
-  abbrev counted : Out SheetCounts
-  counted = onto (λ n. sheetCounts n e t) (progress p)
-
-  pub counted-go : (i n : ℕ) → p ≡ Progress.Go i n → go i (sheetCounts n e t) ≡ counted
-  counted-go i n q = ap (λ (x : Progress). onto (λ n. sheetCounts n e t) (progress x)) (sym q)
-
-  pub counted-bad : (kind at n : ℕ) → p ≡ Progress.Bad kind at n → bad kind at (sheetCounts n e t) ≡ counted
-  counted-bad kind at n q = ap (λ (x : Progress). onto (λ n. sheetCounts n e t) (progress x)) (sym q)
-
-  pub counted-full : (n : ℕ) → p ≡ Progress.Full n → full n ≡ counted
-  counted-full n q = ap (λ (x : Progress). onto (λ n. sheetCounts n e t) (progress x)) (sym q)
-
-pub ruleset counting = (needs, counted-go, counted-bad, counted-full)
-
 -- ---- a list of states is closed within the pattern
 
 module _ (s : List ℕ) (i c : ℕ) (b : Body) (is : b ≡ bodyOf s i c) (g : ℕ) (q : b ≡ Listed g) where

@@ -35,29 +35,6 @@ use Rattle.parse.specs.declared.RuleProgress.{RuleProgress}
 use Rattle.parse.specs.declared.RuleProgress.the-variants.{Go, Bad, Full}
 use Rattle.parse.specs.Answers.{sheetProgress, sheetIn, HeldSheet, sheetCounts, ruleProgress, ruledIn, HeldRuled, ruleCounts, sizesOf, afterFaults}
 
--- ---- a progress with further counts
-
-pub faults-next : (e : ℕ) (q : RuleCounts) (p : Appended) (m : ℕ) → p ≡ Appended.Next m → go e (ruleCounts (q .rules) (q .entries) (q .text) m) ≡ afterFaults e q p
-faults-next e q p m z = ap (afterFaults e q) (sym z)
-
-pub faults-full : (e : ℕ) (q : RuleCounts) (p : Appended) → p ≡ Appended.Full → full 6 ≡ afterFaults e q p
-faults-full e q p z = ap (afterFaults e q) (sym z)
-
-module _ (p : SheetProgress) (f : ℕ) where
-  abbrev faulted : SheetCounts → RuleCounts
-  faulted w = ruleCounts (w .rules) (w .entries) (w .text) f
-
-  pub faulted-go : (i : ℕ) (w : SheetCounts) → p ≡ Sheet.Go i w → go i (faulted w) ≡ onto faulted (sheetProgress p)
-  faulted-go i w z = ap (λ (x : SheetProgress). onto faulted (sheetProgress x)) (sym z)
-
-  pub faulted-bad : (kind at : ℕ) (w : SheetCounts) → p ≡ Sheet.Bad kind at w → bad kind at (faulted w) ≡ onto faulted (sheetProgress p)
-  faulted-bad kind at w z = ap (λ (x : SheetProgress). onto faulted (sheetProgress x)) (sym z)
-
-  pub faulted-full : (n : ℕ) → p ≡ Sheet.Full n → full n ≡ onto faulted (sheetProgress p)
-  faulted-full n z = ap (λ (x : SheetProgress). onto faulted (sheetProgress x)) (sym z)
-
-pub ruleset faulting = (needs, faults-next, faults-full, faulted-go, faulted-bad, faulted-full)
-
 -- ---- a rule
 
 pub sheet-held : {l2 l3 l4 l6 : List ℕ} {q : RuleCounts} → HeldRuled l2 l3 l4 l6 q → HeldSheet l2 l3 l4 (sheetCounts (q .rules) (q .entries) (q .text))
