@@ -1,24 +1,21 @@
 -- What the parse call leaves: every area is its records and zeros behind them, and so it is what the definition lays down, field by field.
-use mathlib.Core.Path.{_≡_, refl, sym, ap, subst, _∙_}
-use mathlib.Core.Bool.{Bool, true, false, cond}
+use mathlib.Core.Path.{_≡_, sym, ap, _∙_}
+use mathlib.Core.Bool.{Bool, true, false}
 use mathlib.Core.List.{List, [], _∷_}
 use Prim.Native.Nat.{ℕ, _≤_, _<_}
-use native.Mathlib.Omega.{arith}
-use borrow.Author.Needs.{needs}
 use borrow.Author.Tests.{lt-ltb, le-ltb}
-use lib.Dec.{ltb}
 use lib.ListN.{length}
 use Rattle.text.specs.Utf8.{utf8}
 use Rattle.area.specs.Bytes.{bytes, pad, zeros}
-use Rattle.area.specs.Contents.{Format, listOf, contents, stateFormat, ruleFormat, entryFormat, textFormat, expectedFormat, faultFormat, Held}
+use Rattle.area.specs.Contents.{Format, listOf, contents, Held}
 use Rattle.area.proofs.Contents.{state-sound, rule-sound, entry-sound, text-sound, expected-sound, fault-sound, contents-length}
 use Rattle.parse.specs.declared.FileCounts.{FileCounts}
 use Rattle.parse.specs.declared.Parsed.{Parsed}
 use Rattle.parse.specs.declared.Parsed.the-variants.{Clean, Faulty, Short}
 use Rattle.parse.specs.declared.Answer.{Answer}
 use Rattle.parse.specs.declared.Answer.the-variants.{Accepted, LongFile, UnknownFlag, InvalidUtf8, AreaFull, FaultyFile}
-use Rattle.parse.specs.Parse.{Caps, Outcome, accepted, faulty, areaFull, longFile, unknownFlag, invalidUtf8, caps, file, outcome, Left, left, laid, leaves, parseCall}
-use Rattle.parse.specs.Answers.{contentsIn, tells, HeldFile, Parses, Zeroed, Cleared}
+use Rattle.parse.specs.Parse.{Caps, Outcome, caps, file, outcome, Left, left, laid, leaves, parseCall}
+use Rattle.parse.specs.Answers.{tells, Parses, Zeroed, Cleared}
 
 -- an area of c bytes that holds n records is those records and zeros
 laid-is : {A : Type 0} {F : Format A} {v : List ℕ} {n c : ℕ} → Held F v n → length v ≡ c → v ≡ laid F c (contents F v n)

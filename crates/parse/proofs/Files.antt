@@ -4,13 +4,12 @@ use mathlib.Core.Path.{_≡_, refl, sym, ap, subst, _∙_}
 use mathlib.Core.Bool.{Bool, true, false, cond, not}
 use mathlib.Core.List.{List, [], _∷_}
 use mathlib.Core.Option.{Option, none, some}
-use Prim.Native.Nat.{ℕ, _+_, _≤_, _<_}
+use Prim.Native.Nat.{ℕ, _+_, _≤_}
 use native.Mathlib.Omega.{arith}
 use borrow.Author.Needs.{needs}
 use borrow.Author.Tests.{eq-eqb, ne-eqb, eqb-true}
 use lib.Dec.{eqb}
 use lib.ListN.{length}
-use Rattle.text.specs.Walk.{first}
 use Rattle.text.specs.Scan.{skipBlanks}
 use Rattle.text.specs.Class.{isBlank}
 use Rattle.text.specs.Whitespace.{byte}
@@ -28,7 +27,7 @@ use Rattle.area.specs.Records.{stateWidth, mostStates, stateBytes}
 use Rattle.area.specs.Contents.{listOf, contents, stateFormat, ruleFormat, entryFormat, textFormat, expectedFormat, faultFormat, append, leftBy, Grows, Held}
 use Rattle.area.proofs.Contents.{state-sound, rule-sound, entry-sound, text-sound, expected-sound, fault-sound, held-empty, held-push, contents-length}
 use Rattle.fault.specs.Step.{Out, go, bad, full, next, onto, written, loop, Does}
-use Rattle.fault.specs.Faults.{PrematureEnd, addFault, HeldFaults, GrowsFaults, Numbered}
+use Rattle.fault.specs.Faults.{PrematureEnd, addFault, HeldFaults, GrowsFaults}
 use Rattle.fault.proofs.Steps.{does-full, bad-goes, full-goes}
 use Rattle.section.specs.Section.{percents, found, inSection, toDeclaration}
 use Rattle.section.proofs.Lines.{ahead-within}
@@ -46,7 +45,7 @@ use Rattle.parse.specs.declared.FileCounts.{FileCounts}
 use Rattle.parse.specs.declared.Parsed.{Parsed}
 use Rattle.parse.specs.declared.Parsed.the-variants.{Clean, Faulty, Short}
 use Rattle.parse.specs.Parse.{Caps, Outcome, accepted, faulty, areaFull, caps, closed, ending, judge, contentsOf, rulesFrom, undeclared, withStates, opening, file}
-use Rattle.parse.specs.Answers.{ruleProgress, ruledIn, HeldRuled, ruleCounts, sizesOf, closedBy, judgedBy, contentsIn, tells, HeldFile, Parses, Zeroed}
+use Rattle.parse.specs.Answers.{ruleProgress, ruledIn, HeldRuled, ruleCounts, sizesOf, closedBy, judgedBy, contentsIn, HeldFile, Parses, Zeroed}
 
 -- ---- state 0 and the declarations
 
@@ -251,5 +250,3 @@ module _ (s : List ℕ) (flags : ℕ) (l1 l2 l3 l4 l5 l6 : List ℕ) (zero : Zer
                 (is ∙ rw e (ap (λ (fs : List Fault). accepted (record { states = contents stateFormat v1 (c .states); rules = contents ruleFormat v2 (m .rules); lists = contents entryFormat v3 (m .entries); text = contents textFormat v4 (m .text); expected = contents expectedFormat v5 (c .expected); faults = fs })) (none-left z0)))
                 (record { states = kept i c went .states; rules = held .rules; entries = held .entries; text = held .text; expected = kept i c went .expected; faults = subst (Held faultFormat x6) z0 (held .faults .held) })
             by false e = parses-faulty (is ∙ rw e) (held .faults .held)
-
-pub ruleset filing = (needs, file-short, file-closed, rules-inside, states-held, rules-held, rules-short, rules-closed, rules-judged)

@@ -16,7 +16,7 @@ use Rattle.area.specs.Contents.{append, contents, ruleFormat, entryFormat, text
 use Rattle.area.proofs.Contents.{contents-length, rule-sound, entry-sound, text-sound}
 use Rattle.fault.specs.declared.Progress.{Progress}
 use Rattle.fault.specs.declared.Progress.the-variants as Progress
-use Rattle.fault.specs.Step.{Out, go, bad, full, onto, Does, progress}
+use Rattle.fault.specs.Step.{Out, bad, full, onto, Does, progress}
 use Rattle.fault.specs.Faults.{InvalidStartState}
 use Rattle.fault.proofs.Steps.{does-bad, does-full, does-onto, was-go, was-bad, was-full}
 use Rattle.escape.specs.Escape.{unescaped}
