@@ -57,12 +57,12 @@ pub data Outcome : Type 0 where
   faulty : List Fault → Outcome
   accepted : Contents → Outcome
 
--- the fault that ends parsing goes behind the others, in an area of cap bytes
+-- the fault list with the fault that ends parsing as the last, or none where area 6 has no room for it
 unfoldable pub closed : Option (List Fault) → Outcome
 closed none = areaFull 6
 closed (some fs) = faulty fs
 
--- what a section comes to: on with g, or the end
+-- what a section comes to: on with g, or the end; area 6 has cap bytes
 abbrev pub ending : {S : Type 0} → (S → List Fault) → ℕ → Out S → (ℕ → S → Outcome) → Outcome
 ending faults cap (go i s) g = g i s
 ending faults cap (bad kind at s) g = closed (addFault cap kind at at (faults s))
@@ -148,6 +148,7 @@ sheetLeft b k =
     (laid expectedFormat (k .c5) (b .expected))
     (laid faultFormat (k .c6) (b .faults))
 
+-- what the call leaves by the outcome (01, Numbers given at the counter)
 unfoldable pub leaves : Caps → Outcome → Left
 leaves k longFile = cleared LongFile k
 leaves k unknownFlag = cleared UnknownFlag k

@@ -47,7 +47,7 @@ atWhitespace s i = ltb 0 (whitespaceLen s i)
 abbrev pub atLineEnd : List ℕ → ℕ → Bool
 atLineEnd s i = ltb 0 (lineEndLen s i)
 
--- what a function that measures a character at i answers: n, and that many bytes stand there
+-- r is n, and that many bytes stand at i
 pub record Width (s : List ℕ) (i n r : ℕ) : Type 0 where
   pub is : r ≡ n
   pub fits : i + r ≤ length s
