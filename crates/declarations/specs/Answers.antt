@@ -1,4 +1,4 @@
--- What the functions of the declarations section answer: the outcome of a step, with counts of records in place of the records.
+-- Outcomes in the declarations, with counts of records in place of the records, and what the areas hold then (01, Areas).
 use Prim.Native.Nat.{ℕ}
 use mathlib.Core.List.{List}
 use Rattle.area.specs.Contents.{contents, stateFormat, expectedFormat, faultFormat, Held}
@@ -12,7 +12,7 @@ use Rattle.declarations.specs.declared.DeclarationProgress.{DeclarationP
 use Rattle.declarations.specs.declared.DeclarationProgress.the-variants as P
 use Rattle.declarations.specs.Declarations.{Names, names, Declared, Caps}
 
--- the outcome that an answer tells
+-- the outcome of a step over areas 1 and 6
 abbrev pub nameProgress : NameProgress → Out NameCounts
 nameProgress (N.Go i q) = go i q
 nameProgress (N.Bad kind at q) = bad kind at q
@@ -27,7 +27,7 @@ pub record HeldNames (l1 l6 : List ℕ) (q : NameCounts) : Type 0 where
   pub states : Held stateFormat l1 (q .states)
   pub faults : HeldFaults l6 (q .faults)
 
--- the outcome that an answer tells
+-- the outcome of a step over areas 1, 5 and 6
 abbrev pub declarationProgress : DeclarationProgress → Out DeclarationCounts
 declarationProgress (P.Go i q) = go i q
 declarationProgress (P.Bad kind at q) = bad kind at q

@@ -1,7 +1,7 @@
 -- The declarations section (01, Declarations). What is read comes first, by definitions over the source and the states; then what is
 -- written of it.
 use Prim.Native.Nat.{ℕ, _+_, _-_}
-use mathlib.Core.Bool.{Bool, true, false, cond, _&&_, _||_}
+use mathlib.Core.Bool.{Bool, cond, _&&_, _||_}
 use mathlib.Core.List.{List, [], _∷_}
 use lib.Dec.{eqb, ltb, leb}
 use lib.ListN.{length}
@@ -14,7 +14,7 @@ use Rattle.area.specs.declared.Expected.{Expected}
 use Rattle.area.specs.declared.Fault.{Fault}
 use Rattle.area.specs.Records.{nthState}
 use Rattle.area.specs.Contents.{append, stateFormat, expectedFormat}
-use Rattle.fault.specs.Step.{Out, go, bad, full, next, onto, written, loop}
+use Rattle.fault.specs.Step.{Out, go, bad, next, onto, written, loop}
 use Rattle.fault.specs.Faults.{addRepeat, PrematureEnd, UnknownDeclaration, InvalidName, DuplicateStartState, InvalidStartStateName}
 use Rattle.section.specs.Section.{found, percents, toDeclaration, inSection}
 use Rattle.names.specs.Names.{allBytes, isStateName, findState}

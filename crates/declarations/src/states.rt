@@ -4,7 +4,7 @@ ghost use Prim.Native.Nat.{_+_, _≤_, _<_};
 ghost use lib.ListN.{length};
 ghost use Rattle.area.specs.Contents.{stateFormat, contents, Held};
 ghost use Rattle.fault.specs.Step.{Does};
-ghost use Rattle.declarations.specs.Declarations.{namingOf, nameTo, nextName, stateNames};
+ghost use Rattle.declarations.specs.Declarations.{namingOf, nameTo, stateNames};
 ghost use Rattle.declarations.specs.Answers.{HeldNames, namesIn, nameProgress};
 use crate::NameCounts;
 use crate::NameProgress;

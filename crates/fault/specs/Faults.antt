@@ -115,7 +115,8 @@ pub record HeldFaults (l : List ℕ) (n : ℕ) : Type 0 where
   pub held : Held faultFormat l n
   pub numbered : Numbered (contents faultFormat l n)
 
--- what a function that does f to the n spans of the area l answers and leaves
+-- f of the n spans of the area l stands in the area e, which has as many bytes, and their numbers are low: r is how many they are, or Full
+-- where f gives none
 pub record GrowsFaults (f : List Fault → Option (List Fault)) (l : List ℕ) (n : ℕ) (r : Appended) (e : List ℕ) : Type 0 where
   pub says : f (contents faultFormat l n) ≡ leftBy faultFormat e r
   pub held : (m : ℕ) → r ≡ Next m → HeldFaults e m

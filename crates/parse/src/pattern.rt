@@ -2,9 +2,9 @@
 ghost use mathlib.Core.Path.{_≡_};
 ghost use Prim.Native.Nat.{_-_, _≤_};
 ghost use lib.ListN.{length};
-ghost use Rattle.area.specs.Contents.{stateFormat, ruleFormat, contents, Held};
+ghost use Rattle.area.specs.Contents.{stateFormat, contents, Held};
 ghost use Rattle.fault.specs.Step.{Does, onto, progress};
-ghost use Rattle.rules.specs.Rules.{recordRule, ruleOf, pattern};
+ghost use Rattle.rules.specs.Rules.{ruleOf, pattern};
 ghost use Rattle.parse.specs.Answers.{sheetProgress, sheetIn, HeldSheet, sheetCounts, sizesOf};
 use crate::SheetCounts;
 use crate::SheetProgress;

@@ -1,7 +1,7 @@
 -- A rule's line up to its pattern, read over the source, the states and the rules (01, Rules): the last blank, the target, the name; and what
 -- kind of pattern stands before them.
 use Prim.Native.Nat.{ℕ, _+_, _-_}
-use mathlib.Core.Bool.{Bool, true, false, cond, _&&_, _||_}
+use mathlib.Core.Bool.{Bool, cond, _&&_, _||_}
 use mathlib.Core.List.{List}
 use lib.Dec.{eqb, ltb}
 use lib.ListN.{length}

@@ -1,4 +1,4 @@
--- Walks over positions, of which every scanner is an instance. A `let` keeps a walk from computing past its answer.
+-- Walks over positions, of which every search in a text is an instance. A `let` keeps a walk from computing past its end.
 use mathlib.Core.Path.{_≡_}
 use mathlib.Core.Bool.{Bool, false, cond, _||_}
 use Prim.Native.Nat.{ℕ, zero, suc, _+_, _-_, _≤_}
@@ -40,7 +40,7 @@ repeat next (suc n) k = let j = next k in let r = repeat next n j in cond (eqb j
 unfoldable pub skip : (ℕ → ℕ) → ℕ → ℕ → ℕ
 skip width n k = repeat (λ j. j + width j) n k
 
--- what a scanner from i to e answers: n, which is not before i and not past e
+-- r is n, which is not before i and not past e
 pub record Between (i e n r : ℕ) : Type 0 where
   pub is : r ≡ n
   pub from : i ≤ r

@@ -51,7 +51,7 @@ atLineEnd s i = ltb 0 (lineEndLen s i)
 abbrev pub mayEndLine : ℕ → Bool
 mayEndLine a = (leb 0x0a a && leb a 0x0d) || eqb a 0xe2
 
--- what a function that measures a character at i answers: n, and that many bytes stand there
+-- r is n, and that many bytes stand at i
 pub record Width (s : List ℕ) (i n r : ℕ) : Type 0 where
   pub is : r ≡ n
   pub fits : i + r ≤ length s
