@@ -19,7 +19,7 @@ use Rattle.fault.specs.Step.{Out, go, bad, full, onto, written}
 use Rattle.fault.specs.Faults.{addFault}
 use Rattle.declarations.specs.Declarations.{Declared, declarations, state}
 use Rattle.rules.specs.Rules.{sheetOf, rulesSection}
-use Rattle.parse.specs.Parse.{Contents, Caps, declarationCaps, ruleCaps, Outcome, long, stray, untext, short, faulty, accepted, closed, ending, judge, contentsOf, noRules, rulesFrom, undeclared, withStates, opening, file, outcome}
+use Rattle.parse.specs.Parse.{Contents, Caps, declarationCaps, ruleCaps, Outcome, longFile, unknownFlag, invalidUtf8, areaFull, faulty, accepted, closed, ending, judge, contentsOf, noRules, rulesFrom, undeclared, withStates, opening, file, outcome}
 use Rattle.sheet_check.specs.SheetCheck.{all}
 use Rattle.accepted.specs.Accepted.{Fits, StateHolds, ExpectedHolds, EntryHolds, RuleHolds, StatesHold, ContentsHold, isByte}
 use Rattle.accepted.proofs.Going.{Yields, yields-next, yields-onto, yields-append}
@@ -32,10 +32,10 @@ use Rattle.accepted.proofs.Ruling.{SheetHolds, rules-hold}
 
 -- an outcome that accepts has contents of which P holds
 abbrev Accepts : (Contents → Type 0) → Outcome → Type 0
-Accepts P long = Unit {0}
-Accepts P stray = Unit {0}
-Accepts P untext = Unit {0}
-Accepts P (short n) = Unit {0}
+Accepts P longFile = Unit {0}
+Accepts P unknownFlag = Unit {0}
+Accepts P invalidUtf8 = Unit {0}
+Accepts P (areaFull n) = Unit {0}
 Accepts P (faulty fs) = Unit {0}
 Accepts P (accepted c) = P c
 
@@ -120,18 +120,18 @@ module _ (s : List ℕ) (flags : ℕ) (verdicts : List ℕ) (k : Caps) where
 
   passed : length s ≤ 65535 → utf8 s ≡ true → (o : Outcome) → Accepts (ContentsHold s k) o → Accepts Passed o
   passed l t (accepted c) h = record { short = l; text = t; holds = h }
-  passed l t long h = tt
-  passed l t stray h = tt
-  passed l t untext h = tt
-  passed l t (short n) h = tt
+  passed l t longFile h = tt
+  passed l t unknownFlag h = tt
+  passed l t invalidUtf8 h = tt
+  passed l t (areaFull n) h = tt
   passed l t (faulty fs) h = tt
 
   outcome-accepts : Accepts Passed (outcome s flags verdicts k)
   unfolding outcome
   outcome-accepts =
-      by-test (Accepts Passed) (ltb 65535 (length s)) long (cond (ltb 3 flags) stray (cond (utf8 s) (file s flags verdicts k) untext)) (λ _. tt)
-      (λ l. by-test (Accepts Passed) (ltb 3 flags) stray (cond (utf8 s) (file s flags verdicts k) untext) (λ _. tt)
-      (λ _. by-test (Accepts Passed) (utf8 s) (file s flags verdicts k) untext (λ t. passed (ltb-false 65535 (length s) l) t (file s flags verdicts k) (file-accepts (utf8-bytes s t))) (λ _. tt)))
+      by-test (Accepts Passed) (ltb 65535 (length s)) longFile (cond (ltb 3 flags) unknownFlag (cond (utf8 s) (file s flags verdicts k) invalidUtf8)) (λ _. tt)
+      (λ l. by-test (Accepts Passed) (ltb 3 flags) unknownFlag (cond (utf8 s) (file s flags verdicts k) invalidUtf8) (λ _. tt)
+      (λ _. by-test (Accepts Passed) (utf8 s) (file s flags verdicts k) invalidUtf8 (λ t. passed (ltb-false 65535 (length s) l) t (file s flags verdicts k) (file-accepts (utf8-bytes s t))) (λ _. tt)))
 
   module _ (c : Contents) (is : outcome s flags verdicts k ≡ accepted c) where
     -- what holds of the contents

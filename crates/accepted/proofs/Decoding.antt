@@ -16,8 +16,8 @@ use Rattle.area.specs.Contents.{Format, contents, Held, textFormat}
 use Rattle.area.proofs.Areas.{area-length}
 use Rattle.area.proofs.Contents.{Sound, contents-are, held-of, state-sound, rule-sound, entry-sound, text-sound, expected-sound}
 use Rattle.parse.specs.declared.Answer.{Answer}
-use Rattle.parse.specs.declared.Answer.the-variants.{Accepted, LongFile, StrayFlag, NotText, AreaFull, FaultyFile}
-use Rattle.parse.specs.Parse.{Contents, Caps, Outcome, long, stray, untext, short, faulty, accepted, outcome, Left, laid, sheetLeft, leaves, parseCall}
+use Rattle.parse.specs.declared.Answer.the-variants.{Accepted, LongFile, UnknownFlag, InvalidUtf8, AreaFull, FaultyFile}
+use Rattle.parse.specs.Parse.{Contents, Caps, Outcome, longFile, unknownFlag, invalidUtf8, areaFull, faulty, accepted, outcome, Left, laid, sheetLeft, leaves, parseCall}
 use Rattle.sheet_check.specs.SheetCheck.{SheetBytes, decoded, longEnough, sheetCheck}
 use Rattle.accepted.specs.Accepted.{Fits, ContentsFit, AreasHold, sheetLeftBy}
 use Rattle.accepted.proofs.Checking.{accepted-good, accepted-fits, accepted-faultless}
@@ -66,8 +66,8 @@ module _ (s : List ℕ) (k : Caps) (c : Contents) (f : ContentsFit k c) where
 abbrev isAccepted : Answer → Bool
 isAccepted Accepted = true
 isAccepted LongFile = false
-isAccepted StrayFlag = false
-isAccepted NotText = false
+isAccepted UnknownFlag = false
+isAccepted InvalidUtf8 = false
 isAccepted (AreaFull n) = false
 isAccepted (FaultyFile n) = false
 
@@ -113,8 +113,8 @@ module _ (s : List ℕ) (flags : ℕ) (verdicts : List ℕ) (k : Caps) where
     where
       by : (o : Outcome) → outcome s flags verdicts k ≡ o → leaves k o .answer ≡ Accepted → (c : Contents) × (outcome s flags verdicts k ≡ accepted c)
       by (accepted c) q z = (c, q)
-      by long q z = absurd (false≢true (ap isAccepted z))
-      by stray q z = absurd (false≢true (ap isAccepted z))
-      by untext q z = absurd (false≢true (ap isAccepted z))
-      by (short n) q z = absurd (false≢true (ap isAccepted z))
+      by longFile q z = absurd (false≢true (ap isAccepted z))
+      by unknownFlag q z = absurd (false≢true (ap isAccepted z))
+      by invalidUtf8 q z = absurd (false≢true (ap isAccepted z))
+      by (areaFull n) q z = absurd (false≢true (ap isAccepted z))
       by (faulty fs) q z = absurd (false≢true (ap isAccepted z))

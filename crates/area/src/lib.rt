@@ -22,20 +22,20 @@ pub const EXPECTED_AREA: u16 = 5;
 pub const FAULT_AREA: u16 = 6;
 
 // How many bytes a record has.
-const STATE_WIDTH: usize = 6;
+pub const STATE_WIDTH: usize = 6;
 
-const RULE_WIDTH: usize = 28;
+pub const RULE_WIDTH: usize = 28;
 
-const ENTRY_WIDTH: usize = 2;
+pub const ENTRY_WIDTH: usize = 2;
 
-const EXPECTED_WIDTH: usize = 4;
+pub const EXPECTED_WIDTH: usize = 4;
 
 pub const FAULT_WIDTH: usize = 8;
 
 // How many records an area may have.
-const MOST_STATES: usize = 64;
+pub const MOST_STATES: usize = 64;
 
-const MOST_RULES: usize = 2048;
+pub const MOST_RULES: usize = 2048;
 
 pub const MOST_OTHERS: usize = 65535;
 

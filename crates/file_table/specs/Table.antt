@@ -11,7 +11,7 @@ use Rattle.area.specs.declared.Rule.{Rule}
 use Rattle.area.specs.Records.{ruleOf}
 use Rattle.fault.specs.Faults.{fault}
 use Rattle.declarations.specs.Declarations.{state}
-use Rattle.parse.specs.Parse.{Caps, caps, Contents, Outcome, long, stray, untext, short, faulty, accepted, outcome}
+use Rattle.parse.specs.Parse.{Caps, caps, Contents, Outcome, longFile, unknownFlag, invalidUtf8, areaFull, faulty, accepted, outcome}
 
 -- a file, its flags, what becomes of it, and the text of each of its rules
 pub record Row : Type 0 where
@@ -98,10 +98,10 @@ textOf s b x = part (cond (eqb (x .place) 1) (b .text) s) (x .«text_from») (x 
 abbrev pub textsOf : List ℕ → Outcome → List (List ℕ)
 textsOf s (accepted b) = map (textOf s b) (b .rules)
 textsOf s (faulty fs) = []
-textsOf s (short n) = []
-textsOf s long = []
-textsOf s stray = []
-textsOf s untext = []
+textsOf s (areaFull n) = []
+textsOf s longFile = []
+textsOf s unknownFlag = []
+textsOf s invalidUtf8 = []
 
 -- row by row, each file becomes what its row says, and its rules have these texts. There are no verdicts
 pub record Right (rows : List Row) : Type 0 where

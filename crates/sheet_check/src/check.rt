@@ -10,27 +10,19 @@ ghost use Rattle.area.specs.Records.{stateWidth, ruleWidth, entryWidth, expecte
 ghost use Rattle.area.specs.Contents.{contents, stateFormat, ruleFormat, entryFormat, expectedFormat};
 ghost use Rattle.sheet_check.specs.Counted.{listed};
 ghost use Rattle.sheet_check.specs.SheetCheck.{sheetBytes, decoded, all, ordered, within, declared, goodState, goodRule, goodExpected, goodContents, longEnough, sheetCheck};
+use area::ENTRY_WIDTH;
+use area::EXPECTED_WIDTH;
 use area::Expected;
+use area::MOST_RULES;
+use area::MOST_STATES;
+use area::RULE_WIDTH;
 use area::Rule;
+use area::STATE_WIDTH;
 use area::State;
 use area::read_entry;
 use area::read_expected;
 use area::read_rule;
 use area::read_state;
-
-// How many bytes a record has.
-const STATE_WIDTH: usize = 6;
-
-const RULE_WIDTH: usize = 28;
-
-const ENTRY_WIDTH: usize = 2;
-
-const EXPECTED_WIDTH: usize = 4;
-
-// How many records an area may have.
-const MOST_STATES: u16 = 64;
-
-const MOST_RULES: u16 = 2048;
 
 // The counts of areas 1 to 5. In code they are numbers and not a lent array, so that their products are known to fit.
 struct Counts {
@@ -191,7 +183,9 @@ fn good_contents(
     let n = src.len();
     let entries = m.entries as usize;
     let text = m.text as usize;
-    let few = (1 <= m.states) & (m.states <= MOST_STATES) & (m.rules <= MOST_RULES);
+    let few = (1 <= m.states)
+        & (m.states as usize <= MOST_STATES)
+        & (m.rules as usize <= MOST_RULES);
     let good1 = good_states(area1, m.states, n);
     let good2 = good_rules(area2, m.rules, n, m.states, entries, text);
     let good3 = good_entries(area3, m.entries, m.states);

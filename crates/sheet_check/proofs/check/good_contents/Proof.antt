@@ -13,6 +13,8 @@ good-contents-spec =
     (tie.spec
     (λ c. search needs)
     (λ c. search needs)
+    (λ c. search needs)
+    (λ c. search needs)
     (λ c κs. long-areas _ (c .before .before .before .before .before .before .before .before .before .before .before .pre) .long1)
     (λ c κs. long-areas _ (c .before .before .before .before .before .before .before .before .before .before .before .before .pre) .long2)
     (λ c κs. long-areas _ (c .before .before .before .before .before .before .before .before .before .before .before .before .before .pre) .long3)
