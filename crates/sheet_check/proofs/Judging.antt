@@ -3,7 +3,7 @@
 use mathlib.Core.Path.{_≡_, refl, sym, ap, ap₂, _∙_}
 use mathlib.Core.Bool.{Bool, true, false, cond, _&&_, and-true, and-assoc}
 use mathlib.Core.List.{List, [], _∷_, _++_}
-use Prim.Native.Nat.{ℕ, zero, suc, _+_, _*_, _-_, _≤_, _<_}
+use Prim.Native.Nat.{ℕ, _+_, _*_, _-_, _≤_}
 use native.Mathlib.Numerals.{add-one}
 use lib.Dec.{eqb, leb, ltb}
 use native.Mathlib.Omega.{arith}
@@ -16,7 +16,7 @@ use Rattle.area.specs.Records.{stateWidth, ruleWidth, entryWidth, expectedWidth
 use Rattle.area.specs.Contents.{Format, contents, listOf, stateFormat, ruleFormat, entryFormat, textFormat, expectedFormat}
 use Rattle.area.proofs.Contents.{listOf-length}
 use Rattle.text.proofs.Tests.{and-left, and-right}
-use Rattle.sheet_check.specs.SheetCheck.{SheetBytes, sheetBytes, all, count, decoded, mark, ordered, within, declared, goodState, goodRule, goodExpected, goodContents, longEnough, sheetCheck}
+use Rattle.sheet_check.specs.SheetCheck.{SheetBytes, sheetBytes, all, count, decoded, ordered, within, declared, goodState, goodRule, goodExpected, goodContents, longEnough, sheetCheck}
 
 -- ---- a record
 

@@ -1,24 +1,24 @@
 -- The part of a rule: what the code answers on each of its ways, and that the part lies inside the slice that its place names. A part is
 -- answered only for a sheet that passed the check, which says that the rule's text stands inside.
-use mathlib.Core.Path.{_≡_, refl, sym, ap, ap₂, _∙_, subst}
-use mathlib.Core.Bool.{Bool, true, false, cond, _&&_, true≢false}
-use mathlib.Core.List.{List, [], _∷_, _++_}
+use mathlib.Core.Path.{_≡_, refl, sym, ap, _∙_}
+use mathlib.Core.Bool.{Bool, true, false, cond, true≢false}
+use mathlib.Core.List.{List, [], _∷_}
 use Prim.Native.Nat.{ℕ, zero, suc, _+_, _*_, _-_, _≤_, _<_}
 use native.Mathlib.Nat.{zero-add}
 use native.Mathlib.Omega.{arith}
-use lib.Dec.{eqb, leb, ltb}
+use lib.Dec.{ltb}
 use lib.ListN.{length, getD, take, drop}
 use lib.Seq.{length-take-le, getD-take, take-take}
 use borrow.Author.Tests.{ltb-true, lt-ltb, le-ltb, eq-eqb, ne-eqb}
-use Rattle.text.proofs.Tests.{and-left, and-right, and-false}
+use Rattle.text.proofs.Tests.{and-left, and-right}
 use Rattle.area.specs.declared.Rule.{Rule}
 use Rattle.area.specs.Records.{ruleWidth, ruleAt, nthRule}
-use Rattle.area.specs.Contents.{contents, ruleFormat, textFormat}
+use Rattle.area.specs.Contents.{contents, ruleFormat}
 use Rattle.area.proofs.Contents.{listOf-is}
 use Rattle.sheet_check.specs.declared.Located.{Located}
 use Rattle.sheet_check.specs.declared.Located.the-variants.{Part, BrokenSheet}
 use Rattle.sheet_check.specs.SheetCheck.{SheetBytes, count, decoded, sheetCheck}
-use Rattle.sheet_check.specs.Pattern.{hasRule, partOf, patternPart, textOf, startOf, Handed, handed, patternCall, numberOf}
+use Rattle.sheet_check.specs.Pattern.{hasRule, partOf, patternPart, textOf, startOf, handed, patternCall, numberOf}
 use Rattle.sheet_check.proofs.Checked.{GoodRule, text-rewritten, text-source, contents-read, checked-long, checked-rule, rules-count}
 
 -- ---- the ways to a part
