@@ -120,7 +120,8 @@ fn good_rules(area: &[u8], count: u16, n: usize, states: u16, entries: usize, te
     good
 }
 
-fn good_entries(area: &[u8], count: u16, states: u16) -> bool
+// Also whether the ids in use on the stack of a run are declared.
+pub fn good_entries(area: &[u8], count: u16, states: u16) -> bool
     requires { ⌜ count * entryWidth ≤ length (now area) ⌝ }
     ensures { λ r. ⌜ r ≡ all (declared states) (contents entryFormat (now (area .entry)) count) ⌝ }
 {

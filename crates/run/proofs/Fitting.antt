@@ -1,0 +1,107 @@
+-- Whether a run and a row fit: the tests are joined as the definitions join them, and what they say as plain facts.
+use mathlib.Core.Path.{_≡_, refl, sym, ap, _∙_}
+use mathlib.Core.Bool.{Bool, true, false, cond, _&&_}
+use mathlib.Core.List.{List}
+use Prim.Native.Nat.{ℕ, _+_, _*_, _-_, _≤_, _<_}
+use native.Mathlib.Omega.{arith}
+use borrow.Author.Needs.{needs}
+use borrow.Author.Tests.{leb-true, ltb-true, eq-eqb, ne-eqb, eqb-true}
+use lib.Dec.{eqb, leb}
+use lib.ListN.{length}
+use Rattle.text.proofs.Tests.{and-left, and-right}
+use Rattle.area.specs.Records.{entryAt, entryWidth}
+use Rattle.area.specs.Contents.{contents, entryFormat}
+use Rattle.sheet_check.specs.SheetCheck.{all, declared}
+use Rattle.sheet_check.proofs.Judging.{contents-count}
+use Rattle.sheet_check.proofs.Checked.{contents-read, all-at}
+use Rattle.run.specs.declared.Run.{Run}
+use Rattle.run.specs.Run.{mostBytes, stackBytes, goodNumbers, goodRun, goodRow, current}
+
+pub record GoodNumbers (r : Run) (bytes : ℕ) : Type 0 where
+  pub small : r .n ≤ mostBytes
+  pub inside : r .position ≤ r .n
+  pub some-depth : 1 ≤ r .depth
+  pub low-depth : r .depth ≤ r .position + 1
+  pub few-moves : r .moves ≤ r .position
+  pub long : stackBytes (r .n) ≤ bytes
+
+pub good-numbers : (r : Run) (bytes : ℕ) → goodNumbers r bytes ≡ true → GoodNumbers r bytes
+unfolding goodNumbers
+good-numbers r bytes e =
+    let a1 : Bool = leb (r .n) mostBytes in
+    let a2 : Bool = leb (r .position) (r .n) in
+    let a3 : Bool = leb 1 (r .depth) in
+    let a4 : Bool = leb (r .depth) (r .position + 1) in
+    let a5 : Bool = leb (r .moves) (r .position) in
+    let a6 : Bool = leb (stackBytes (r .n)) bytes in
+    let t5 = and-left (a1 && a2 && a3 && a4 && a5) a6 e in
+    let t4 = and-left (a1 && a2 && a3 && a4) a5 t5 in
+    let t3 = and-left (a1 && a2 && a3) a4 t4 in
+    let t2 = and-left (a1 && a2) a3 t3 in
+    record {
+      small = leb-true (r .n) mostBytes (and-left a1 a2 t2);
+      inside = leb-true (r .position) (r .n) (and-right a1 a2 t2);
+      some-depth = leb-true 1 (r .depth) (and-right (a1 && a2) a3 t3);
+      low-depth = leb-true (r .depth) (r .position + 1) (and-right (a1 && a2 && a3) a4 t4);
+      few-moves = leb-true (r .moves) (r .position) (and-right (a1 && a2 && a3 && a4) a5 t5);
+      long = leb-true (stackBytes (r .n)) bytes (and-right (a1 && a2 && a3 && a4 && a5) a6 e);
+    }
+
+-- the entries in use lie within the stack
+pub depth-inside : (r : Run) (bytes : ℕ) → GoodNumbers r bytes → r .depth * entryWidth ≤ bytes
+depth-inside r bytes g = omega (arith, g .inside, g .low-depth, g .long)
+
+module _ (states : ℕ) (r : Run) (s : List ℕ) (t : Bool) (is : t ≡ goodNumbers r (length s)) where
+  pub run-numbers : (q : Bool) → t ≡ true → q ≡ all (declared states) (contents entryFormat s (r .depth)) → q ≡ goodRun states r s
+  unfolding goodRun
+  run-numbers q e a = rw (← is, e) a
+
+  pub run-broken : t ≡ false → false ≡ goodRun states r s
+  unfolding goodRun
+  run-broken e = rw (← is, e)
+
+  pub run-readable : t ≡ true → r .depth * entryWidth ≤ length s
+  run-readable e = depth-inside r (length s) (good-numbers r (length s) (sym is ∙ e))
+
+pub ruleset run-fits = (needs, run-numbers, run-broken, run-readable)
+
+module _ (rules left : ℕ) (row : List ℕ) where
+  pub row-lengths : (q : Bool) → length row ≡ rules * entryWidth → q ≡ all (λ x. leb x left) (contents entryFormat row rules) → q ≡ goodRow rules left row
+  unfolding goodRow
+  row-lengths q e a = rw (eq-eqb (length row) (rules * entryWidth) e) a
+
+  pub row-broken : (length row ≡ rules * entryWidth → ⊥) → false ≡ goodRow rules left row
+  unfolding goodRow
+  row-broken h = rw (ne-eqb (length row) (rules * entryWidth) h)
+
+  -- a row that fits
+  pub row-long : goodRow rules left row ≡ true → length row ≡ rules * entryWidth
+  unfolding goodRow
+  row-long e = eqb-true (length row) (rules * entryWidth) (and-left (eqb (length row) (rules * entryWidth)) (all (λ x. leb x left) (contents entryFormat row rules)) e)
+
+  pub row-length : goodRow rules left row ≡ true → (k : ℕ) → k < rules → entryAt row k ≤ left
+  unfolding goodRow
+  row-length e k h =
+      let a : all (λ x. leb x left) (contents entryFormat row rules) ≡ true =
+      and-right (eqb (length row) (rules * entryWidth)) (all (λ x. leb x left) (contents entryFormat row rules)) e in
+      let m : k < length (contents entryFormat row rules) = omega (arith, contents-count entryFormat row rules, h) in
+      let b : leb (entryAt row k) left ≡ true = ap (λ (x : ℕ). leb x left) (sym (contents-read entryFormat row rules k h)) ∙ all-at (λ x. leb x left) (contents entryFormat row rules) 0 k a m in
+      leb-true (entryAt row k) left b
+
+pub ruleset row-fits = (needs, row-lengths, row-broken)
+
+-- a run that fits
+module _ (states : ℕ) (r : Run) (s : List ℕ) (fits : goodRun states r s ≡ true) where
+  pub run-is : GoodNumbers r (length s)
+  unfolding goodRun
+  run-is = good-numbers r (length s) (and-left (goodNumbers r (length s)) (all (declared states) (contents entryFormat s (r .depth))) fits)
+
+  pub current-declared : current r s < states
+  unfolding goodRun
+  current-declared =
+      let d : ℕ = r .depth in
+      let h : d - 1 < d = omega (arith, run-is .some-depth) in
+      let a : all (declared states) (contents entryFormat s d) ≡ true = and-right (goodNumbers r (length s)) (all (declared states) (contents entryFormat s d)) fits in
+      let m : d - 1 < length (contents entryFormat s d) = omega (arith, contents-count entryFormat s d, h) in
+      let b : declared states (entryAt s (d - 1)) ≡ true = ap (declared states) (sym (contents-read entryFormat s d (d - 1) h)) ∙ all-at (declared states) (contents entryFormat s d) 0 (d - 1) a m in
+      ltb-true (entryAt s (d - 1)) states b

@@ -1,0 +1,5 @@
+pub mod Places
+pub mod Winning
+pub mod Fitting
+pub mod Moving
+pub mod Stepping

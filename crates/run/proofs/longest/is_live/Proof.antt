@@ -1,0 +1,17 @@
+-- `run::longest::is_live` meets its contract: each branch is one of the definition.
+use Rattle.run.proofs.Winning.{living}
+use Rattle.run.proofs.longest.is_live.Statement.{statement}
+use Rattle.run.proofs.longest.is_live.Tie as tie
+
+pub is-live-spec : {M : Type 1} → statement M
+is-live-spec =
+    tie.close
+    (tie.spec
+    (λ c. search living)
+    (λ c. search living)
+    (λ c. search living)
+    (λ c κs. search living)
+    (λ c. search living)
+    (λ c κs. search living)
+    (λ c. search living)
+    (λ c. search living))

@@ -1,0 +1,50 @@
+-- `run::longest::longest` meets its contract: what is kept is the best of the rules so far.
+use mathlib.Core.Path.{_≡_, ap, _∙_}
+use Prim.Native.Nat.{ℕ, _≤_, _-_}
+use native.Mathlib.Omega.{arith}
+use borrow.Author.Needs.{needs}
+use Rattle.area.specs.Contents.{contents, stateFormat, ruleFormat, entryFormat}
+use Rattle.run.specs.Winner.{weight, best}
+use Rattle.run.proofs.Winning.{best-none, scan-next, scan-ended, list-inside}
+use Rattle.run.proofs.longest.longest.Statement.{statement}
+use Rattle.run.proofs.longest.longest.Tie as tie
+
+abbrev Inv-loop : tie.InvT-loop
+Inv-loop area1 area2 area3 states rules entries state row most b₀ k₀ b k =
+    (k ≤ rules) × (b ≡ best (weight (contents stateFormat area1 states) (contents ruleFormat area2 rules) (contents entryFormat area3 entries) state row) k)
+
+abbrev μ-loop : tie.MeasureT-loop
+μ-loop area1 area2 area3 states rules entries state row most b₀ k₀ b k = rules - k
+
+loop-holds : tie.Need-loop-holds Inv-loop μ-loop
+loop-holds c = (omega arith, best-none _)
+
+read-rule-requires : tie.Need-read-rule-requires Inv-loop μ-loop
+read-rule-requires c κs = omega (arith, c .before .before .before .before .before .before .before .pre .0 .long2)
+
+better-of-requires : tie.Need-better-of-requires Inv-loop μ-loop
+better-of-requires c κs =
+    let start = c .before .before .before .before .before .before .before .before in
+    (list-inside (start .pre .0) _ _ (search needs) (c .read-rule .ensures), (start .pre .0 .long3, (start .pre .1 .0, start .pre .0 .long1)))
+
+loop-again : tie.Need-loop-again Inv-loop μ-loop
+loop-again c =
+    (search needs, scan-next _ _ _ _ _ _ _ _ _ _ _ _ _ (search needs) (c .before .before .before .before .loop .inv .1) (c .before .read-rule .ensures) (c .before .before .read-entry .ensures) (c .better-of .ensures))
+
+returns : tie.Need-returns Inv-loop μ-loop
+returns c = search scan-ended
+
+pub longest-spec : {M : Type 1} → statement M
+longest-spec =
+    tie.close
+    (tie.spec
+    Inv-loop
+    μ-loop
+    loop-holds
+    (λ c κs. search needs)
+    read-rule-requires
+    better-of-requires
+    (λ c. search needs)
+    (λ c. search needs)
+    loop-again
+    returns)

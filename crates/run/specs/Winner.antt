@@ -1,0 +1,57 @@
+-- The rule that a step goes by: of the rules that are live in the current state the one with the greatest length, the earlier at a tie
+-- (01, The run).
+use Prim.Native.Nat.{ℕ, zero, suc, _+_, max}
+use mathlib.Core.Bool.{Bool, cond, _&&_, _||_}
+use mathlib.Core.List.{List}
+use lib.Dec.{eqb, ltb}
+use Rattle.text.specs.Walk.{first}
+use Rattle.area.specs.declared.State.{State}
+use Rattle.area.specs.declared.Rule.{Rule}
+use Rattle.area.specs.Records.{entryAt, nthState, nthRule, nthEntry}
+use Rattle.run.specs.declared.Best.{Best}
+
+-- ---- a rule that is live
+
+-- where a state stands among the list entries from one place to before another; the end where it does not
+unfoldable pub findState : List ℕ → ℕ → ℕ → ℕ → ℕ
+findState lists from end state = first (λ i. eqb (nthEntry lists i) state) from end
+
+abbrev pub listEnd : Rule → ℕ
+listEnd x = x .«list_from» + x .«list_count»
+
+-- the list of a rule has a state
+unfoldable pub listed : List ℕ → ℕ → Rule → Bool
+listed lists state x = ltb (findState lists (x .«list_from») (listEnd x) state) (listEnd x)
+
+-- the list of the rule has the state, or is empty and the state is not exclusive
+unfoldable pub live : List State → List ℕ → ℕ → Rule → Bool
+live states lists state x = listed lists state x || (eqb (x .«list_count») 0 && eqb (nthState states state .exclusive) 0)
+
+-- ---- its length
+
+-- the length that a row has for rule k
+abbrev pub lengthIn : List ℕ → ℕ → ℕ
+lengthIn row k = entryAt row k
+
+-- the same where the rule is live in the state, and otherwise 0
+unfoldable pub weight : List State → List Rule → List ℕ → ℕ → List ℕ → ℕ → ℕ
+weight states rules lists state row k = cond (live states lists state (nthRule rules k)) (lengthIn row k) 0
+
+-- ---- the winner
+
+-- the greatest of f 0 up to f (n - 1), and 0 where n is 0
+unfoldable pub greatest : (ℕ → ℕ) → ℕ → ℕ
+greatest f zero = 0
+greatest f (suc n) = max (greatest f n) (f n)
+
+-- the first place that has it
+unfoldable pub earliest : (ℕ → ℕ) → ℕ → ℕ
+earliest f n = first (λ k. eqb (f k) (greatest f n)) 0 n
+
+-- the greatest length, and the rule that wins by it
+abbrev pub best : (ℕ → ℕ) → ℕ → Best
+best f n = record { length = greatest f n; rule = earliest f n }
+
+-- of a rule that wins among the earlier ones and rule k, of that weight, the one that wins
+unfoldable pub better : Best → ℕ → ℕ → Best
+better b k w = cond (ltb (b .length) w) (record { length = w; rule = k }) b

@@ -1,0 +1,177 @@
+// The start call and the step call (01, Numbers given at the counter, and The run).
+ghost use mathlib.Core.Path.{_≡_};
+ghost use mathlib.Core.Bool.{true};
+ghost use Prim.Native.Nat.{_-_, _≤_, _<_};
+ghost use lib.ListN.{length};
+ghost use Rattle.area.specs.Contents.{contents, stateFormat, ruleFormat, entryFormat};
+ghost use Rattle.sheet_check.specs.SheetCheck.{sheetBytes};
+ghost use Rattle.run.specs.Run.{Readable, runOf, startLeft, startCall, goodRun, goodRow, stepLeft, stepRow, stepRun, stepCall};
+use crate::Begun;
+use crate::Run;
+use crate::Step;
+use crate::Stepped;
+use crate::fit::good_row;
+use crate::fit::good_run;
+use crate::longest::longest;
+use crate::moves::put_state;
+use crate::moves::won_by;
+use area::read_entry;
+use area::read_rule;
+use sheet_check::check::check;
+
+const MOST_BYTES: u64 = 4096;
+
+const ENTRY_WIDTH: usize = 2;
+
+// Begins a run over an entry of n bytes.
+pub fn start(n: u64, run: &mut [u16; 4], stack: &mut [u8]) -> Begun
+    ensures { λ a. ⌜ startLeft a (runOf (now (run .exit))) (now (stack .exit)) ≡ startCall n (runOf (now (run .entry))) (now (stack .entry)) ⌝ }
+{
+    if n > MOST_BYTES {
+        return Begun::PoorStart;
+    }
+    if stack.len() < ENTRY_WIDTH * (n as usize + 1) {
+        return Begun::PoorStart;
+    }
+    put_state(stack, 0, 0);
+    *run = [n as u16, 0, 1, 0];
+    Begun::Started
+}
+
+// A row that fits: the winner, or that no live rule has a length.
+fn step_row(
+    area1: &[u8],
+    area2: &[u8],
+    area3: &[u8],
+    states: u16,
+    rules: u16,
+    entries: u16,
+    r: Run,
+    stack: &mut [u8],
+    row: &[u8],
+) -> Stepped
+    requires { ⌜ Readable (now area1) (now area2) (now area3) states rules entries ⌝ }
+    requires { ⌜ goodRun states r (now stack) ≡ true ⌝ }
+    requires { ⌜ r .position < r .n ⌝ }
+    requires { ⌜ goodRow rules (r .n - r .position) (now row) ≡ true ⌝ }
+    ensures { λ q. ⌜ stepLeft (q .answer) (q .run) (now (stack .exit)) ≡ stepRow (contents stateFormat (now (area1 .entry)) states) (contents ruleFormat (now (area2 .entry)) rules) (contents entryFormat (now (area3 .entry)) entries) r (now (stack .entry)) (now (row .entry)) ⌝ }
+{
+    let state = read_entry(stack, r.depth as usize - 1);
+    let b = longest(area1, area2, area3, states, rules, entries, state, row);
+    if b.length == 0 {
+        return Stepped {
+            answer: Step::Stopped,
+            run: r,
+        };
+    }
+    let x = read_rule(area2, b.rule);
+    won_by(x, b.length, r, stack)
+}
+
+// A sheet that passed the check.
+fn step_run(
+    area1: &[u8],
+    area2: &[u8],
+    area3: &[u8],
+    states: u16,
+    rules: u16,
+    entries: u16,
+    r: Run,
+    stack: &mut [u8],
+    row: &[u8],
+) -> Stepped
+    requires { ⌜ Readable (now area1) (now area2) (now area3) states rules entries ⌝ }
+    ensures { λ q. ⌜ stepLeft (q .answer) (q .run) (now (stack .exit)) ≡ stepRun (contents stateFormat (now (area1 .entry)) states) (contents ruleFormat (now (area2 .entry)) rules) (contents entryFormat (now (area3 .entry)) entries) r (now (stack .entry)) (now (row .entry)) ⌝ }
+{
+    if good_run(states, r, stack) {
+        if r.position == r.n {
+            return Stepped {
+                answer: Step::Done,
+                run: r,
+            };
+        }
+        if good_row(rules, r.n - r.position, row) {
+            return step_row(area1, area2, area3, states, rules, entries, r, stack, row);
+        }
+        return Stepped {
+            answer: Step::IllFittingRow,
+            run: r,
+        };
+    }
+    Stepped {
+        answer: Step::BrokenRun,
+        run: r,
+    }
+}
+
+// The sheet is checked first of all.
+fn step_sheet(
+    src: &[u8],
+    area1: &[u8],
+    area2: &[u8],
+    area3: &[u8],
+    area4: &[u8],
+    area5: &[u8],
+    counts: &[u16; 6],
+    r: Run,
+    stack: &mut [u8],
+    row: &[u8],
+) -> Stepped
+    ensures { λ q. ⌜ stepLeft (q .answer) (q .run) (now (stack .exit)) ≡ stepCall (sheetBytes (now (src .entry)) (now (area1 .entry)) (now (area2 .entry)) (now (area3 .entry)) (now (area4 .entry)) (now (area5 .entry)) (now (counts .entry))) r (now (stack .entry)) (now (row .entry)) ⌝ }
+{
+    if check(src, area1, area2, area3, area4, area5, counts) {
+        return step_run(
+            area1,
+            area2,
+            area3,
+            counts[0],
+            counts[1],
+            counts[2],
+            r,
+            stack,
+            row,
+        );
+    }
+    Stepped {
+        answer: Step::BrokenSheet,
+        run: r,
+    }
+}
+
+// Moves a run on by one row.
+pub fn step(
+    src: &[u8],
+    area1: &[u8],
+    area2: &[u8],
+    area3: &[u8],
+    area4: &[u8],
+    area5: &[u8],
+    counts: &[u16; 6],
+    run: &mut [u16; 4],
+    stack: &mut [u8],
+    row: &[u8],
+) -> Step
+    ensures { λ a. ⌜ stepLeft a (runOf (now (run .exit))) (now (stack .exit)) ≡ stepCall (sheetBytes (now (src .entry)) (now (area1 .entry)) (now (area2 .entry)) (now (area3 .entry)) (now (area4 .entry)) (now (area5 .entry)) (now (counts .entry))) (runOf (now (run .entry))) (now (stack .entry)) (now (row .entry)) ⌝ }
+{
+    let r = Run {
+        n: run[0],
+        position: run[1],
+        depth: run[2],
+        moves: run[3],
+    };
+    let q = step_sheet(
+        src,
+        area1,
+        area2,
+        area3,
+        area4,
+        area5,
+        counts,
+        r,
+        stack,
+        row,
+    );
+    let after = q.run;
+    *run = [after.n, after.position, after.depth, after.moves];
+    q.answer
+}

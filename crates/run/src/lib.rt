@@ -1,0 +1,43 @@
+// A run of the lexer that a sheet describes: the start call and the step call (01, The run).
+mod fit; // whether a run and a row fit
+mod longest; // the rule that wins
+mod moves; // what the winner does
+pub mod call; // the calls
+
+// A run's numbers: the bytes of the entry, those behind it, the entries of the stack in use, and the moves so far.
+pub struct Run {
+    pub n: u16,
+    pub position: u16,
+    pub depth: u16,
+    pub moves: u16,
+}
+
+// The greatest length among live rules, and the first rule that has it.
+struct Best {
+    length: u16,
+    rule: usize,
+}
+
+// The answers of the start call: accepted, or refused by number 8 of 01.
+pub enum Begun {
+    Started,
+    PoorStart,
+}
+
+// The answers of the step call. A token has its id, start and length.
+pub enum Step {
+    BrokenSheet,
+    BrokenRun,
+    IllFittingRow,
+    Done,
+    Stopped,
+    Unlinked,
+    Skip,
+    Token(u16, u16, u16),
+}
+
+// An answer, and the run's numbers after it.
+struct Stepped {
+    answer: Step,
+    run: Run,
+}

@@ -1,0 +1,103 @@
+// The rule that wins: of those that are live the one with the greatest length, the earlier at a tie (01, The run).
+ghost use mathlib.Core.Path.{_≡_};
+ghost use mathlib.Core.Bool.{cond};
+ghost use Prim.Native.Nat.{_+_, _*_, _≤_, _<_};
+ghost use lib.ListN.{length};
+ghost use Rattle.text.specs.Walk.{Between};
+ghost use Rattle.area.specs.Records.{stateWidth, entryWidth};
+ghost use Rattle.area.specs.Contents.{contents, stateFormat, ruleFormat, entryFormat};
+ghost use Rattle.run.specs.Winner.{findState, live, weight, best, better};
+ghost use Rattle.run.specs.Run.{Readable};
+use crate::Best;
+use area::Rule;
+use area::read_entry;
+use area::read_rule;
+use area::read_state;
+
+// Where a state stands among the list entries from one place to before another.
+fn find_state(area3: &[u8], entries: u16, from: usize, end: usize, state: u16) -> usize
+    requires { ⌜ (from ≤ end) × (end ≤ entries) × (entries * entryWidth ≤ length (now area3)) ⌝ }
+    ensures { λ r. ⌜ r ≡ findState (contents entryFormat (now (area3 .entry)) entries) from end state ⌝ }
+{
+    let mut i = from;
+    while i < end {
+        if read_entry(area3, i) == state {
+            return i;
+        }
+        i += 1;
+    }
+    i
+}
+
+fn is_live(area1: &[u8], area3: &[u8], states: u16, entries: u16, state: u16, x: Rule) -> bool
+    requires { ⌜ x .«list_from» + x .«list_count» ≤ entries ⌝ }
+    requires { ⌜ entries * entryWidth ≤ length (now area3) ⌝ }
+    requires { ⌜ (state < states) × (states * stateWidth ≤ length (now area1)) ⌝ }
+    ensures { λ r. ⌜ r ≡ live (contents stateFormat (now (area1 .entry)) states) (contents entryFormat (now (area3 .entry)) entries) state x ⌝ }
+{
+    let from = x.list_from as usize;
+    let end = from + x.list_count as usize;
+    if find_state(area3, entries, from, end, state) < end {
+        return true;
+    }
+    if x.list_count == 0 {
+        let s = read_state(area1, state as usize);
+        return s.exclusive == 0;
+    }
+    false
+}
+
+// The list of a rule is read only where its length would win.
+fn better_of(
+    area1: &[u8],
+    area3: &[u8],
+    states: u16,
+    entries: u16,
+    state: u16,
+    b: Best,
+    k: usize,
+    x: Rule,
+    bytes: u16,
+) -> Best
+    requires { ⌜ x .«list_from» + x .«list_count» ≤ entries ⌝ }
+    requires { ⌜ entries * entryWidth ≤ length (now area3) ⌝ }
+    requires { ⌜ (state < states) × (states * stateWidth ≤ length (now area1)) ⌝ }
+    ensures { λ r. ⌜ r ≡ better b k (cond (live (contents stateFormat (now (area1 .entry)) states) (contents entryFormat (now (area3 .entry)) entries) state x) bytes 0) ⌝ }
+{
+    if b.length < bytes {
+        if is_live(area1, area3, states, entries, state, x) {
+            return Best {
+                length: bytes,
+                rule: k,
+            };
+        }
+    }
+    b
+}
+
+pub fn longest(
+    area1: &[u8],
+    area2: &[u8],
+    area3: &[u8],
+    states: u16,
+    rules: u16,
+    entries: u16,
+    state: u16,
+    row: &[u8],
+) -> Best
+    requires { ⌜ Readable (now area1) (now area2) (now area3) states rules entries ⌝ }
+    requires { ⌜ state < states ⌝ }
+    requires { ⌜ rules * entryWidth ≤ length (now row) ⌝ }
+    ensures { λ r. ⌜ r ≡ best (weight (contents stateFormat (now (area1 .entry)) states) (contents ruleFormat (now (area2 .entry)) rules) (contents entryFormat (now (area3 .entry)) entries) state (now (row .entry))) rules ⌝ }
+{
+    let most = rules as usize;
+    let mut b = Best { length: 0, rule: 0 };
+    let mut k = 0;
+    while k < most {
+        let bytes = read_entry(row, k);
+        let x = read_rule(area2, k);
+        b = better_of(area1, area3, states, entries, state, b, k, x, bytes);
+        k += 1;
+    }
+    b
+}

@@ -1,0 +1,91 @@
+// What the winner of a row does: its answer, the run's numbers and the stack (01, The run).
+ghost use mathlib.Core.Path.{_≡_};
+ghost use Prim.Native.Nat.{_+_, _*_, _≤_};
+ghost use lib.ListN.{length};
+ghost use Rattle.area.specs.Records.{entryWidth};
+ghost use Rattle.run.specs.Run.{putState, stacked, operated, moved, moveBy, stepLeft, wonBy};
+use crate::Run;
+use crate::Step;
+use crate::Stepped;
+use area::Rule;
+use area::write_field;
+
+const ENTRY_WIDTH: usize = 2;
+
+// The operations of a rule.
+const REPLACE: u16 = 1;
+
+const PUSH: u16 = 2;
+
+const POP: u16 = 3;
+
+pub fn put_state(stack: &mut [u8], k: u16, id: u16)
+    requires { ⌜ k * entryWidth + entryWidth ≤ length (now stack) ⌝ }
+    ensures { λ _. ⌜ now (stack .exit) ≡ putState (now (stack .entry)) k id ⌝ }
+{
+    write_field(stack, k as usize * ENTRY_WIDTH, id);
+}
+
+// Does the operation of a rule, and answers how many entries are in use then.
+fn operate(x: Rule, depth: u16, stack: &mut [u8]) -> u16
+    requires { ⌜ (1 ≤ depth) × (depth ≤ 4096) × (depth * entryWidth + entryWidth ≤ length (now stack)) ⌝ }
+    ensures { λ r. ⌜ stacked r (now (stack .exit)) ≡ operated x depth (now (stack .entry)) ⌝ }
+{
+    if x.operation == REPLACE {
+        put_state(stack, 0, x.target);
+        return 1;
+    }
+    if x.operation == PUSH {
+        put_state(stack, depth, x.target);
+        return depth + 1;
+    }
+    if x.operation == POP {
+        if depth == 1 {
+            put_state(stack, 0, 0);
+            return 1;
+        }
+        return depth - 1;
+    }
+    depth
+}
+
+// A move by the winner: the run's numbers after it.
+fn move_by(x: Rule, bytes: u16, r: Run, stack: &mut [u8]) -> Run
+    requires { ⌜ (1 ≤ r .depth) × (r .depth ≤ 4096) × (r .depth * entryWidth + entryWidth ≤ length (now stack)) ⌝ }
+    requires { ⌜ (r .position + bytes ≤ 4096) × (r .moves ≤ 4096) ⌝ }
+    ensures { λ q. ⌜ moved q (now (stack .exit)) ≡ moveBy x bytes r (now (stack .entry)) ⌝ }
+{
+    let depth = operate(x, r.depth, stack);
+    Run {
+        n: r.n,
+        position: r.position + bytes,
+        depth: depth,
+        moves: r.moves + 1,
+    }
+}
+
+// The winner, by so many bytes.
+pub fn won_by(x: Rule, bytes: u16, r: Run, stack: &mut [u8]) -> Stepped
+    requires { ⌜ (1 ≤ r .depth) × (r .depth ≤ 4096) × (r .depth * entryWidth + entryWidth ≤ length (now stack)) ⌝ }
+    requires { ⌜ (r .position + bytes ≤ 4096) × (r .moves ≤ 4096) ⌝ }
+    ensures { λ q. ⌜ stepLeft (q .answer) (q .run) (now (stack .exit)) ≡ wonBy x bytes r (now (stack .entry)) ⌝ }
+{
+    if x.named == 1 {
+        if x.has_id == 1 {
+            let run = move_by(x, bytes, r, stack);
+            return Stepped {
+                answer: Step::Token(x.id, r.position, bytes),
+                run: run,
+            };
+        }
+        return Stepped {
+            answer: Step::Unlinked,
+            run: r,
+        };
+    }
+    let run = move_by(x, bytes, r, stack);
+    Stepped {
+        answer: Step::Skip,
+        run: run,
+    }
+}
