@@ -1,9 +1,9 @@
 -- What an accepted parse yields. Of the ways in which a file can end only one accepts it, and there both sections went on; so what they keep holds
 -- of the contents, and there are no faults.
-use Prim.Native.Nat.{ℕ, _+_, _≤_, _<_}
-use mathlib.Core.Path.{_≡_, refl, sym, ap, subst, _∙_}
-use mathlib.Core.Bool.{Bool, true, false, cond}
-use mathlib.Core.List.{List, [], _∷_, _++_}
+use Prim.Native.Nat.{ℕ, _≤_}
+use mathlib.Core.Path.{_≡_, refl, subst}
+use mathlib.Core.Bool.{true, cond}
+use mathlib.Core.List.{List, [], _∷_}
 use mathlib.Core.Option.{Option, none, some}
 use native.Mathlib.Omega.{arith}
 use borrow.Author.Tests.{eqb-true, ltb-false}
@@ -15,13 +15,13 @@ use Rattle.area.specs.declared.State.{State}
 use Rattle.area.specs.declared.Fault.{Fault}
 use Rattle.area.specs.Records.{stateOf, expectedOf, ruleOf}
 use Rattle.area.specs.Contents.{Format, append, stateFormat, ruleFormat, entryFormat, textFormat, expectedFormat}
-use Rattle.fault.specs.Step.{Out, go, bad, full, next, onto, written}
+use Rattle.fault.specs.Step.{Out, go, bad, full, onto, written}
 use Rattle.fault.specs.Faults.{addFault}
 use Rattle.declarations.specs.Declarations.{Declared, declarations, state}
-use Rattle.rules.specs.Rules.{Ruled, sheetOf, rulesSection}
+use Rattle.rules.specs.Rules.{sheetOf, rulesSection}
 use Rattle.parse.specs.Parse.{Contents, Caps, declarationCaps, ruleCaps, Outcome, long, stray, untext, short, faulty, accepted, closed, ending, judge, contentsOf, noRules, rulesFrom, undeclared, withStates, opening, file, outcome}
 use Rattle.sheet_check.specs.SheetCheck.{all}
-use Rattle.accepted.specs.Accepted.{Each, Fits, StateHolds, ExpectedHolds, EntryHolds, RuleHolds, StatesHold, ExpectedsHold, EntriesHold, NamesDiffer, RulesHold, ContentsHold, isByte}
+use Rattle.accepted.specs.Accepted.{Fits, StateHolds, ExpectedHolds, EntryHolds, RuleHolds, StatesHold, ContentsHold, isByte}
 use Rattle.accepted.proofs.Going.{Yields, yields-next, yields-onto, yields-append}
 use Rattle.accepted.proofs.Elements.{each-none, each-snoc}
 use Rattle.accepted.proofs.ByteLists.{utf8-bytes}

@@ -1,21 +1,21 @@
 -- Well-formed text consists of bytes, since each byte of an encoded code point is below 256; and so does rewritten text, which is made of parts of the
 -- source and of the texts for `\b`.
-use Prim.Native.Nat.{ℕ, zero, suc, _+_, _-_, _/_, _%_, _≤_, _<_}
-use mathlib.Core.Path.{_≡_, refl, sym, ap, subst, _∙_}
-use mathlib.Core.Bool.{Bool, true, false, cond, _&&_, _||_}
+use Prim.Native.Nat.{ℕ, zero, suc, _+_, _-_, _/_, _%_, _<_}
+use mathlib.Core.Path.{_≡_, refl, subst}
+use mathlib.Core.Bool.{Bool, true}
 use mathlib.Core.List.{List, [], _∷_, _++_}
 use native.Mathlib.Omega.{arith}
-use borrow.Author.Tests.{lt-ltb, ltb-true, ltb-false}
+use borrow.Author.Tests.{lt-ltb, ltb-true}
 use lib.Dec.{eqb, ltb}
 use lib.ListN.{length, take, drop}
 use Rattle.text.specs.Class.{within}
 use Rattle.text.specs.Whitespace.{byte}
 use Rattle.text.specs.Range.{part}
-use Rattle.text.specs.Unicode.{isScalar, encode, encodeAll, Scalars, Encoded}
+use Rattle.text.specs.Unicode.{isScalar, encode, encodeAll, Scalars}
 use Rattle.text.specs.Utf8.{utf8}
 use Rattle.text.proofs.Tests.{by-test, and-left, and-right, or-cases, range-of}
 use Rattle.text.proofs.Decoding.{utf8-judges}
-use Rattle.escape.specs.Escape.{posixEscapes, backspace, isKept, escapeFrom, escaped, pieceEnd, piece, pieces, rewrittenEnd, unescaped}
+use Rattle.escape.specs.Escape.{posixEscapes, backspace, escapeFrom, escaped, pieceEnd, piece, pieces, rewrittenEnd, unescaped}
 use Rattle.sheet_check.specs.SheetCheck.{all}
 use Rattle.accepted.specs.Accepted.{isByte}
 

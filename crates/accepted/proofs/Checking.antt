@@ -1,13 +1,12 @@
 -- The contents of an accepted parse pass the sheet check, since what holds of each record is what the check asks of it.
-use Prim.Native.Nat.{ℕ, _+_, _*_, _≤_, _<_}
-use mathlib.Core.Path.{_≡_, refl, sym, ap, subst, _∙_}
-use mathlib.Core.Bool.{Bool, true, false, cond, _&&_}
+use Prim.Native.Nat.{ℕ, _+_, _<_}
+use mathlib.Core.Path.{_≡_, sym}
+use mathlib.Core.Bool.{true, cond}
 use mathlib.Core.List.{List, []}
 use mathlib.Core.Logic.{⊎-elim}
-use native.Mathlib.Nat.{eq-or-lt-of-le}
 use native.Mathlib.Omega.{arith}
 use borrow.Author.Tests.{le-leb, lt-ltb}
-use lib.Dec.{eqb, ltb, leb}
+use lib.Dec.{eqb}
 use lib.ListN.{length}
 use Rattle.text.proofs.Tests.{le-or-lt}
 use Rattle.area.specs.declared.State.{State}
@@ -16,7 +15,7 @@ use Rattle.area.specs.declared.Expected.{Expected}
 use Rattle.area.specs.Records.{stateOf, ruleOf, expectedOf, nthRule}
 use Rattle.parse.specs.Parse.{Contents, Caps, outcome, accepted}
 use Rattle.sheet_check.specs.SheetCheck.{all, declared, goodState, goodRule, goodExpected, goodContents}
-use Rattle.accepted.specs.Accepted.{Each, StateHolds, ExpectedHolds, EntryHolds, RuleHolds, ContentsHold, ContentsFit, nameOf, isByte}
+use Rattle.accepted.specs.Accepted.{StateHolds, ExpectedHolds, EntryHolds, RuleHolds, ContentsHold, ContentsFit, nameOf, isByte}
 use Rattle.accepted.proofs.Elements.{all-pass}
 use Rattle.accepted.proofs.Accepting.{accepted-holds}
 

@@ -1,26 +1,24 @@
 -- What the declarations keep: each state and each expected name stands in order within the source, a state's mark is 0 or 1, state 0 is INITIAL,
 -- and the lists fit their areas.
-use Prim.Native.Nat.{ℕ, _+_, _-_, _≤_, _<_}
-use mathlib.Core.Path.{_≡_, refl, sym, ap, subst, _∙_}
-use mathlib.Core.Bool.{Bool, true, false, cond}
+use Prim.Native.Nat.{ℕ, _+_, _-_, _≤_}
+use mathlib.Core.Path.{_≡_, refl, sym, subst, _∙_}
+use mathlib.Core.Bool.{true}
 use mathlib.Core.List.{List, [], _∷_, _++_}
-use mathlib.Core.Option.{Option, none, some}
+use mathlib.Core.Option.{some}
 use native.Mathlib.Omega.{arith}
-use borrow.Author.Tests.{ltb-true, leb-true}
-use lib.Dec.{eqb, ltb, leb}
+use borrow.Author.Tests.{ltb-true}
+use lib.Dec.{eqb, ltb}
 use lib.ListN.{length, length-append, List·getD-append}
-use Rattle.text.specs.Whitespace.{byte, whitespaceLen, atWhitespace, atLineEnd}
-use Rattle.text.specs.Class.{isBlank, isAsciiWhitespace}
+use Rattle.text.specs.Whitespace.{atWhitespace, atLineEnd}
 use Rattle.text.specs.Range.{lookaheadIs}
 use Rattle.text.specs.Scan.{lineEnd, skipBlanks, skipAsciiWhitespace, findAsciiWhitespace, findWhitespace, trimEnd, trimStart}
-use Rattle.text.proofs.Tests.{by-test, and-left}
+use Rattle.text.proofs.Tests.{by-test}
 use Rattle.text.proofs.Walks.{first-from, first-to}
 use Rattle.area.specs.declared.State.{State}
 use Rattle.area.specs.declared.Expected.{Expected}
-use Rattle.area.specs.declared.Fault.{Fault}
 use Rattle.area.specs.Records.{stateOf, expectedOf}
 use Rattle.area.specs.Contents.{append, stateFormat, expectedFormat}
-use Rattle.fault.specs.Step.{Out, go, bad, full, next, onto, written, loop}
+use Rattle.fault.specs.Step.{Out, go, bad, full, onto, written, loop}
 use Rattle.fault.specs.Faults.{addRepeat, DuplicateStartState, InvalidName, PrematureEnd}
 use Rattle.section.specs.Section.{found, percents, toDeclaration, inSection}
 use Rattle.declarations.specs.declared.Naming.{Naming}
@@ -29,7 +27,7 @@ use Rattle.declarations.specs.declared.Declaration.{Declaration}
 use Rattle.declarations.specs.declared.Declaration.the-variants.{States, Expecting, Unknown}
 use Rattle.declarations.specs.Declarations.{Names, names, Declared, Caps, state, expected, namingOf, declareState, nameTo, nextName, stateNames, isQuoted, expectedTo, nextExpected, expectedNames, declares, expectMissing, statesFrom, declarationBy, declarationTo, declarationOf, withNames, withExpected, thenAt, declareAs, declaration, nextDeclaration, endDeclarations, declarations}
 use Rattle.declarations.proofs.Expecting.{quotes-long}
-use Rattle.declarations.proofs.Lines.{names-within, expected-within}
+use Rattle.declarations.proofs.Lines.{names-within}
 use Rattle.accepted.specs.Accepted.{Each, Fits, StateHolds, ExpectedHolds, StatesHold, ExpectedsHold}
 use Rattle.accepted.proofs.Going.{Yields, yields-next, yields-onto, yields-append, yields-written, yields-loop}
 use Rattle.accepted.proofs.Elements.{each-snoc}

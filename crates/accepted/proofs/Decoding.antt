@@ -1,25 +1,24 @@
 -- What the parse call leaves is read back as the contents that it was laid from: each list fits its area, so nothing of it is cut off, and an area
 -- determines its records.
-use Prim.Native.Nat.{ℕ, _+_, _*_, _≤_, _<_}
+use Prim.Native.Nat.{ℕ, _*_, _≤_}
 use mathlib.Core.Path.{_≡_, refl, sym, ap, subst, _∙_}
-use mathlib.Core.Bool.{Bool, true, false, cond, _&&_, false≢true}
+use mathlib.Core.Bool.{Bool, true, false, false≢true}
 use mathlib.Core.List.{List, []}
 use native.Mathlib.Omega.{arith}
 use borrow.Author.Tests.{le-leb}
-use lib.Dec.{leb}
 use lib.ListN.{length}
 use Rattle.area.specs.declared.State.{State}
 use Rattle.area.specs.declared.Rule.{Rule}
 use Rattle.area.specs.declared.Expected.{Expected}
 use Rattle.area.specs.declared.Fault.{Fault}
 use Rattle.area.specs.Areas.{Area}
-use Rattle.area.specs.Contents.{Format, contents, Held, stateFormat, ruleFormat, entryFormat, textFormat, expectedFormat}
+use Rattle.area.specs.Contents.{Format, contents, Held, textFormat}
 use Rattle.area.proofs.Areas.{area-length}
 use Rattle.area.proofs.Contents.{Sound, contents-are, held-of, state-sound, rule-sound, entry-sound, text-sound, expected-sound}
 use Rattle.parse.specs.declared.Answer.{Answer}
 use Rattle.parse.specs.declared.Answer.the-variants.{Accepted, LongFile, StrayFlag, NotText, AreaFull, FaultyFile}
-use Rattle.parse.specs.Parse.{Contents, Caps, Outcome, long, stray, untext, short, faulty, accepted, outcome, Left, laid, countsOf, sheetLeft, leaves, parseCall}
-use Rattle.sheet_check.specs.SheetCheck.{SheetBytes, sheetBytes, decoded, goodContents, longEnough, sheetCheck}
+use Rattle.parse.specs.Parse.{Contents, Caps, Outcome, long, stray, untext, short, faulty, accepted, outcome, Left, laid, sheetLeft, leaves, parseCall}
+use Rattle.sheet_check.specs.SheetCheck.{SheetBytes, decoded, longEnough, sheetCheck}
 use Rattle.accepted.specs.Accepted.{Fits, ContentsFit, AreasHold, sheetLeftBy}
 use Rattle.accepted.proofs.Checking.{accepted-good, accepted-fits, accepted-faultless}
 

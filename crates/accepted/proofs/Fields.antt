@@ -1,6 +1,6 @@
 -- Each number of the contents of an accepted parse fits a field: offsets lie within a source of at most 65,535 bytes, and the other numbers are
 -- places in lists that are no longer than that.
-use Prim.Native.Nat.{ℕ, _+_, _≤_, _<_}
+use Prim.Native.Nat.{ℕ, _≤_, _<_}
 use mathlib.Core.Path.{_≡_, refl}
 use mathlib.Core.Bool.{Bool, true, false, cond}
 use mathlib.Core.List.{List, [], _∷_}

@@ -1,21 +1,20 @@
 -- The places between which a file is read lie within it: where lines are skipped, and where a pattern ends.
-use Prim.Native.Nat.{ℕ, _+_, _%_, _≤_, _<_}
+use Prim.Native.Nat.{ℕ, _+_, _%_, _≤_}
 use mathlib.Core.Path.{_≡_, refl}
-use mathlib.Core.Bool.{Bool, true, false, cond, false≢true}
+use mathlib.Core.Bool.{true, false≢true}
 use mathlib.Core.List.{List}
 use mathlib.Core.Logic.{⊎-elim}
 use native.Mathlib.Nat.{eq-zero-or-pos}
 use native.Mathlib.Omega.{arith}
 use lib.Dec.{eqb}
 use lib.ListN.{length}
-use Rattle.text.specs.Walk.{first, skip, repeat}
 use Rattle.text.specs.Whitespace.{whitespaceLen, lineEndLen, atLineEnd}
 use Rattle.text.specs.Range.{lookaheadIs}
 use Rattle.text.specs.Scan.{lineEnd, skipWhitespace, skipLineEnds, trimEnd, backslashesBefore, keepEscaped, trimEndUnescaped}
 use Rattle.text.specs.declared.Found.{Found}
 use Rattle.text.specs.declared.Found.the-variants.{At, Nothing}
 use Rattle.text.proofs.Tests.{by-test}
-use Rattle.text.proofs.Walks.{first-from, first-to, repeat-keeps, skip-to}
+use Rattle.text.proofs.Walks.{first-to, repeat-keeps, skip-to}
 use Rattle.text.proofs.Spaces.{white-inside, end-inside}
 use Rattle.section.specs.Section.{found, isComment, pastComment, pastLine, toDeclaration, pastRuleLine, toRule}
 use Rattle.section.proofs.Lines.{ahead-within}

@@ -1,15 +1,15 @@
 -- What the rules section keeps: each rule's ranges lie within the source, the list entries and the rewritten text so far, which only grow; its id is
 -- its position; each entry and each target is a declared state; and no two rules have the same name.
 use Prim.Native.Nat.{ℕ, _+_, _-_, _≤_, _<_}
-use mathlib.Core.Path.{_≡_, refl, sym, ap, subst, _∙_}
-use mathlib.Core.Bool.{Bool, true, false, cond, _&&_}
+use mathlib.Core.Path.{_≡_, refl, sym}
+use mathlib.Core.Bool.{Bool, true, false, cond}
 use mathlib.Core.List.{List, [], _∷_, _++_}
 use mathlib.Core.Option.{Option, none, some}
 use native.Mathlib.Nat.{le-refl}
 use native.Mathlib.Omega.{arith}
 use borrow.Author.Tests.{ltb-true}
 use lib.Dec.{eqb, ltb, leb}
-use lib.ListN.{length, getD, length-append, List·getD-append}
+use lib.ListN.{length, length-append, List·getD-append}
 use lib.Seq.{getD-append-seam}
 use Rattle.text.specs.Whitespace.{atWhitespace, atLineEnd}
 use Rattle.text.specs.Scan.{lineEnd, findByte, trimEnd, trimStart, trimEndUnescaped}
@@ -21,7 +21,7 @@ use Rattle.area.specs.declared.Fault.{Fault}
 use Rattle.area.specs.Areas.{room}
 use Rattle.area.specs.Records.{nthRule, ruleOf}
 use Rattle.area.specs.Contents.{append, ruleFormat, entryFormat, textFormat}
-use Rattle.fault.specs.Step.{Out, go, bad, full, next, onto, written, loop}
+use Rattle.fault.specs.Step.{Out, go, bad, full, onto, written}
 use Rattle.fault.specs.Faults.{addFault, addRepeat, UnknownStartState, DuplicateName, RegexError, RoutinesNotSupported, VerbatimNotSupported}
 use Rattle.names.specs.Names.{findState}
 use Rattle.escape.specs.Escape.{unescaped}
@@ -37,8 +37,8 @@ use Rattle.rules.specs.Rules as R
 use Rattle.rules.proofs.Heads.{fresh-from, fresh-to}
 use Rattle.rules.proofs.Patterns.{listed-to}
 use Rattle.sheet_check.specs.SheetCheck.{all}
-use Rattle.accepted.specs.Accepted.{Each, Fits, RuleHolds, EntryHolds, NamesDiffer, RulesHold, EntriesHold, TextHolds, nameOf, isByte}
-use Rattle.accepted.proofs.Going.{Yields, yields-next, yields-onto, yields-append, yields-written, yields-loop, room-holds}
+use Rattle.accepted.specs.Accepted.{Fits, RuleHolds, EntryHolds, NamesDiffer, RulesHold, EntriesHold, TextHolds, isByte}
+use Rattle.accepted.proofs.Going.{Yields, yields-next, yields-onto, yields-append, yields-loop, room-holds}
 use Rattle.accepted.proofs.Elements.{each-snoc, each-weaken, place-cases}
 use Rattle.accepted.proofs.Places.{rule-to, pattern-to}
 use Rattle.accepted.proofs.ByteLists.{all-append, unescaped-bytes}

@@ -10,7 +10,7 @@ use Rattle.text.specs.Range.{part}
 use Rattle.area.specs.declared.State.{State}
 use Rattle.area.specs.declared.Rule.{Rule}
 use Rattle.area.specs.declared.Expected.{Expected}
-use Rattle.area.specs.Records.{nthState, nthRule, nthExpected, stateOf, ruleOf, expectedOf, stateFields, ruleFields, expectedFields}
+use Rattle.area.specs.Records.{nthState, nthRule, stateOf, ruleOf, expectedOf, stateFields, ruleFields, expectedFields}
 use Rattle.area.specs.Contents.{Format, Held, stateFormat, ruleFormat, entryFormat, textFormat, expectedFormat}
 use Rattle.declarations.specs.Declarations.{state}
 use Rattle.parse.specs.Parse.{Contents, Caps, Left, countsOf}
