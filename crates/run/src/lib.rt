@@ -13,9 +13,9 @@ pub struct Run {
 }
 
 // The greatest length among live rules, and the first rule that has it.
-struct Best {
-    length: u16,
-    rule: usize,
+pub struct Best {
+    pub length: u16,
+    pub rule: usize,
 }
 
 // The answers of the start call: accepted, or refused by number 8 of 01.
