@@ -16,7 +16,7 @@ use Rattle.parse.specs.Parse.{Contents, Caps, outcome, accepted, parseCall}
 use Rattle.sheet_check.specs.SheetCheck.{SheetBytes, sheetCheck, decoded, all, declared}
 use Rattle.accepted.specs.Accepted.{sheetLeftBy}
 use Rattle.accepted.proofs.Accepting.{accepted-holds}
-use Rattle.accepted.proofs.Decoding.{accepted-decodes}
+use Rattle.accepted.proofs.Decoding.{accepted-decodes, accepted-checks}
 use Rattle.link.specs.declared.LinkAnswer.the-variants.{Linked}
 use Rattle.link.specs.Map.{Entry, entriesOf}
 use Rattle.link.specs.Link.{relaid, linkRules, linkCall}
@@ -82,11 +82,11 @@ record Relinked (b : SheetBytes) (es : List Entry) (e : SheetBytes) : Type 0 whe
   rules : decoded e .rules ≡ linkRules (b .source) es (decoded b .rules)
   lists : decoded e .lists ≡ decoded b .lists
 
-relink : (b : SheetBytes) (names entries x7 x8 : List ℕ) (p q : ℕ) → linkCall b names entries x7 x8 .answer ≡ Linked p q
+relink : (b : SheetBytes) (names entries x7 x8 : List ℕ) (p q : ℕ) → linkCall b names entries x7 x8 .answer ≡ Linked p q → sheetCheck b ≡ true
     → Relinked b (entriesOf names entries) (linkedSheet b (linkCall b names entries x7 x8))
-relink b names entries x7 x8 p q h =
-    let e = linked-decodes b names entries x7 x8 p q h in
-    record { checks = linked-checks b names entries x7 x8 p q h; states = ap (λ (c : Contents). c .states) e; rules = ap (λ (c : Contents). c .rules) e; lists = ap (λ (c : Contents). c .lists) e }
+relink b names entries x7 x8 p q h passed =
+    let e = linked-decodes b names entries x7 x8 p q h passed in
+    record { checks = linked-checks b names entries x7 x8 p q h passed; states = ap (λ (c : Contents). c .states) e; rules = ap (λ (c : Contents). c .rules) e; lists = ap (λ (c : Contents). c .lists) e }
 
 checked-step : (e : SheetBytes) (r : Run) (s row : List ℕ) → sheetCheck e ≡ true → stepCall e r s row ≡ stepRun (decoded e .states) (decoded e .rules) (decoded e .lists) r s row
 unfolding stepCall
@@ -119,7 +119,7 @@ demand s flags verdicts k c is names entries x7 x8 a b linked holds n r stack st
     let h = accepted-holds s flags verdicts k c is in
     let usable : Usable g = record { some-state = h .states .some; targets = λ j l. h .rules .each .at j l .target; names = holds } in
     let runs : Runs g fresh (stackAs stack fresh) = start-runs n r stack started g refl (h .states .some) in
-    let steps : Sheet g e = relinked-steps g sheet e refl (accepted-decodes s flags verdicts k c is) (relink sheet names entries x7 x8 a b linked) in
+    let steps : Sheet g e = relinked-steps g sheet e refl (accepted-decodes s flags verdicts k c is) (relink sheet names entries x7 x8 a b linked (accepted-checks s flags verdicts k c is)) in
     let same = calls-as g usable e steps rows fresh (stackAs stack fresh) runs in
     let w = whole g usable rows fresh (stackAs stack fresh) runs in
     let at : StartLeft → Type 0 = λ f. Demand g stack f rows (calls e (f .run) (f .stack) rows) in
