@@ -3,3 +3,6 @@ pub mod Winning
 pub mod Fitting
 pub mod Moving
 pub mod Stepping
+pub mod Stacks
+pub mod Following
+pub mod Keeping

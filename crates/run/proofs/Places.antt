@@ -1,5 +1,5 @@
 -- The first position that passes a test: it passes, those before it fail, and no other position is so. By induction on the positions.
-use mathlib.Core.Path.{_≡_, refl, sym, ap, subst, _∙_}
+use mathlib.Core.Path.{_≡_, refl, sym, ap, ap₂, subst, _∙_}
 use mathlib.Core.Bool.{Bool, true, false, cond, true≢false}
 use mathlib.Core.Logic.{_⊎_, inl, inr, ⊎-elim}
 use Prim.Native.Nat.{ℕ, zero, suc, _+_, _-_, _≤_, _<_}
@@ -50,3 +50,15 @@ module _ (test : ℕ → Bool) (i e : ℕ) (h : i ≤ e) where
 -- the position that passes, with those before it failing, is the first
 pub first-only : (test : ℕ → Bool) (i j e : ℕ) → i ≤ j → j < e → test j ≡ true → ((m : ℕ) → i ≤ m → m < j → test m ≡ false) → first test i e ≡ j
 first-only test i j e h l t f = first-over test i j e h (omega arith) f ∙ sym (first-here test j e l t)
+
+-- tests that agree have the same first position
+first-of-same : (p q : ℕ → Bool) (n i : ℕ) → ((m : ℕ) → i ≤ m → m < i + n → p m ≡ q m) → firstOf p i n ≡ firstOf q i n
+unfolding firstOf
+first-of-same p q zero i f = refl
+first-of-same p q (suc n) i f =
+    ap₂ (λ (t : Bool) (r : ℕ). cond t i r) (f i (omega arith) (omega arith))
+    (first-of-same p q n (suc i) (λ m h g. f m (omega arith) (omega arith)))
+
+pub first-same : (p q : ℕ → Bool) (i e : ℕ) → ((m : ℕ) → i ≤ m → m < e → p m ≡ q m) → first p i e ≡ first q i e
+unfolding first
+first-same p q i e f = first-of-same p q (e - i) i (λ m h g. f m h (omega arith))

@@ -22,7 +22,7 @@ use Rattle.sheet_check.proofs.Checked.{contents-read}
 use Rattle.run.specs.declared.Best.{Best}
 use Rattle.run.specs.Winner.{findState, listEnd, listed, live, lengthIn, weight, greatest, earliest, best, better}
 use Rattle.run.specs.Run.{Readable}
-use Rattle.run.proofs.Places.{first-passes, first-before, first-low, first-only}
+use Rattle.run.proofs.Places.{first-passes, first-before, first-low, first-only, first-same}
 
 -- ---- a state in a list
 
@@ -206,6 +206,69 @@ module _ (f : ℕ → ℕ) where
       by : (t : Bool) → ltb (greatest f n) (f n) ≡ t → cond t (record { length = f n; rule = n }) (best f n) ≡ best f (suc n)
       by true e = best-new n (ltb-true (greatest f n) (f n) e)
       by false e = best-old n (ltb-false (greatest f n) (f n) e)
+
+-- numbers that agree have the same best
+module _ (f g : ℕ → ℕ) where
+  greatest-same : (n : ℕ) → ((k : ℕ) → k < n → f k ≡ g k) → greatest f n ≡ greatest g n
+  unfolding greatest
+  greatest-same zero h = refl
+  greatest-same (suc n) h = ap₂ max (greatest-same n (λ k l. h k (omega arith))) (h n (omega arith))
+
+  earliest-same : (n : ℕ) → ((k : ℕ) → k < n → f k ≡ g k) → earliest f n ≡ earliest g n
+  unfolding earliest
+  earliest-same n h =
+      first-same (λ k. eqb (f k) (greatest f n)) (λ k. eqb (g k) (greatest g n)) 0 n (λ m z l. ap₂ eqb (h m l) (greatest-same n h))
+
+  pub best-same : (n : ℕ) → ((k : ℕ) → k < n → f k ≡ g k) → best f n ≡ best g n
+  best-same n h = λ i. record { length = greatest-same n h i; rule = earliest-same n h i }
+
+-- ---- the winner as 01 has it
+
+-- rule k wins by so many bytes: it is live and has that length, no live rule has more, and no live rule before it as many
+pub record Wins (states : List State) (rules : List Rule) (lists : List ℕ) (state : ℕ) (row : List ℕ) (k bytes : ℕ) : Type 0 where
+  pub inside : k < length rules
+  pub is-live : live states lists state (nthRule rules k) ≡ true
+  pub has : lengthIn row k ≡ bytes
+  pub greatest : (j : ℕ) → j < length rules → live states lists state (nthRule rules j) ≡ true → lengthIn row j ≤ bytes
+  pub earliest : (j : ℕ) → j < k → live states lists state (nthRule rules j) ≡ true → lengthIn row j < bytes
+
+live-weight : (t : Bool) (x q : ℕ) → cond t x 0 ≡ q → (q ≡ 0 → ⊥) → (t ≡ true) × (x ≡ q)
+live-weight true x q e h = (refl, e)
+live-weight false x q e h = absurd (h (sym e))
+
+module _ (states : List State) (rules : List Rule) (lists : List ℕ) (state : ℕ) (row : List ℕ) where
+  weight-live : (k : ℕ) → live states lists state (nthRule rules k) ≡ true → weight states rules lists state row k ≡ lengthIn row k
+  unfolding weight
+  weight-live k e = rw e
+
+  weight-has : (k q : ℕ) → weight states rules lists state row k ≡ q → (q ≡ 0 → ⊥) → (live states lists state (nthRule rules k) ≡ true) × (lengthIn row k ≡ q)
+  unfolding weight
+  weight-has k q e h = live-weight (live states lists state (nthRule rules k)) (lengthIn row k) q e h
+
+  pub winner-wins : (b : Best) → b ≡ best (weight states rules lists state row) (length rules) → (b .length ≡ 0 → ⊥) → Wins states rules lists state row (b .rule) (b .length)
+  winner-wins b e h =
+      subst (λ (y : Best). Wins states rules lists state row (y .rule) (y .length)) (sym e) (record {
+        inside = at;
+        is-live = w .0;
+        has = w .1;
+        greatest = λ j g t. omega (arith, below-greatest f n j g, weight-live j t);
+        earliest = λ j g t. omega (arith, earliest-first f n j g (omega (arith, g, at)), weight-live j t);
+      })
+    where
+      f : ℕ → ℕ
+      f = weight states rules lists state row
+
+      n : ℕ
+      n = length rules
+
+      no : greatest f n ≡ 0 → ⊥
+      no z = h (ap (λ (y : Best). y .length) e ∙ z)
+
+      at : earliest f n < n
+      at = winner-inside f n no
+
+      w : (live states lists state (nthRule rules (earliest f n)) ≡ true) × (lengthIn row (earliest f n) ≡ greatest f n)
+      w = weight-has (earliest f n) (greatest f n) (earliest-has f n (omega (arith, at))) no
 
 -- ---- the scan of the rules
 
