@@ -1,33 +1,28 @@
 -- The step call does what the machine does. Where the run is as the machine has it and the sheet carries the linked rules, a call answers
 -- as the machine does and leaves the run as the machine has it.
-use mathlib.Core.Path.{_≡_, refl, sym, ap, ap₂, subst, _∙_}
-use mathlib.Core.Bool.{Bool, true, false, cond, _&&_}
-use mathlib.Core.List.{List, [], _∷_, _++_}
+use mathlib.Core.Path.{_≡_, refl, sym, ap, ap₂, _∙_}
+use mathlib.Core.Bool.{Bool, true, false, cond}
+use mathlib.Core.List.{List}
 use mathlib.Core.Option.{Option, none, some}
-use Prim.Native.Nat.{ℕ, zero, suc, _+_, _*_, _-_, _≤_, _<_}
-use native.Mathlib.Nat.{zero-add, add-zero}
+use Prim.Native.Nat.{ℕ, _+_, _-_, _≤_, _<_}
 use native.Mathlib.Omega.{arith}
-use borrow.Author.Tests.{le-leb, lt-leb, lt-ltb, le-ltb, ltb-true, ltb-false, eqb-true, eqb-false, eq-eqb, ne-eqb}
-use lib.Dec.{eqb, leb, ltb}
-use lib.ListN.{length, getD}
-use Rattle.text.proofs.Tests.{and-left, and-right}
+use borrow.Author.Tests.{le-leb, eqb-true, eqb-false, eq-eqb, ne-eqb}
+use lib.Dec.{eqb}
+use lib.ListN.{length}
 use Rattle.area.specs.declared.State.{State}
 use Rattle.area.specs.declared.Rule.{Rule}
-use Rattle.area.specs.Records.{nthRule, entryAt, entryWidth}
-use Rattle.area.specs.Contents.{contents, entryFormat}
+use Rattle.area.specs.Records.{nthRule}
 use Rattle.parse.specs.Parse.{Contents}
-use Rattle.sheet_check.specs.SheetCheck.{SheetBytes, decoded, sheetCheck, all, declared}
-use Rattle.sheet_check.proofs.Checked.{all-at}
-use Rattle.run.specs.declared.Run.{Run}
+use Rattle.sheet_check.specs.SheetCheck.{SheetBytes, decoded}
 use Rattle.run.specs.declared.Best.{Best}
 use Rattle.run.specs.declared.Step.{Step}
-use Rattle.run.specs.declared.Step.the-variants.{BrokenSheet, BrokenRun, IllFittingRow, Done, Stopped, Unlinked, Skip, Token}
-use Rattle.run.specs.Winner.{listEnd, listed, live, lengthIn, weight, greatest, earliest, best}
+use Rattle.run.specs.declared.Step.the-variants.{IllFittingRow, Done, Stopped, Unlinked, Skip, Token}
+use Rattle.run.specs.Winner.{listed, live, lengthIn, weight, best}
 use Rattle.run.specs.Run.{mostBytes, stackBytes, goodNumbers, goodRun, goodRow, current, Stacked, operated, Moved, moved, moveBy, moveLeft, StepLeft, stepLeft, wonBy, choose, stepRow, stepRun, stepCall}
-use Rattle.run.specs.Machine.{Machine, machine, lastState, operateOn, MachineLeft, machineLeft, advance, moveOf, winnerOf, machineChoose, machineStep, runWith, over, Begins, asStep, Sound, Beside, LinkedBy, Carries}
+use Rattle.run.specs.Machine.{Machine, lastState, MachineLeft, machineLeft, advance, moveOf, winnerOf, machineChoose, machineStep, runWith, over, asStep, Sound, Beside, LinkedBy, Carries}
 use Rattle.run.proofs.Fitting.{row-length}
-use Rattle.run.proofs.Winning.{winner-inside, greatest-low, best-same}
-use Rattle.run.proofs.Stacks.{over-begins, over-length, over-same, begins-at, begins-contents, operated-is, operate-some, operate-low, operate-known}
+use Rattle.run.proofs.Winning.{winner-inside, weights-low, winner-wins, Wins, best-same}
+use Rattle.run.proofs.Stacks.{over-same, begins-at, begins-contents, operated-is}
 
 -- ---- linked rules are the same rules
 
@@ -85,20 +80,20 @@ module _ (n states : ℕ) (small : n ≤ mostBytes) (m : Machine) (s : List ℕ)
 -- ---- a row
 
 -- a row that fits bounds the winner
-module _ (c : Contents) (m : Machine) (row : List ℕ) (left : ℕ) (fits : goodRow (length (c .rules)) left row ≡ true) where
-  weight-under : (t : Bool) (x : ℕ) → x ≤ left → cond t x 0 ≤ left
-  weight-under true x h = h
-  weight-under false x h = omega arith
-
-  pub winner-low : winnerOf c m row .length ≤ left
-  unfolding winnerOf weight
-  winner-low =
-      greatest-low (weight (c .states) (c .rules) (c .lists) (lastState (m .stack)) row) left (length (c .rules))
-      (λ k h. weight-under (live (c .states) (c .lists) (lastState (m .stack)) (nthRule (c .rules) k)) (entryAt row k) (row-length (length (c .rules)) left row fits k h))
+pub winner-low : (c : Contents) (m : Machine) (row : List ℕ) (left : ℕ) → goodRow (length (c .rules)) left row ≡ true → winnerOf c m row .length ≤ left
+unfolding winnerOf
+winner-low c m row left fits =
+    weights-low (c .states) (c .rules) (c .lists) (lastState (m .stack)) row left (length (c .rules)) (row-length (length (c .rules)) left row fits)
 
 pub winner-rule : (c : Contents) (m : Machine) (row : List ℕ) → (winnerOf c m row .length ≡ 0 → ⊥) → winnerOf c m row .rule < length (c .rules)
 unfolding winnerOf
 winner-rule c m row h = winner-inside (weight (c .states) (c .rules) (c .lists) (lastState (m .stack)) row) (length (c .rules)) h
+
+-- the machine's winner is live, of the greatest length and the earliest such
+pub machine-winner : (c : Contents) (m : Machine) (row : List ℕ) → (winnerOf c m row .length ≡ 0 → ⊥)
+    → Wins (c .states) (c .rules) (c .lists) (lastState (m .stack)) row (winnerOf c m row .rule) (winnerOf c m row .length)
+unfolding winnerOf
+machine-winner c m row h = winner-wins (c .states) (c .rules) (c .lists) (lastState (m .stack)) row (winnerOf c m row) refl h
 
 same-choice : (f : MachineLeft → StepLeft) (t : Bool) (x y : StepLeft) (u v : MachineLeft) → (t ≡ true → x ≡ f u) → (t ≡ false → y ≡ f v) → cond t x y ≡ f (cond t u v)
 same-choice f true x y u v p q = p refl

@@ -2,24 +2,24 @@
 -- a token has the id that the map has for the winner's name. By the branches of a row.
 use mathlib.Core.Path.{_≡_, refl, sym, ap, subst, _∙_}
 use mathlib.Core.Bool.{Bool, true, false, cond, _&&_}
-use mathlib.Core.List.{List, [], _∷_}
+use mathlib.Core.List.{List}
 use mathlib.Core.Option.{Option, none, some}
-use Prim.Native.Nat.{ℕ, _+_, _*_, _-_, _≤_, _<_}
+use Prim.Native.Nat.{ℕ, _+_, _-_, _≤_, _<_}
 use native.Mathlib.Nat.{zero-add, add-zero}
 use native.Mathlib.Omega.{arith}
-use borrow.Author.Tests.{le-leb, lt-leb, lt-ltb, le-ltb, ltb-true, ltb-false, eqb-true, eqb-false}
+use borrow.Author.Tests.{le-leb, lt-leb, lt-ltb, ltb-true, ltb-false, eqb-true, eqb-false}
 use lib.Dec.{eqb, leb, ltb}
-use lib.ListN.{length, getD}
+use lib.ListN.{length}
 use Rattle.area.specs.declared.Rule.{Rule}
-use Rattle.area.specs.Records.{nthRule, entryWidth}
+use Rattle.area.specs.Records.{nthRule}
 use Rattle.parse.specs.Parse.{Contents}
 use Rattle.sheet_check.specs.SheetCheck.{all, declared}
 use Rattle.sheet_check.proofs.Checked.{all-at}
 use Rattle.run.specs.declared.Best.{Best}
 use Rattle.run.specs.declared.Step.{Step}
-use Rattle.run.specs.declared.Step.the-variants.{IllFittingRow, Done, Stopped, Unlinked, Skip, Token}
+use Rattle.run.specs.declared.Step.the-variants.{IllFittingRow, Done, Stopped}
 use Rattle.run.specs.Run.{stackBytes, goodRow}
-use Rattle.run.specs.Machine.{Machine, lastState, firstMachine, operateOn, MachineLeft, machineLeft, advance, moveOf, winnerOf, machineChoose, machineStep, over, Sound, Beside, spans, covers, moving, Allowed, TokenOf, Closed, RowKeeps}
+use Rattle.run.specs.Machine.{Machine, lastState, firstMachine, machineLeft, advance, moveOf, winnerOf, machineChoose, machineStep, over, Sound, Beside, spans, covers, moving, Allowed, TokenOf, Closed, RowKeeps}
 use Rattle.run.proofs.Stacks.{over-begins, over-length, operate-some, operate-low, operate-known}
 use Rattle.run.proofs.Following.{winner-low, winner-rule}
 

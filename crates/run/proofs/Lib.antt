@@ -6,3 +6,5 @@ pub mod Stepping
 pub mod Stacks
 pub mod Following
 pub mod Keeping
+pub mod Whole
+pub mod Linked

@@ -1,14 +1,14 @@
 -- The bytes of a stack that start with ids in order: an id read back, and each operation as ids laid over the bytes.
-use mathlib.Core.Path.{_≡_, refl, sym, ap, ap₂, subst, _∙_}
+use mathlib.Core.Path.{_≡_, refl, sym, ap, ap₂, _∙_}
 use mathlib.Core.Bool.{Bool, true, false, cond, _&&_}
 use mathlib.Core.List.{List, [], _∷_, _++_, append-assoc}
 use Prim.Native.Nat.{ℕ, zero, suc, _+_, _*_, _-_, _/_, _%_, _≤_, _<_}
-use native.Mathlib.Nat.{not-suc-le-zero, add-zero}
+use native.Mathlib.Nat.{not-suc-le-zero}
 use native.Mathlib.Omega.{arith}
 use borrow.Author.Tests.{ne-eqb, lt-ltb}
 use lib.Dec.{eqb, ltb}
 use lib.ListN.{length, getD, take, drop, length-append, length-drop, length-take, take-append-drop}
-use lib.Seq.{sets, sets-eq, take-at, drop-at}
+use lib.Seq.{sets-eq, take-at, drop-at}
 use Rattle.text.proofs.Tests.{and-left, and-right}
 use Rattle.area.specs.declared.Rule.{Rule}
 use Rattle.area.specs.Bytes.{two, bytes, fieldAt, fieldFrom}
@@ -29,7 +29,7 @@ two-wide : (v : ℕ) → length (two v) ≡ 2
 unfolding two
 two-wide v = refl
 
-ids-length : (ids : List ℕ) → length (bytes two ids) ≡ length ids * entryWidth
+pub ids-length : (ids : List ℕ) → length (bytes two ids) ≡ length ids * entryWidth
 ids-length ids = fields-length ids ∙ omega arith
 
 pub over-begins : (ids s : List ℕ) → Begins ids (over ids s)
@@ -73,7 +73,7 @@ begins-front ids more s b = record {
 
 -- ---- an id written
 
-put-first : (s : List ℕ) (id : ℕ) → 2 ≤ length s → putState s 0 id ≡ over (id ∷ []) s
+pub put-first : (s : List ℕ) (id : ℕ) → 2 ≤ length s → putState s 0 id ≡ over (id ∷ []) s
 unfolding putState over two bytes
 put-first s id h = sets-eq (two id) s 0 h
 

@@ -1,18 +1,18 @@
 -- The rule that wins. The search for a state in a list is a walk; a rule is live by the branches of its definition; and the scan of the
 -- rules keeps the greatest weight so far and the first rule that has it, which is what the winner is.
 use mathlib.Core.Path.{_≡_, refl, sym, ap, ap₂, subst, _∙_}
-use mathlib.Core.Bool.{Bool, true, false, cond, _&&_, _||_, or-false}
+use mathlib.Core.Bool.{Bool, true, false, cond}
 use mathlib.Core.List.{List}
 use mathlib.Core.Logic.{_⊎_, inl, inr}
-use Prim.Native.Nat.{ℕ, zero, suc, _+_, _*_, _-_, _≤_, _<_, max}
+use Prim.Native.Nat.{ℕ, zero, suc, _+_, _≤_, _<_, max}
 use native.Mathlib.Numerals.{add-one}
 use native.Mathlib.Omega.{arith}
 use borrow.Author.Needs.{needs}
 use borrow.Author.Tests.{lt-ltb, le-ltb, ltb-true, ltb-false, eq-eqb, ne-eqb, eqb-true, eqb-false}
-use lib.Dec.{eqb, leb, ltb}
+use lib.Dec.{eqb, ltb}
 use lib.ListN.{length}
 use Rattle.text.specs.Walk.{first}
-use Rattle.text.proofs.Tests.{le-or-lt, or-true}
+use Rattle.text.proofs.Tests.{le-or-lt}
 use Rattle.text.proofs.Walks.{first-found, first-again, first-ended, first-to}
 use Rattle.area.specs.declared.State.{State}
 use Rattle.area.specs.declared.Rule.{Rule}
@@ -244,6 +244,15 @@ module _ (states : List State) (rules : List Rule) (lists : List ℕ) (state : �
   weight-has : (k q : ℕ) → weight states rules lists state row k ≡ q → (q ≡ 0 → ⊥) → (live states lists state (nthRule rules k) ≡ true) × (lengthIn row k ≡ q)
   unfolding weight
   weight-has k q e h = live-weight (live states lists state (nthRule rules k)) (lengthIn row k) q e h
+
+  weight-under : (t : Bool) (x q : ℕ) → x ≤ q → cond t x 0 ≤ q
+  weight-under true x q h = h
+  weight-under false x q h = omega arith
+
+  -- a bound of the lengths is one of the greatest weight
+  pub weights-low : (q n : ℕ) → ((k : ℕ) → k < n → lengthIn row k ≤ q) → greatest (weight states rules lists state row) n ≤ q
+  unfolding weight
+  weights-low q n h = greatest-low (weight states rules lists state row) q n (λ k g. weight-under (live states lists state (nthRule rules k)) (lengthIn row k) q (h k g))
 
   pub winner-wins : (b : Best) → b ≡ best (weight states rules lists state row) (length rules) → (b .length ≡ 0 → ⊥) → Wins states rules lists state row (b .rule) (b .length)
   winner-wins b e h =

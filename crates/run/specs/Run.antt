@@ -8,7 +8,7 @@ use lib.Seq.{sets}
 use Rattle.area.specs.declared.State.{State}
 use Rattle.area.specs.declared.Rule.{Rule}
 use Rattle.area.specs.Bytes.{two}
-use Rattle.area.specs.Records.{entryAt, nthRule, stateWidth, ruleWidth, entryWidth, mostRules, ruleAt}
+use Rattle.area.specs.Records.{entryAt, nthRule, stateWidth, ruleWidth, entryWidth, ruleAt}
 use Rattle.area.specs.Contents.{contents, entryFormat}
 use Rattle.sheet_check.specs.SheetCheck.{SheetBytes, decoded, sheetCheck, all, declared}
 use Rattle.run.specs.declared.Run.{Run}
@@ -163,7 +163,6 @@ pub record Readable (area1 area2 area3 : List ℕ) (states rules entries : ℕ) 
   pub long1 : states * stateWidth ≤ length area1
   pub long2 : rules * ruleWidth ≤ length area2
   pub long3 : entries * entryWidth ≤ length area3
-  pub few-rules : rules ≤ mostRules
   pub lists : (k : ℕ) → k < rules → ruleAt area2 k .«list_from» + ruleAt area2 k .«list_count» ≤ entries
 
 -- ---- the answers as words

@@ -1,7 +1,7 @@
 // The start call and the step call (01, Numbers given at the counter, and The run).
 ghost use mathlib.Core.Path.{_≡_};
 ghost use mathlib.Core.Bool.{true};
-ghost use Prim.Native.Nat.{_-_, _≤_, _<_};
+ghost use Prim.Native.Nat.{_-_, _<_};
 ghost use lib.ListN.{length};
 ghost use Rattle.area.specs.Contents.{contents, stateFormat, ruleFormat, entryFormat};
 ghost use Rattle.sheet_check.specs.SheetCheck.{sheetBytes};

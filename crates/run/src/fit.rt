@@ -3,7 +3,7 @@ ghost use mathlib.Core.Path.{_≡_};
 ghost use Prim.Native.Nat.{_*_, _≤_};
 ghost use lib.Dec.{leb};
 ghost use lib.ListN.{length};
-ghost use Rattle.area.specs.Records.{entryWidth, mostRules};
+ghost use Rattle.area.specs.Records.{entryWidth};
 ghost use Rattle.area.specs.Contents.{contents, entryFormat};
 ghost use Rattle.sheet_check.specs.SheetCheck.{all};
 ghost use Rattle.run.specs.Run.{goodNumbers, goodRun, goodRow};
