@@ -1,12 +1,12 @@
 -- What a sheet that passed the check may be used for: the tests of its records as plain facts, and each record by its number, as the bytes
 -- give it and as the lists do. The tests are joined, so each law takes the joint apart from its end.
-use mathlib.Core.Path.{_≡_, refl, sym, ap, _∙_, subst}
-use mathlib.Core.Bool.{Bool, true, false, cond, _&&_}
+use mathlib.Core.Path.{_≡_, sym, ap, _∙_, subst}
+use mathlib.Core.Bool.{Bool, true, cond, _&&_}
 use mathlib.Core.List.{List, [], _∷_, _++_}
 use mathlib.Core.Logic.{_⊎_, inl, inr}
 use Prim.Native.Nat.{ℕ, zero, suc, _+_, _≤_, _<_}
 use native.Mathlib.Omega.{arith}
-use lib.Dec.{eqb, leb, ltb}
+use lib.Dec.{eqb, leb}
 use lib.ListN.{length, getD, List·getD-append}
 use lib.Seq.{getD-at}
 use borrow.Author.Tests.{leb-true, ltb-true, eq-eqb, ne-eqb}
@@ -14,7 +14,7 @@ use Rattle.text.proofs.Tests.{and-left, and-right, le-or-lt}
 use Rattle.area.specs.declared.State.{State}
 use Rattle.area.specs.declared.Rule.{Rule}
 use Rattle.area.specs.declared.Expected.{Expected}
-use Rattle.area.specs.Records.{mostStates, mostRules, stateAt, ruleAt, entryAt, expectedAt, nthRule}
+use Rattle.area.specs.Records.{mostStates, mostRules, stateAt, ruleAt, entryAt, expectedAt}
 use Rattle.area.specs.Contents.{Format, contents, listOf, stateFormat, ruleFormat, entryFormat, textFormat, expectedFormat}
 use Rattle.area.proofs.Contents.{listOf-length}
 use Rattle.parse.specs.Parse.{Contents}

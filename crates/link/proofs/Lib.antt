@@ -1,0 +1,4 @@
+pub mod Maps
+pub mod LinkedRules
+pub mod Counting
+pub mod Outcomes

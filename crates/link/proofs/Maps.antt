@@ -1,0 +1,125 @@
+-- A map read from its bytes: entry j of the list is what entry j of the bytes says. A search keeps that the first entry of the name is the same
+-- from where it stands, and a check that the tests so far are those of the entries so far.
+use mathlib.Core.Path.{_≡_, refl, sym, ap, ap₂, _∙_}
+use mathlib.Core.Bool.{Bool, true, false, _&&_}
+use mathlib.Core.List.{List, []}
+use Prim.Native.Nat.{ℕ, _+_, _*_, _%_, _≤_, _<_}
+use native.Mathlib.Nat.{add-zero}
+use native.Mathlib.Numerals.{add-one}
+use native.Mathlib.Omega.{arith}
+use borrow.Author.Needs.{needs}
+use borrow.Author.Tests.{eq-eqb, ne-eqb, le-leb, lt-leb}
+use lib.Dec.{eqb}
+use lib.ListN.{length, length-map, List·getD-map}
+use Rattle.text.specs.Walk.{first}
+use Rattle.text.specs.Range.{part, sameBytes, sameRange}
+use Rattle.text.proofs.Tests.{answer}
+use Rattle.text.proofs.Walks.{first-found, first-again, first-ended}
+use Rattle.area.specs.Bytes.{fieldAt, fieldFrom}
+use Rattle.area.specs.Contents.{contents}
+use Rattle.sheet_check.specs.SheetCheck.{all}
+use Rattle.sheet_check.proofs.Judging.{contents-count, all-none, all-next, all-read}
+use Rattle.sheet_check.proofs.Checked.{contents-read}
+use Rattle.link.specs.declared.MapEntry.{MapEntry}
+use Rattle.link.specs.Map.{mapWidth, mostEntries, mapEntryOf, mapEntryAt, mapFormat, entryCount, Entry, entry, entryOf, entriesOf, nth, findEntry, allBelow, distinct, nameInside, mapCheck}
+
+-- ---- an entry
+
+pub map-entry-made : (l : List ℕ) (k a b c : ℕ) → a ≡ fieldAt l (k * mapWidth) → b ≡ fieldAt l (k * mapWidth + 2) → c ≡ fieldAt l (k * mapWidth + 4)
+    → record { «name_from» = a; «name_length» = b; id = c } ≡ mapEntryAt l k
+unfolding mapEntryAt mapEntryOf fieldFrom
+map-entry-made l k a b c e1 e2 e3 = simp (e1, e2, e3, add-zero)
+
+module _ (names entries : List ℕ) where
+  pub entries-count : length (entriesOf names entries) ≡ entryCount entries
+  unfolding entriesOf
+  entries-count = length-map (contents mapFormat entries (entryCount entries)) (entryOf names) ∙ contents-count mapFormat entries (entryCount entries)
+
+  blank-entry : entry [] 0 ≡ entryOf names (mapEntryOf (λ _. 0))
+  unfolding entryOf mapEntryOf part
+  blank-entry = refl
+
+  pub entries-at : (j : ℕ) → j < entryCount entries → nth (entriesOf names entries) j ≡ entryOf names (mapEntryAt entries j)
+  unfolding entriesOf
+  entries-at j h = rw (blank-entry) (List·getD-map (entryOf names) (contents mapFormat entries (entryCount entries)) j (mapEntryOf (λ _. 0)) ∙ ap (entryOf names) (contents-read mapFormat entries (entryCount entries) j h))
+
+  -- the range of an entry's name is its name
+  module _ (j : ℕ) (h : j < entryCount entries) (x : MapEntry) (is : x ≡ mapEntryAt entries j) where
+    pub name-at : part names (x .«name_from») (x .«name_from» + x .«name_length») ≡ nth (entriesOf names entries) j .name
+    unfolding entryOf
+    name-at = sym (ap (λ (y : Entry). y .name) (entries-at j h ∙ ap (entryOf names) (sym is)))
+
+    pub name-compared : (r : Bool) (t : List ℕ) (a e : ℕ) → r ≡ sameRange names (x .«name_from») (x .«name_from» + x .«name_length») t a e
+        → r ≡ sameBytes (nth (entriesOf names entries) j .name) (part t a e)
+    unfolding sameRange
+    name-compared r t a e q = q ∙ ap (λ (l : List ℕ). sameBytes l (part t a e)) name-at
+
+    pub first-compared : (i : ℕ) → i ≡ findEntry (entriesOf names entries) (part names (x .«name_from») (x .«name_from» + x .«name_length»))
+        → eqb i j ≡ eqb (findEntry (entriesOf names entries) (nth (entriesOf names entries) j .name)) j
+    first-compared i q = ap (λ (k : ℕ). eqb k j) (q ∙ ap (findEntry (entriesOf names entries)) name-at)
+
+pub ruleset mapping = (needs, name-compared)
+
+pub ruleset first-asked = (needs, first-compared)
+
+-- ---- the first entry of a name; the loop stands at j
+
+module _ (names entries name : List ℕ) where
+  abbrev pub has : ℕ → Bool
+  has i = sameBytes (nth (entriesOf names entries) i .name) name
+
+  module _ (j : ℕ) (before : first has 0 (entryCount entries) ≡ first has j (entryCount entries)) where
+    whole : first has 0 (entryCount entries) ≡ findEntry (entriesOf names entries) name
+    unfolding findEntry
+    whole = ap (first has 0) (sym (entries-count names entries))
+
+    pub entry-found : j < entryCount entries → has j ≡ true → j ≡ findEntry (entriesOf names entries) name
+    entry-found h t = first-found has 0 j (entryCount entries) before h t ∙ whole
+
+    pub entry-missing : entryCount entries ≤ j → j ≡ findEntry (entriesOf names entries) name
+    entry-missing h = first-ended has 0 j (entryCount entries) before h ∙ whole
+
+pub ruleset finding-entries = (needs, answer, first-again, entry-found, entry-missing)
+
+-- ---- the map check
+
+pub ruleset reading-names = (needs, all-none, all-next, all-read)
+
+module _ (test : ℕ → Bool) where
+  pub below-none : true ≡ allBelow test 0
+  unfolding allBelow
+  below-none = refl
+
+  pub below-next : (k : ℕ) (good t : Bool) → good ≡ allBelow test k → t ≡ test k → good && t ≡ allBelow test (k + 1)
+  unfolding allBelow
+  below-next k good t g q = ap₂ (λ (a b : Bool). a && b) g q ∙ sym (ap (allBelow test) (add-one k))
+
+pub distinct-read : (names entries : List ℕ) (k : ℕ) (good : Bool) → entryCount entries ≤ k → k ≤ entryCount entries
+    → good ≡ allBelow (λ j. eqb (findEntry (entriesOf names entries) (nth (entriesOf names entries) j .name)) j) k → good ≡ distinct (entriesOf names entries)
+unfolding distinct
+distinct-read names entries k good h g e =
+    let q : k ≡ entryCount entries = omega arith in
+    e ∙ ap (allBelow (λ j. eqb (findEntry (entriesOf names entries) (nth (entriesOf names entries) j .name)) j)) (q ∙ sym (entries-count names entries))
+
+pub ruleset comparing-entries = (needs, below-none, below-next, distinct-read)
+
+module _ (names entries : List ℕ) where
+  pub map-ragged : (length entries % mapWidth ≡ 0 → ⊥) → false ≡ mapCheck names entries
+  unfolding mapCheck
+  map-ragged h = rw (ne-eqb (length entries % mapWidth) 0 h)
+
+  module _ (h : length entries % mapWidth ≡ 0) where
+    pub map-large : mostEntries < entryCount entries → false ≡ mapCheck names entries
+    unfolding mapCheck
+    map-large g = rw (eq-eqb (length entries % mapWidth) 0 h, lt-leb (entryCount entries) mostEntries g)
+
+    module _ (g : entryCount entries ≤ mostEntries) (t : Bool) (is : t ≡ all (nameInside (length names)) (contents mapFormat entries (entryCount entries))) where
+      pub map-outside : t ≡ false → false ≡ mapCheck names entries
+      unfolding mapCheck
+      map-outside q = rw (eq-eqb (length entries % mapWidth) 0 h, le-leb (entryCount entries) mostEntries g, ← is, q)
+
+      pub map-inside : (r : Bool) → t ≡ true → r ≡ distinct (entriesOf names entries) → r ≡ mapCheck names entries
+      unfolding mapCheck
+      map-inside r q z = rw (eq-eqb (length entries % mapWidth) 0 h, le-leb (entryCount entries) mostEntries g, ← is, q) z
+
+pub ruleset checking-map = (needs, map-ragged, map-large, map-outside, map-inside)

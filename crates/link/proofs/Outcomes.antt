@@ -1,0 +1,189 @@
+-- The area of the linked rules is read back as the linked rules, so those without an id are the unmapped ones; then a law for each way out
+-- of the call.
+use mathlib.Core.Path.{_≡_, refl, sym, ap, ap₂, _∙_}
+use mathlib.Core.Bool.{Bool, true, false, cond, not, _&&_}
+use mathlib.Core.List.{List, [], _∷_, _++_, map}
+use mathlib.Core.Option.{Option, none, some}
+use Prim.Native.Nat.{ℕ, zero, suc, _+_, _*_, _-_, _%_, _≤_, _<_}
+use native.Mathlib.Nat.{le-refl}
+use native.Mathlib.Omega.{arith}
+use borrow.Author.Needs.{needs}
+use borrow.Author.Tests.{le-leb, lt-leb, leb-true, not-true, not-false}
+use lib.Dec.{eqb, leb}
+use lib.ListN.{length, getD, drop, length-map, length-replicate, List·getD-map}
+use Rattle.text.proofs.Tests.{and-left, and-right}
+use Rattle.area.specs.declared.Rule.{Rule}
+use Rattle.area.specs.Bytes.{bytes, pad, zeros}
+use Rattle.area.specs.Records.{ruleWidth, entryWidth, mostRules, ruleOf, nthRule}
+use Rattle.area.specs.Areas.{Area}
+use Rattle.area.specs.Contents.{Format, contents, ruleFormat, entryFormat}
+use Rattle.area.proofs.Fields.{bytes-at}
+use Rattle.area.proofs.Contents.{Sound, listOf-is, rule-sound}
+use Rattle.parse.specs.Parse.{laid}
+use Rattle.sheet_check.specs.SheetCheck.{SheetBytes, count, decoded, sheetCheck, all}
+use Rattle.sheet_check.proofs.Judging.{contents-count}
+use Rattle.sheet_check.proofs.Checked.{checked-long, checked-counts}
+use Rattle.link.specs.declared.LinkAnswer.{LinkAnswer}
+use Rattle.link.specs.declared.LinkAnswer.the-variants.{Linked, BrokenSheet, BrokenMap, AreaFull}
+use Rattle.link.specs.Map.{mapWidth, mostEntries, mapFormat, entryCount, Entry, entriesOf, idOf, nameInside, distinct, mapCheck}
+use Rattle.link.specs.Link.{isNamed, nameOf, withId, withFound, linkRule, linkRules, numbers, isNone, isUnmapped, isUnlinked, unmapped, unlinked, unused, LinkLeft, linkLeft, relaid, fits, linkAll, linkChecked, linkCall}
+use Rattle.link.proofs.LinkedRules.{Local, rule-local}
+
+-- ---- records laid over the front of an area are read back
+
+module _ {A : Type 0} {F : Format A} (sound : Sound F) (near : Local F) where
+  laid-read : (ys : List A) (t : List ℕ) (k : ℕ) → k < length ys → F .read (bytes (F .write) ys ++ t) k ≡ getD ys k (F .blank)
+  unfolding pad
+  laid-read ys t k h =
+      let cap : ℕ = length ys * F .width in
+      let z : List ℕ = zeros (cap - length (bytes (F .write) ys)) in
+      let area : Area (F .write) (F .width) (length ys) cap (pad cap (bytes (F .write) ys)) (length ys) ys =
+      record { count = refl; is = refl; few = le-refl (length ys); fits = le-refl cap } in
+      near .same (bytes (F .write) ys ++ t) (bytes (F .write) ys ++ z) k (λ i g.
+      bytes-at (F .write) (F .width) (sound .wide) (F .blank) ys t k i h g ∙ sym (bytes-at (F .write) (F .width) (sound .wide) (F .blank) ys z k i h g))
+      ∙ sound .back k area h
+
+  pub relaid-contents : (l : List ℕ) (ys : List A) (n : ℕ) → n ≡ length ys → contents F (relaid F l ys) n ≡ ys
+  unfolding contents relaid
+  relaid-contents l ys n q = listOf-is (F .read (relaid F l ys)) (F .blank) ys n q (λ k h. laid-read ys (drop (length ys * F .width) l) k (omega (arith, h, q)))
+
+-- ---- linked rules
+
+numbers-same : (f g : ℕ → Bool) → ((k : ℕ) → f k ≡ g k) → (n : ℕ) → numbers f n ≡ numbers g n
+unfolding numbers
+numbers-same f g e zero = refl
+numbers-same f g e (suc n) = ap₂ (λ (ns : List ℕ) (b : Bool). ns ++ cond b (n ∷ []) []) (numbers-same f g e n) (e n)
+
+unnamed-linked : (x : Rule) → isNamed x ≡ false → isUnlinked x ≡ false
+unfolding isUnlinked
+unnamed-linked x e = rw e
+
+module _ (s : List ℕ) (es : List Entry) where
+  pub link-count : (xs : List Rule) → length (linkRules s es xs) ≡ length xs
+  unfolding linkRules
+  link-count xs = length-map xs (linkRule s es)
+
+  link-blank : ruleOf (λ _. 0) ≡ linkRule s es (ruleOf (λ _. 0))
+  unfolding linkRule ruleOf
+  link-blank = refl
+
+  pub link-at : (xs : List Rule) (k : ℕ) → nthRule (linkRules s es xs) k ≡ linkRule s es (nthRule xs k)
+  unfolding linkRules
+  link-at xs k = ap (λ (d : Rule). getD (map (linkRule s es) xs) k d) link-blank ∙ List·getD-map (linkRule s es) xs k (ruleOf (λ _. 0))
+
+  -- a rule that is linked has no id where it is unmapped
+  found-case : (x : Rule) (o : Option ℕ) → isNamed x ≡ true → isUnlinked (withFound o x) ≡ isNone o
+  unfolding isUnlinked withFound withId isNone
+  found-case x (some i) e = rw e
+  found-case x none e = rw e
+
+  named-case : (x : Rule) (t : Bool) → isNamed x ≡ t → isUnlinked (cond t (withFound (idOf es (nameOf s x)) x) x) ≡ t && isNone (idOf es (nameOf s x))
+  named-case x true e = found-case x (idOf es (nameOf s x)) e
+  named-case x false e = unnamed-linked x e
+
+  pub unlinked-rule : (x : Rule) → isUnlinked (linkRule s es x) ≡ isUnmapped s es x
+  unfolding linkRule isUnmapped
+  unlinked-rule x = named-case x (isNamed x) refl
+
+  pub unlinked-rules : (xs : List Rule) → unlinked (linkRules s es xs) ≡ unmapped s es xs
+  unfolding unlinked unmapped
+  unlinked-rules xs =
+      numbers-same (λ k. isUnlinked (nthRule (linkRules s es xs) k)) (λ k. isUnmapped s es (nthRule xs k)) (λ k. ap isUnlinked (link-at xs k) ∙ unlinked-rule (nthRule xs k)) (length (linkRules s es xs))
+      ∙ ap (numbers (λ k. isUnmapped s es (nthRule xs k))) (link-count xs)
+
+-- ---- the three areas
+
+module _ (l c : List ℕ) (cleared : c ≡ zeros (length l)) where
+  cleared-length : length c ≡ length l
+  cleared-length = ap length cleared ∙ length-replicate (length l) 0
+
+  pub cleared-zeros : c ≡ zeros (length c)
+  cleared-zeros = cleared ∙ ap zeros (sym cleared-length)
+
+  pub cleared-fits : (ns : List ℕ) → fits ns l ≡ true → fits ns c ≡ true
+  unfolding fits
+  cleared-fits ns e = ap (leb (length ns * entryWidth)) cleared-length ∙ e
+
+  pub cleared-laid : (ns e : List ℕ) → e ≡ laid entryFormat (length c) ns → e ≡ laid entryFormat (length l) ns
+  cleared-laid ns e q = q ∙ ap (λ (n : ℕ). laid entryFormat n ns) cleared-length
+
+module _ (s : List ℕ) (es : List Entry) (x2 : List ℕ) (n : ℕ) (e2 : List ℕ) (is : e2 ≡ relaid ruleFormat x2 (linkRules s es (contents ruleFormat x2 n))) where
+  pub rules-read-back : contents ruleFormat e2 n ≡ linkRules s es (contents ruleFormat x2 n)
+  rules-read-back =
+      ap (λ (l : List ℕ). contents ruleFormat l n) is
+      ∙ relaid-contents rule-sound rule-local x2 (linkRules s es (contents ruleFormat x2 n)) n (sym (link-count s es (contents ruleFormat x2 n) ∙ contents-count ruleFormat x2 n))
+
+  pub unlinked-left : unlinked (contents ruleFormat e2 n) ≡ unmapped s es (contents ruleFormat x2 n)
+  unlinked-left = ap unlinked rules-read-back ∙ unlinked-rules s es (contents ruleFormat x2 n)
+
+  pub all-written : (r : LinkAnswer) (x7 x8 c7 c8 e7 e8 : List ℕ) → c7 ≡ zeros (length x7) → c8 ≡ zeros (length x8)
+      → e7 ≡ laid entryFormat (length c7) (unlinked (contents ruleFormat e2 n)) → e8 ≡ laid entryFormat (length c8) (unused s es (contents ruleFormat x2 n))
+      → linkLeft r e2 e7 e8 ≡ linkAll r s (contents ruleFormat x2 n) es x2 x7 x8
+  unfolding linkAll
+  all-written r x7 x8 c7 c8 e7 e8 z7 z8 q7 q8 =
+      let p7 = cleared-laid x7 c7 z7 (unlinked (contents ruleFormat e2 n)) e7 q7 ∙ ap (laid entryFormat (length x7)) unlinked-left in
+      let p8 = cleared-laid x8 c8 z8 (unused s es (contents ruleFormat x2 n)) e8 q8 in
+      λ i. linkLeft r (is i) (p7 i) (p8 i)
+
+-- ---- areas 7 and 8 have room, or one of them has not
+
+module _ (ns l : List ℕ) (m : ℕ) (counted : m ≡ length ns) where
+  pub count-fits : m * entryWidth ≤ length l → fits ns l ≡ true
+  unfolding fits
+  count-fits h = le-leb (length ns * entryWidth) (length l) (omega (arith, counted))
+
+  pub count-over : length l < m * entryWidth → fits ns l ≡ false
+  unfolding fits
+  count-over h = lt-leb (length ns * entryWidth) (length l) (omega (arith, counted))
+
+module _ (s : List ℕ) (xs : List Rule) (es : List Entry) (x2 x7 x8 : List ℕ) where
+  pub short-7 : fits (unmapped s es xs) x7 ≡ false → linkLeft (AreaFull 7) x2 x7 x8 ≡ linkChecked s xs es x2 x7 x8
+  unfolding linkChecked
+  short-7 h = rw h
+
+  module _ (h : fits (unmapped s es xs) x7 ≡ true) where
+    pub short-8 : fits (unused s es xs) x8 ≡ false → linkLeft (AreaFull 8) x2 x7 x8 ≡ linkChecked s xs es x2 x7 x8
+    unfolding linkChecked
+    short-8 g = rw (h, g)
+
+    pub none-short : fits (unused s es xs) x8 ≡ true → (m k : ℕ) → m ≡ length (unmapped s es xs) → k ≡ length (unused s es xs) → (y : LinkLeft)
+        → y ≡ linkAll (Linked m k) s xs es x2 x7 x8 → y ≡ linkChecked s xs es x2 x7 x8
+    unfolding linkChecked
+    none-short g m k p q y e = rw (h, g, ← p, ← q) e
+
+-- ---- the call
+
+pub map-few : (names entries : List ℕ) → mapCheck names entries ≡ true → entryCount entries ≤ mostEntries
+unfolding mapCheck
+map-few names entries e =
+    let a1 : Bool = eqb (length entries % mapWidth) 0 in
+    let a2 : Bool = leb (entryCount entries) mostEntries in
+    let a3 : Bool = all (nameInside (length names)) (contents mapFormat entries (entryCount entries)) in
+    let a4 : Bool = distinct (entriesOf names entries) in
+    leb-true (entryCount entries) mostEntries (and-right a1 a2 (and-left (a1 && a2) a3 (and-left (a1 && a2 && a3) a4 e)))
+
+module _ (b : SheetBytes) (t : Bool) (is : t ≡ sheetCheck b) (h : not t ≡ false) where
+  passed : sheetCheck b ≡ true
+  passed = sym is ∙ not-false t h
+
+  pub call-rules : (count b 2 ≤ mostRules) × (count b 2 * ruleWidth ≤ length (b .area2))
+  call-rules = (checked-counts b passed .2, checked-long b passed .long2)
+
+pub call-entries : (names entries : List ℕ) (u : Bool) → u ≡ mapCheck names entries → not u ≡ false → entryCount entries ≤ mostEntries
+call-entries names entries u says g = map-few names entries (sym says ∙ not-false u g)
+
+module _ (b : SheetBytes) (names entries x7 x8 : List ℕ) (t : Bool) (is : t ≡ sheetCheck b) where
+  pub call-sheet : not t ≡ true → linkLeft BrokenSheet (b .area2) x7 x8 ≡ linkCall b names entries x7 x8
+  unfolding linkCall
+  call-sheet h = rw (← is, not-true t h)
+
+  module _ (h : not t ≡ false) (u : Bool) (says : u ≡ mapCheck names entries) where
+    pub call-map : not u ≡ true → linkLeft BrokenMap (b .area2) x7 x8 ≡ linkCall b names entries x7 x8
+    unfolding linkCall
+    call-map g = rw (passed b t is h, ← says, not-true u g)
+
+    pub call-linked : not u ≡ false → (y : LinkLeft)
+        → y ≡ linkChecked (b .source) (contents ruleFormat (b .area2) (count b 2)) (entriesOf names entries) (b .area2) x7 x8
+        → y ≡ linkCall b names entries x7 x8
+    unfolding linkCall decoded
+    call-linked g y e = rw (passed b t is h, ← says, not-false u g) e

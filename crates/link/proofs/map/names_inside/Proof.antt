@@ -1,0 +1,33 @@
+-- `link::map::names_inside` meets its contract: the tests so far are those of the entries so far.
+use mathlib.Core.Path.{_≡_}
+use Prim.Native.Nat.{_≤_, _-_}
+use Rattle.area.specs.Contents.{contents}
+use Rattle.sheet_check.specs.SheetCheck.{all}
+use Rattle.sheet_check.proofs.Judging.{all-next}
+use Rattle.link.specs.Map.{mapFormat, entryCount, nameInside}
+use Rattle.link.proofs.Maps.{reading-names}
+use Rattle.link.proofs.map.names_inside.Statement.{statement}
+use Rattle.link.proofs.map.names_inside.Tie as tie
+
+abbrev Inv-loop : tie.InvT-loop
+Inv-loop entries n most good₀ k₀ good k = (k ≤ entryCount entries) × (good ≡ all (nameInside n) (contents mapFormat entries k))
+
+abbrev μ-loop : tie.MeasureT-loop
+μ-loop entries n most good₀ k₀ good k = entryCount entries - k
+
+loop-again : tie.Need-loop-again Inv-loop μ-loop
+loop-again c = (search reading-names, all-next mapFormat _ _ _ _ _ _ (c .before .before .before .loop .inv .1) (c .before .read-map-entry .ensures) (c .name-inside .ensures))
+
+pub names-inside-spec : {M : Type 1} → statement M
+names-inside-spec =
+    tie.close
+    (tie.spec
+    Inv-loop
+    μ-loop
+    (λ c. search reading-names)
+    (λ c κs. search reading-names)
+    (λ c κs. search reading-names)
+    (λ c. search reading-names)
+    (λ c. search reading-names)
+    loop-again
+    (λ c. search reading-names))

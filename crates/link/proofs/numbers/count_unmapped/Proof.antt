@@ -1,0 +1,42 @@
+-- `link::numbers::count_unmapped` meets its contract: the rules so far are counted.
+use mathlib.Core.Path.{_≡_}
+use Prim.Native.Nat.{_≤_, _-_}
+use lib.ListN.{length}
+use Rattle.link.specs.Map.{entriesOf}
+use Rattle.link.specs.Link.{numbers, isUnmapped}
+use Rattle.link.proofs.Counting.{counting, unmappedAt, unmapped-is, count-yes, count-no, counted, rule-fails, rule-passes}
+use Rattle.link.proofs.numbers.count_unmapped.Statement.{statement}
+use Rattle.link.proofs.numbers.count_unmapped.Tie as tie
+
+abbrev Inv-loop : tie.InvT-loop
+Inv-loop src area count names entries n₀ k₀ n k = (k ≤ count) × (n ≤ k) × (n ≡ length (numbers (unmappedAt src (entriesOf names entries) area count) k))
+
+abbrev μ-loop : tie.MeasureT-loop
+μ-loop src area count names entries n₀ k₀ n k = count - k
+
+loop-again : tie.Need-loop-again Inv-loop μ-loop
+loop-again c = (search counting, search counting, count-no _ _ _ (c .before .before .before .before .loop .inv .2) (rule-fails (isUnmapped _ _) _ (c .before .before .before .before .before .before .before .before .before .args .count) _ (search counting) _ (c .before .before .read-rule .ensures) _ (c .before .is-unmapped .ensures) (c .if1 .taken)))
+
+loop-again-2 : tie.Need-loop-again-2 Inv-loop μ-loop
+loop-again-2 c = (search counting, search counting, count-yes _ _ _ (c .before .before .before .before .loop .inv .2) (rule-passes (isUnmapped _ _) _ (c .before .before .before .before .before .before .before .before .before .args .count) _ (search counting) _ (c .before .before .read-rule .ensures) _ (c .before .is-unmapped .ensures) (c .if1 .left)))
+
+returns : tie.Need-returns Inv-loop μ-loop
+returns c = counted _ _ _ _ _ (unmapped-is _ _ _ _) (search counting) (search counting) (c .before .loop .inv .2)
+
+pub count-unmapped-spec : {M : Type 1} → statement M
+count-unmapped-spec =
+    tie.close
+    (tie.spec
+    Inv-loop
+    μ-loop
+    (λ c. search counting)
+    (λ c. search counting)
+    (λ c κs. search counting)
+    (λ c. search counting)
+    (λ c κs. search counting)
+    (λ c. search counting)
+    loop-again
+    (λ c. search counting)
+    (λ c. search counting)
+    loop-again-2
+    returns)

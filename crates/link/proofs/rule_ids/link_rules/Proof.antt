@@ -1,0 +1,36 @@
+-- `link::rule_ids::link_rules` meets its contract: the rules so far are linked and written back.
+use mathlib.Core.Path.{_≡_}
+use Prim.Native.Nat.{_≤_, _-_}
+use native.Mathlib.Omega.{arith}
+use borrow.Author.Needs.{needs}
+use lib.ListN.{length}
+use Rattle.link.specs.Map.{entriesOf}
+use Rattle.link.proofs.LinkedRules.{linking-rules, linkedTo, rules-next}
+use Rattle.link.proofs.rule_ids.link_rules.Statement.{statement}
+use Rattle.link.proofs.rule_ids.link_rules.Tie as tie
+
+abbrev Inv-loop : tie.InvT-loop
+Inv-loop src area₀ count names entries k₀ area k = (k ≤ count) × (length area ≡ length area₀) × (area ≡ linkedTo src (entriesOf names entries) area₀ k)
+
+abbrev μ-loop : tie.MeasureT-loop
+μ-loop src area₀ count names entries k₀ area k = count - k
+
+loop-again : tie.Need-loop-again Inv-loop μ-loop
+loop-again c = (search linking-rules, search linking-rules, rules-next _ _ _ _ (c .before .before .before .before .before .before .before .before .before .before .before .before .before .args .count) _ (c .before .before .before .before .before .before .before .before .loop .inv .2) (search needs) (c .before .before .before .before .before .before .before .before .before .before .before .before .before .pre .0) (omega (arith, c .before .before .before .before .before .before .before .before .before .before .before .before .before .pre .1, c .before .before .before .before .before .before .before .before .loop .inv .1)) _ _ _ _ (c .before .before .before .before .before .read-rule .ensures) (c .before .before .before .link-rule .ensures) (c .before .before .push-rule .ensures))
+
+pub link-rules-spec : {M : Type 1} → statement M
+link-rules-spec =
+    tie.close
+    (tie.spec
+    Inv-loop
+    μ-loop
+    (λ c. search linking-rules)
+    (λ c. search linking-rules)
+    (λ c κs. search linking-rules)
+    (λ c κs. search linking-rules)
+    (λ c κs. search linking-rules)
+    (λ c. search linking-rules)
+    (λ c. search linking-rules)
+    loop-again
+    (λ c. search linking-rules)
+    (λ c. search linking-rules))

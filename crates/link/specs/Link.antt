@@ -1,0 +1,149 @@
+-- Linking: the ids of named rules by a map; the numbers of rules and of entries that find no partner; and the link call (01, Linking).
+use Prim.Native.Nat.{ℕ, zero, suc, _+_, _*_}
+use mathlib.Core.Bool.{Bool, true, false, cond, not, _&&_}
+use mathlib.Core.List.{List, [], _∷_, _++_, map}
+use mathlib.Core.Option.{Option, none, some}
+use lib.Dec.{eqb, leb}
+use lib.ListN.{length, drop}
+use Rattle.text.specs.Range.{part, sameBytes}
+use Rattle.area.specs.declared.Rule.{Rule}
+use Rattle.area.specs.Bytes.{bytes}
+use Rattle.area.specs.Records.{entryWidth, nthRule}
+use Rattle.area.specs.Contents.{Format, ruleFormat, entryFormat}
+use Rattle.parse.specs.Parse.{laid}
+use Rattle.sheet_check.specs.SheetCheck.{SheetBytes, decoded, sheetCheck, all}
+use Rattle.link.specs.declared.LinkAnswer.{LinkAnswer}
+use Rattle.link.specs.declared.LinkAnswer.the-variants.{Linked, BrokenSheet, BrokenMap, AreaFull}
+use Rattle.link.specs.Map.{Entry, entriesOf, nth, idOf, mapCheck}
+
+-- ---- a rule
+
+abbrev pub isNamed : Rule → Bool
+isNamed x = eqb (x .named) 1
+
+-- the bytes of a rule's name
+unfoldable pub nameOf : List ℕ → Rule → List ℕ
+nameOf s x = part s (x .«name_from») (x .«name_from» + x .«name_length»)
+
+-- the same rule with another mark and id
+unfoldable pub withId : ℕ → ℕ → Rule → Rule
+withId has i x = record {
+  «has_id» = has;
+  id = i;
+  named = x .named;
+  «span_start» = x .«span_start»;
+  «span_end» = x .«span_end»;
+  «name_from» = x .«name_from»;
+  «name_length» = x .«name_length»;
+  place = x .place;
+  «text_from» = x .«text_from»;
+  «text_length» = x .«text_length»;
+  «list_from» = x .«list_from»;
+  «list_count» = x .«list_count»;
+  operation = x .operation;
+  target = x .target;
+}
+
+-- the id that was found, or none: then both fields are 0
+unfoldable pub withFound : Option ℕ → Rule → Rule
+withFound (some i) x = withId 1 i x
+withFound none x = withId 0 0 x
+
+-- a named rule gets its entry's id or none, an unnamed one keeps its own
+unfoldable pub linkRule : List ℕ → List Entry → Rule → Rule
+linkRule s es x = cond (isNamed x) (withFound (idOf es (nameOf s x)) x) x
+
+unfoldable pub linkRules : List ℕ → List Entry → List Rule → List Rule
+linkRules s es xs = map (linkRule s es) xs
+
+-- ---- numbers
+
+-- the numbers below n that pass the test, in order
+unfoldable pub numbers : (ℕ → Bool) → ℕ → List ℕ
+numbers test zero = []
+numbers test (suc n) = numbers test n ++ cond (test n) (n ∷ []) []
+
+unfoldable pub isNone : Option ℕ → Bool
+isNone none = true
+isNone (some i) = false
+
+-- a named rule whose name has no entry
+unfoldable pub isUnmapped : List ℕ → List Entry → Rule → Bool
+isUnmapped s es x = isNamed x && isNone (idOf es (nameOf s x))
+
+-- a named rule without an id
+unfoldable pub isUnlinked : Rule → Bool
+isUnlinked x = isNamed x && eqb (x .«has_id») 0
+
+-- the rule has that name
+unfoldable pub hasThatName : List ℕ → List ℕ → Rule → Bool
+hasThatName s name x = isNamed x && sameBytes name (nameOf s x)
+
+-- no rule has that name
+unfoldable pub isUnused : List ℕ → List Rule → List ℕ → Bool
+isUnused s xs name = all (λ x. not (hasThatName s name x)) xs
+
+-- numbers of unmapped named rules, by position: area 7
+unfoldable pub unmapped : List ℕ → List Entry → List Rule → List ℕ
+unmapped s es xs = numbers (λ k. isUnmapped s es (nthRule xs k)) (length xs)
+
+-- numbers of named rules without an id: after linking, the unmapped ones
+unfoldable pub unlinked : List Rule → List ℕ
+unlinked xs = numbers (λ k. isUnlinked (nthRule xs k)) (length xs)
+
+-- numbers of entries that no rule names, in map order: area 8
+unfoldable pub unused : List ℕ → List Entry → List Rule → List ℕ
+unused s es xs = numbers (λ j. isUnused s xs (nth es j .name)) (length es)
+
+-- ---- the call
+
+-- what the call leaves: its answer, and areas 2, 7 and 8
+pub record LinkLeft : Type 0 where
+  pub answer : LinkAnswer
+  pub area2 : List ℕ
+  pub area7 : List ℕ
+  pub area8 : List ℕ
+
+abbrev pub linkLeft : LinkAnswer → List ℕ → List ℕ → List ℕ → LinkLeft
+linkLeft r x2 x7 x8 = record { answer = r; area2 = x2; area7 = x7; area8 = x8 }
+
+-- records over the front of an area; the bytes behind them stay
+unfoldable pub relaid : {A : Type 0} → Format A → List ℕ → List A → List ℕ
+relaid F l xs = bytes (F .write) xs ++ drop (length xs * F .width) l
+
+-- the numbers fit an area (01, Numbers given at the counter, 4)
+unfoldable pub fits : List ℕ → List ℕ → Bool
+fits ns l = leb (length ns * entryWidth) (length l)
+
+-- all three areas written
+unfoldable pub linkAll : LinkAnswer → List ℕ → List Rule → List Entry → List ℕ → List ℕ → List ℕ → LinkLeft
+linkAll r s xs es x2 x7 x8 =
+    linkLeft r (relaid ruleFormat x2 (linkRules s es xs)) (laid entryFormat (length x7) (unmapped s es xs)) (laid entryFormat (length x8) (unused s es xs))
+
+-- a sheet and a map that passed their checks: number 4 for area 7, then for area 8
+unfoldable pub linkChecked : List ℕ → List Rule → List Entry → List ℕ → List ℕ → List ℕ → LinkLeft
+linkChecked s xs es x2 x7 x8 =
+    cond (fits (unmapped s es xs) x7)
+    (cond (fits (unused s es xs) x8)
+    (linkAll (Linked (length (unmapped s es xs)) (length (unused s es xs))) s xs es x2 x7 x8)
+    (linkLeft (AreaFull 8) x2 x7 x8))
+    (linkLeft (AreaFull 7) x2 x7 x8)
+
+-- the link call: 6, 7, then 4; a refusal changes nothing
+unfoldable pub linkCall : SheetBytes → List ℕ → List ℕ → List ℕ → List ℕ → LinkLeft
+linkCall b names entries x7 x8 =
+    cond (sheetCheck b)
+    (cond (mapCheck names entries)
+    (linkChecked (b .source) (decoded b .rules) (entriesOf names entries) (b .area2) x7 x8)
+    (linkLeft BrokenMap (b .area2) x7 x8))
+    (linkLeft BrokenSheet (b .area2) x7 x8)
+
+-- the number and the values of each answer, as one word of two-byte fields (01, Numbers given at the counter)
+abbrev pub word : ℕ → ℕ → ℕ → ℕ
+word number a b = number + 65536 * a + 4294967296 * b
+
+unfoldable pub wordOf : LinkAnswer → ℕ
+wordOf (Linked a b) = word 0 a b
+wordOf BrokenSheet = word 6 0 0
+wordOf BrokenMap = word 7 0 0
+wordOf (AreaFull n) = word 4 n 0

@@ -1,0 +1,108 @@
+// The link call (01, Linking). Everything is counted before a byte is written, so that a refusal changes nothing.
+ghost use mathlib.Core.Path.{_≡_};
+ghost use mathlib.Core.Bool.{true};
+ghost use Prim.Native.Nat.{_*_, _≤_};
+ghost use lib.ListN.{length};
+ghost use Rattle.area.specs.Records.{ruleWidth, mostRules};
+ghost use Rattle.area.specs.Contents.{contents, ruleFormat};
+ghost use Rattle.sheet_check.specs.SheetCheck.{sheetBytes};
+ghost use Rattle.link.specs.declared.LinkAnswer.the-variants.{Linked};
+ghost use Rattle.link.specs.Map.{mostEntries, entryCount, entriesOf};
+ghost use Rattle.link.specs.Link.{unmapped, unused, fits, linkLeft, linkAll, linkChecked, linkCall};
+use crate::LinkAnswer;
+use crate::map::check_map;
+use crate::numbers::count_unmapped;
+use crate::numbers::count_unused;
+use crate::numbers::write_unlinked;
+use crate::numbers::write_unused;
+use crate::rule_ids::link_rules;
+use area::clear;
+use sheet_check::check::check;
+
+const ENTRY_WIDTH: usize = 2;
+
+// Area 8 while the rules are as they were; then the rules; then area 7 from what they have become.
+fn write_all(
+    src: &[u8],
+    area2: &mut [u8],
+    rules: u16,
+    names: &[u8],
+    entries: &[u8],
+    area7: &mut [u8],
+    area8: &mut [u8],
+    missing: u16,
+    idle: u16,
+) -> LinkAnswer
+    requires { ⌜ (rules ≤ mostRules) × (rules * ruleWidth ≤ length (now area2)) ⌝ }
+    requires { ⌜ entryCount (now entries) ≤ mostEntries ⌝ }
+    requires { ⌜ fits (unmapped (now src) (entriesOf (now names) (now entries)) (contents ruleFormat (now area2) rules)) (now area7) ≡ true ⌝ }
+    requires { ⌜ fits (unused (now src) (entriesOf (now names) (now entries)) (contents ruleFormat (now area2) rules)) (now area8) ≡ true ⌝ }
+    ensures { λ r. ⌜ linkLeft r (now (area2 .exit)) (now (area7 .exit)) (now (area8 .exit)) ≡ linkAll (Linked missing idle) (now (src .entry)) (contents ruleFormat (now (area2 .entry)) rules) (entriesOf (now (names .entry)) (now (entries .entry))) (now (area2 .entry)) (now (area7 .entry)) (now (area8 .entry)) ⌝ }
+{
+    clear(area8);
+    write_unused(src, area2, rules, names, entries, area8);
+    link_rules(src, area2, rules, names, entries);
+    clear(area7);
+    write_unlinked(area2, rules, area7);
+    LinkAnswer::Linked(missing, idle)
+}
+
+// A sheet and a map that passed their checks.
+fn link_checked(
+    src: &[u8],
+    area2: &mut [u8],
+    rules: u16,
+    names: &[u8],
+    entries: &[u8],
+    area7: &mut [u8],
+    area8: &mut [u8],
+) -> LinkAnswer
+    requires { ⌜ (rules ≤ mostRules) × (rules * ruleWidth ≤ length (now area2)) ⌝ }
+    requires { ⌜ entryCount (now entries) ≤ mostEntries ⌝ }
+    ensures { λ r. ⌜ linkLeft r (now (area2 .exit)) (now (area7 .exit)) (now (area8 .exit)) ≡ linkChecked (now (src .entry)) (contents ruleFormat (now (area2 .entry)) rules) (entriesOf (now (names .entry)) (now (entries .entry))) (now (area2 .entry)) (now (area7 .entry)) (now (area8 .entry)) ⌝ }
+{
+    let missing = count_unmapped(src, area2, rules, names, entries);
+    if area7.len() < missing as usize * ENTRY_WIDTH {
+        return LinkAnswer::AreaFull(7);
+    }
+    let idle = count_unused(src, area2, rules, names, entries);
+    if area8.len() < idle as usize * ENTRY_WIDTH {
+        return LinkAnswer::AreaFull(8);
+    }
+    write_all(
+        src,
+        area2,
+        rules,
+        names,
+        entries,
+        area7,
+        area8,
+        missing,
+        idle,
+    )
+}
+
+// The ids of a sheet's named rules by a map of names.
+pub fn set_rule_ids_spanned(
+    src: &[u8],
+    area1: &[u8],
+    area2: &mut [u8],
+    area3: &[u8],
+    area4: &[u8],
+    area5: &[u8],
+    counts: &[u16; 6],
+    names: &[u8],
+    entries: &[u8],
+    area7: &mut [u8],
+    area8: &mut [u8],
+) -> LinkAnswer
+    ensures { λ r. ⌜ linkLeft r (now (area2 .exit)) (now (area7 .exit)) (now (area8 .exit)) ≡ linkCall (sheetBytes (now (src .entry)) (now (area1 .entry)) (now (area2 .entry)) (now (area3 .entry)) (now (area4 .entry)) (now (area5 .entry)) (now (counts .entry))) (now (names .entry)) (now (entries .entry)) (now (area7 .entry)) (now (area8 .entry)) ⌝ }
+{
+    if !check(src, area1, area2, area3, area4, area5, counts) {
+        return LinkAnswer::BrokenSheet;
+    }
+    if !check_map(names, entries) {
+        return LinkAnswer::BrokenMap;
+    }
+    link_checked(src, area2, counts[1], names, entries, area7, area8)
+}

@@ -1,0 +1,115 @@
+// A map: the entry of a name, and the map check (01, Linking, and Numbers given at the counter, 7).
+ghost use mathlib.Core.Path.{_≡_};
+ghost use Prim.Native.Nat.{_<_};
+ghost use lib.Dec.{eqb};
+ghost use lib.ListN.{length};
+ghost use Rattle.text.specs.Walk.{Between};
+ghost use Rattle.text.specs.Range.{part, sameBytes};
+ghost use Rattle.area.specs.Contents.{contents};
+ghost use Rattle.sheet_check.specs.SheetCheck.{all};
+ghost use Rattle.link.specs.Map.{mapFormat, mapEntryAt, entryCount, entriesOf, nth, findEntry, nameInside, distinct, mapCheck};
+use crate::MapEntry;
+use area::read_field;
+use text::range::same_range;
+
+const MAP_WIDTH: usize = 6;
+
+const MOST_ENTRIES: usize = 2048;
+
+pub fn read_map_entry(entries: &[u8], k: usize) -> MapEntry
+    requires { ⌜ k < entryCount (now entries) ⌝ }
+    ensures { λ r. ⌜ r ≡ mapEntryAt (now (entries .entry)) k ⌝ }
+{
+    let at = k * MAP_WIDTH;
+    MapEntry {
+        name_from: read_field(entries, at),
+        name_length: read_field(entries, at + 2),
+        id: read_field(entries, at + 4),
+    }
+}
+
+// Whether entry j has the name that stands in a text from a to e.
+pub fn has_name(names: &[u8], entries: &[u8], j: usize, text: &[u8], a: usize, e: usize) -> bool
+    requires { ⌜ j < entryCount (now entries) ⌝ }
+    ensures { λ r. ⌜ r ≡ sameBytes (nth (entriesOf (now (names .entry)) (now (entries .entry))) j .name) (part (now (text .entry)) a e) ⌝ }
+{
+    let x = read_map_entry(entries, j);
+    let from = x.name_from as usize;
+    same_range(names, from, from + x.name_length as usize, text, a, e)
+}
+
+// The first entry with the name that stands in a text from a to e, or the number of entries.
+pub fn find_entry(names: &[u8], entries: &[u8], text: &[u8], a: usize, e: usize) -> usize
+    ensures { λ r. ⌜ Between 0 (entryCount (now (entries .entry))) (findEntry (entriesOf (now (names .entry)) (now (entries .entry))) (part (now (text .entry)) a e)) r ⌝ }
+{
+    let n = entries.len() / MAP_WIDTH;
+    let mut j = 0;
+    while j < n {
+        if has_name(names, entries, j, text, a, e) {
+            return j;
+        }
+        j += 1;
+    }
+    j
+}
+
+// ---- the map check
+
+fn name_inside(n: usize, x: MapEntry) -> bool
+    ensures { λ r. ⌜ r ≡ nameInside n x ⌝ }
+{
+    x.name_from as usize + x.name_length as usize <= n
+}
+
+fn names_inside(entries: &[u8], n: usize) -> bool
+    ensures { λ r. ⌜ r ≡ all (nameInside n) (contents mapFormat (now (entries .entry)) (entryCount (now (entries .entry)))) ⌝ }
+{
+    let most = entries.len() / MAP_WIDTH;
+    let mut good = true;
+    let mut k = 0;
+    while k < most {
+        good = good & name_inside(n, read_map_entry(entries, k));
+        k += 1;
+    }
+    good
+}
+
+// Whether entry j is the first of its name.
+fn is_first(names: &[u8], entries: &[u8], j: usize) -> bool
+    requires { ⌜ j < entryCount (now entries) ⌝ }
+    ensures { λ r. ⌜ r ≡ eqb (findEntry (entriesOf (now (names .entry)) (now (entries .entry))) (nth (entriesOf (now (names .entry)) (now (entries .entry))) j .name)) j ⌝ }
+{
+    let x = read_map_entry(entries, j);
+    let from = x.name_from as usize;
+    find_entry(names, entries, names, from, from + x.name_length as usize) == j
+}
+
+// Whether no two entries have the same name.
+fn are_distinct(names: &[u8], entries: &[u8]) -> bool
+    ensures { λ r. ⌜ r ≡ distinct (entriesOf (now (names .entry)) (now (entries .entry))) ⌝ }
+{
+    let n = entries.len() / MAP_WIDTH;
+    let mut good = true;
+    let mut j = 0;
+    while j < n {
+        good = good & is_first(names, entries, j);
+        j += 1;
+    }
+    good
+}
+
+// The number of entries first, so that names are compared only where it is small.
+pub fn check_map(names: &[u8], entries: &[u8]) -> bool
+    ensures { λ r. ⌜ r ≡ mapCheck (now (names .entry)) (now (entries .entry)) ⌝ }
+{
+    if entries.len() % MAP_WIDTH != 0 {
+        return false;
+    }
+    if entries.len() / MAP_WIDTH > MOST_ENTRIES {
+        return false;
+    }
+    if names_inside(entries, names.len()) {
+        return are_distinct(names, entries);
+    }
+    false
+}

@@ -1,0 +1,160 @@
+// The numbers of rules and of entries that find no partner: counted first, and written when both areas have room (01, Linking).
+ghost use mathlib.Core.Path.{_≡_};
+ghost use Prim.Native.Nat.{_+_, _*_, _≤_, _<_};
+ghost use mathlib.Core.Bool.{true};
+ghost use lib.ListN.{length};
+ghost use lib.Seq.{sets};
+ghost use Rattle.area.specs.Bytes.{zeros};
+ghost use Rattle.area.specs.Records.{ruleWidth, entryWidth, entryBytes};
+ghost use Rattle.area.specs.Contents.{contents, ruleFormat, entryFormat};
+ghost use Rattle.parse.specs.Parse.{laid};
+ghost use Rattle.link.specs.Map.{mostEntries, entryCount, entriesOf, nth};
+ghost use Rattle.link.specs.Link.{isUnmapped, isUnlinked, hasThatName, isUnused, unlinked, unmapped, unused, fits};
+use crate::map::has_name;
+use crate::rule_ids::entry_of;
+use area::Rule;
+use area::read_rule;
+use area::write_field;
+
+const MAP_WIDTH: usize = 6;
+
+const ENTRY_WIDTH: usize = 2;
+
+// Number n of an area.
+fn write_number(into: &mut [u8], n: u16, number: u16)
+    requires { ⌜ n * entryWidth + entryWidth ≤ length (now into) ⌝ }
+    ensures { λ _. ⌜ now (into .exit) ≡ sets (now (into .entry)) (n * entryWidth) (entryBytes number) ⌝ }
+{
+    write_field(into, n as usize * ENTRY_WIDTH, number);
+}
+
+// ---- rules
+
+fn is_unmapped(src: &[u8], names: &[u8], entries: &[u8], x: Rule) -> bool
+    ensures { λ r. ⌜ r ≡ isUnmapped (now (src .entry)) (entriesOf (now (names .entry)) (now (entries .entry))) x ⌝ }
+{
+    if x.named != 1 {
+        return false;
+    }
+    entries.len() / MAP_WIDTH <= entry_of(src, names, entries, x)
+}
+
+pub fn count_unmapped(src: &[u8], area: &[u8], count: u16, names: &[u8], entries: &[u8]) -> u16
+    requires { ⌜ count * ruleWidth ≤ length (now area) ⌝ }
+    ensures { λ r. ⌜ r ≡ length (unmapped (now (src .entry)) (entriesOf (now (names .entry)) (now (entries .entry))) (contents ruleFormat (now (area .entry)) count)) ⌝ }
+{
+    let mut n = 0;
+    let mut k = 0;
+    while k < count {
+        let x = read_rule(area, k as usize);
+        k += 1;
+        if !is_unmapped(src, names, entries, x) {
+            continue;
+        }
+        n += 1;
+    }
+    n
+}
+
+fn is_unlinked(x: Rule) -> bool
+    ensures { λ r. ⌜ r ≡ isUnlinked x ⌝ }
+{
+    (x.named == 1) & (x.has_id == 0)
+}
+
+// The named rules that have no id, of an area whose rules are linked, into an area of zeros.
+pub fn write_unlinked(area: &[u8], count: u16, into: &mut [u8])
+    requires { ⌜ count * ruleWidth ≤ length (now area) ⌝ }
+    requires { ⌜ now into ≡ zeros (length (now into)) ⌝ }
+    requires { ⌜ fits (unlinked (contents ruleFormat (now area) count)) (now into) ≡ true ⌝ }
+    ensures { λ _. ⌜ now (into .exit) ≡ laid entryFormat (length (now (into .entry))) (unlinked (contents ruleFormat (now (area .entry)) count)) ⌝ }
+{
+    let mut n = 0;
+    let mut k = 0;
+    while k < count {
+        let here = k;
+        let x = read_rule(area, here as usize);
+        k += 1;
+        if !is_unlinked(x) {
+            continue;
+        }
+        write_number(into, n, here);
+        n += 1;
+    }
+}
+
+// ---- entries
+
+fn has_that_name(src: &[u8], x: Rule, names: &[u8], entries: &[u8], j: usize) -> bool
+    requires { ⌜ j < entryCount (now entries) ⌝ }
+    ensures { λ r. ⌜ r ≡ hasThatName (now (src .entry)) (nth (entriesOf (now (names .entry)) (now (entries .entry))) j .name) x ⌝ }
+{
+    if x.named != 1 {
+        return false;
+    }
+    let from = x.name_from as usize;
+    has_name(names, entries, j, src, from, from + x.name_length as usize)
+}
+
+fn is_unused(src: &[u8], area: &[u8], count: u16, names: &[u8], entries: &[u8], j: usize) -> bool
+    requires { ⌜ count * ruleWidth ≤ length (now area) ⌝ }
+    requires { ⌜ j < entryCount (now entries) ⌝ }
+    ensures { λ r. ⌜ r ≡ isUnused (now (src .entry)) (contents ruleFormat (now (area .entry)) count) (nth (entriesOf (now (names .entry)) (now (entries .entry))) j .name) ⌝ }
+{
+    let mut k = 0;
+    while k < count {
+        if has_that_name(src, read_rule(area, k as usize), names, entries, j) {
+            return false;
+        }
+        k += 1;
+    }
+    true
+}
+
+pub fn count_unused(src: &[u8], area: &[u8], count: u16, names: &[u8], entries: &[u8]) -> u16
+    requires { ⌜ count * ruleWidth ≤ length (now area) ⌝ }
+    requires { ⌜ entryCount (now entries) ≤ mostEntries ⌝ }
+    ensures { λ r. ⌜ r ≡ length (unused (now (src .entry)) (entriesOf (now (names .entry)) (now (entries .entry))) (contents ruleFormat (now (area .entry)) count)) ⌝ }
+{
+    let most = entries.len() / MAP_WIDTH;
+    let mut n = 0;
+    let mut j = 0;
+    while j < most {
+        let here = j;
+        j += 1;
+        if !is_unused(src, area, count, names, entries, here) {
+            continue;
+        }
+        n += 1;
+    }
+    n
+}
+
+// Into an area of zeros.
+pub fn write_unused(
+    src: &[u8],
+    area: &[u8],
+    count: u16,
+    names: &[u8],
+    entries: &[u8],
+    into: &mut [u8],
+)
+    requires { ⌜ count * ruleWidth ≤ length (now area) ⌝ }
+    requires { ⌜ entryCount (now entries) ≤ mostEntries ⌝ }
+    requires { ⌜ now into ≡ zeros (length (now into)) ⌝ }
+    requires { ⌜ fits (unused (now src) (entriesOf (now names) (now entries)) (contents ruleFormat (now area) count)) (now into) ≡ true ⌝ }
+    ensures { λ _. ⌜ now (into .exit) ≡ laid entryFormat (length (now (into .entry))) (unused (now (src .entry)) (entriesOf (now (names .entry)) (now (entries .entry))) (contents ruleFormat (now (area .entry)) count)) ⌝ }
+{
+    let most = entries.len() / MAP_WIDTH;
+    let mut n = 0;
+    let mut j = 0;
+    while j < most {
+        let here = j;
+        j += 1;
+        if !is_unused(src, area, count, names, entries, here) {
+            continue;
+        }
+        write_number(into, n, here as u16);
+        n += 1;
+    }
+}

@@ -1,0 +1,60 @@
+// The ids of the rules: a named rule gets its entry's id, or none (01, Linking).
+ghost use mathlib.Core.Path.{_≡_};
+ghost use Prim.Native.Nat.{_*_, _≤_};
+ghost use lib.ListN.{length};
+ghost use Rattle.text.specs.Walk.{Between};
+ghost use Rattle.area.specs.Records.{ruleWidth, mostRules};
+ghost use Rattle.area.specs.Contents.{contents, ruleFormat};
+ghost use Rattle.link.specs.Map.{entryCount, entriesOf, findEntry};
+ghost use Rattle.link.specs.Link.{nameOf, withId, linkRule, linkRules, relaid};
+use crate::map::find_entry;
+use crate::map::read_map_entry;
+use area::Rule;
+use area::push_rule;
+use area::read_rule;
+
+const MAP_WIDTH: usize = 6;
+
+// The entry with a rule's name, or the number of entries.
+pub fn entry_of(src: &[u8], names: &[u8], entries: &[u8], x: Rule) -> usize
+    ensures { λ r. ⌜ Between 0 (entryCount (now (entries .entry))) (findEntry (entriesOf (now (names .entry)) (now (entries .entry))) (nameOf (now (src .entry)) x)) r ⌝ }
+{
+    let from = x.name_from as usize;
+    find_entry(names, entries, src, from, from + x.name_length as usize)
+}
+
+fn with_id(x: Rule, has: u16, id: u16) -> Rule
+    ensures { λ r. ⌜ r ≡ withId has id x ⌝ }
+{
+    let mut y = x;
+    y.has_id = has;
+    y.id = id;
+    y
+}
+
+fn link_rule(src: &[u8], names: &[u8], entries: &[u8], x: Rule) -> Rule
+    ensures { λ r. ⌜ r ≡ linkRule (now (src .entry)) (entriesOf (now (names .entry)) (now (entries .entry))) x ⌝ }
+{
+    if x.named != 1 {
+        return x;
+    }
+    let j = entry_of(src, names, entries, x);
+    if j < entries.len() / MAP_WIDTH {
+        let found = read_map_entry(entries, j);
+        return with_id(x, 1, found.id);
+    }
+    with_id(x, 0, 0)
+}
+
+// Every rule is written back whole, so that an area holds the linked rules.
+pub fn link_rules(src: &[u8], area: &mut [u8], count: u16, names: &[u8], entries: &[u8])
+    requires { ⌜ (count ≤ mostRules) × (count * ruleWidth ≤ length (now area)) ⌝ }
+    ensures { λ _. ⌜ now (area .exit) ≡ relaid ruleFormat (now (area .entry)) (linkRules (now (src .entry)) (entriesOf (now (names .entry)) (now (entries .entry))) (contents ruleFormat (now (area .entry)) count)) ⌝ }
+{
+    let mut k = 0;
+    while k < count {
+        let x = read_rule(area, k as usize);
+        push_rule(area, k, link_rule(src, names, entries, x));
+        k += 1;
+    }
+}

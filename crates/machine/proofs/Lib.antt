@@ -1,0 +1,10 @@
+pub mod Stacks
+pub mod Operations
+pub mod Stepping
+pub mod Winners
+pub mod Keeping
+pub mod OneStep
+pub mod Whole
+pub mod Places
+pub mod Relinking
+pub mod Theorem

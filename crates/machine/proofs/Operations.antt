@@ -1,0 +1,116 @@
+-- A rule's operation on the bytes of a stack is the machine's on the list, and a winner's move on the run is its move of the machine. Linking
+-- changes a rule's mark and id alone, so everything but the answer is as without it.
+use mathlib.Core.Path.{_≡_, refl, sym, ap, ap₂, _∙_}
+use mathlib.Core.Bool.{Bool, true, false, cond}
+use mathlib.Core.List.{List, [], _∷_, _++_, map}
+use mathlib.Core.Option.{Option, none, some}
+use Prim.Native.Nat.{ℕ, zero, suc, _+_, _*_, _-_, _≤_, _<_}
+use native.Mathlib.Omega.{arith}
+use borrow.Author.Tests.{ne-eqb}
+use lib.Dec.{eqb}
+use lib.ListN.{length, take, getD, length-append, List·getD-map, length-map}
+use lib.Seq.{length-take-le}
+use Rattle.area.specs.declared.State.{State}
+use Rattle.area.specs.declared.Rule.{Rule}
+use Rattle.area.specs.Records.{entryWidth, nthRule, ruleOf}
+use Rattle.area.specs.Contents.{entryFormat}
+use Rattle.link.specs.Map.{Entry, idOf}
+use Rattle.link.specs.Link.{relaid, isNamed, nameOf, withId, withFound, linkRule, linkRules}
+use Rattle.run.specs.declared.Run.{Run}
+use Rattle.run.specs.declared.Step.{Step}
+use Rattle.run.specs.declared.Step.the-variants.{Unlinked, Skip, Token}
+use Rattle.run.specs.Winner.{listed, live, lengthIn, weight}
+use Rattle.run.specs.Run.{Stacked, stacked, popped, operated, putState, moveBy, stepLeft, wonBy}
+use Rattle.machine.specs.Machine.{Machine, Given, orInitial, withoutLast, stackAfter, movedBy, answered, tokenBy, wins}
+use Rattle.machine.specs.Demand.{runAs, stackAs, leftAs}
+use Rattle.machine.proofs.Stacks.{Begins, laid-again, laid-shorter, laid-push, laid-bottom}
+
+-- ---- operations
+
+-- what the bytes b become with the stack z
+abbrev stackedAs : List ℕ → List ℕ → Stacked
+stackedAs b z = stacked (length z) (relaid entryFormat b z)
+
+kept : (st b : List ℕ) → Begins st b → stacked (length st) b ≡ stackedAs b st
+kept st b h = ap (stacked (length st)) (laid-again st b h)
+
+pop-as : (st b : List ℕ) → Begins st b → 1 ≤ length st → entryWidth ≤ length b → popped (length st) b ≡ stackedAs b (orInitial (withoutLast st))
+unfolding popped
+pop-as [] b h l w = absurd (omega arith)
+pop-as (x ∷ []) b h l w = ap (stacked 1) (laid-bottom b 0 w)
+pop-as (x ∷ y ∷ ys) b h l w =
+    let st : List ℕ = x ∷ y ∷ ys in
+    let k : length st - 1 ≡ suc (length ys) = omega arith in
+    rw (ne-eqb (length st) 1 (omega arith), k)
+    (ap (λ (n : ℕ). stacked n b) (sym (length-take-le (suc (length ys)) st (omega arith)))
+    ∙ kept (take (suc (length ys)) st) b (laid-shorter st b h (suc (length ys)) (omega arith)))
+
+pub operated-as : (x : Rule) (st b : List ℕ) → Begins st b → 1 ≤ length st → length st * entryWidth + entryWidth ≤ length b
+    → operated x (length st) b ≡ stackedAs b (stackAfter x st)
+unfolding operated stackAfter
+operated-as x st b h l w = go (eqb (x .operation) 1) (eqb (x .operation) 2) (eqb (x .operation) 3)
+  where
+    t : ℕ
+    t = x .target
+
+    go : (p q r : Bool)
+        → cond p (stacked 1 (putState b 0 t)) (cond q (stacked (length st + 1) (putState b (length st) t)) (cond r (popped (length st) b) (stacked (length st) b)))
+        ≡ stackedAs b (cond p (t ∷ []) (cond q (st ++ (t ∷ [])) (cond r (orInitial (withoutLast st)) st)))
+    go true q r = ap (stacked 1) (laid-bottom b t (omega arith))
+    go false true r = ap₂ stacked (sym (length-append st (t ∷ []))) (laid-push st b h t w)
+    go false false true = pop-as st b h l (omega arith)
+    go false false false = kept st b h
+
+-- ---- a rule that is linked
+
+module _ (s : List ℕ) (es : List Entry) where
+  -- another mark and id, and nothing else
+  linked-with : (x : Rule) → (has : ℕ) × (i : ℕ) × (linkRule s es x ≡ withId has i x)
+  unfolding linkRule withFound withId
+  linked-with x = go (isNamed x) (idOf es (nameOf s x))
+    where
+      go : (t : Bool) (o : Option ℕ) → (has : ℕ) × (i : ℕ) × (cond t (withFound o x) x ≡ withId has i x)
+      go true (some v) = (1, v, refl)
+      go true none = (0, 0, refl)
+      go false o = (x .«has_id», x .id, refl)
+
+  pub linked-nth : (xs : List Rule) (k : ℕ) → nthRule (linkRules s es xs) k ≡ linkRule s es (nthRule xs k)
+  unfolding linkRules linkRule ruleOf
+  linked-nth xs k = List·getD-map (linkRule s es) xs k (ruleOf (λ _. 0))
+
+  linked-live : (states : List State) (lists : List ℕ) (state : ℕ) (x : Rule) → live states lists state (linkRule s es x) ≡ live states lists state x
+  unfolding live listed withId
+  linked-live states lists state x = ap (live states lists state) (linked-with x .2)
+
+  pub linked-weight : (states : List State) (xs : List Rule) (lists : List ℕ) (state : ℕ) (row : List ℕ)
+      → weight states (linkRules s es xs) lists state row ≡ weight states xs lists state row
+  unfolding weight
+  linked-weight states xs lists state row =
+      λ i k. cond ((ap (live states lists state) (linked-nth xs k) ∙ linked-live states lists state (nthRule xs k)) i) (lengthIn row k) 0
+
+  -- rule k of the linked rules has the same place in the list
+  pub linked-count : (xs : List Rule) → length (linkRules s es xs) ≡ length xs
+  unfolding linkRules
+  linked-count xs = length-map xs (linkRule s es)
+
+-- ---- a call that does not move, and a winner
+
+pub still-as : (n : ℕ) (m : Machine) (b : List ℕ) → Begins (m .stack) b → (a : Step) → stepLeft a (runAs n m) b ≡ leftAs n b (answered a m)
+still-as n m b h a = ap (stepLeft a (runAs n m)) (laid-again (m .stack) b h)
+
+-- the bytes b begin with the stack, with room for one id more
+module _ (n : ℕ) (m : Machine) (b : List ℕ) (begins : Begins (m .stack) b) (some-id : 1 ≤ length (m .stack)) (room : length (m .stack) * entryWidth + entryWidth ≤ length b) where
+  move-as : (a : Step) (x : Rule) (bytes : ℕ) → stepLeft a (moveBy x bytes (runAs n m) b .run) (moveBy x bytes (runAs n m) b .stack) ≡ leftAs n b (answered a (movedBy x bytes m))
+  unfolding moveBy movedBy
+  move-as a x bytes =
+      ap (λ (z : Stacked). stepLeft a (record { n = n; position = m .position + bytes; depth = z .depth; moves = m .moves + 1 }) (z .stack))
+      (operated-as x (m .stack) b begins some-id room)
+
+  pub won-as : (g : Given) (x : Rule) (bytes : ℕ) → wonBy (linkRule (g .source) (g .map) x) bytes (runAs n m) b ≡ leftAs n b (wins g x bytes m)
+  unfolding wonBy linkRule wins withFound withId tokenBy moveBy operated
+  won-as g x bytes = go (isNamed x) refl (idOf (g .map) (nameOf (g .source) x))
+    where
+      go : (t : Bool) → isNamed x ≡ t → (o : Option ℕ) → wonBy (cond t (withFound o x) x) bytes (runAs n m) b ≡ leftAs n b (cond t (tokenBy o x bytes m) (answered Skip (movedBy x bytes m)))
+      go true e (some i) = rw e (move-as (Token i (m .position) bytes) x bytes)
+      go true e none = rw e (still-as n m b begins Unlinked)
+      go false e o = rw e (move-as Skip x bytes)

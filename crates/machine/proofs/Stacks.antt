@@ -1,0 +1,110 @@
+-- A stack over the front of its bytes. What is written there is read back, and each operation on the bytes is the one on the list: so bytes over
+-- which the machine's stack is laid stay such bytes.
+use mathlib.Core.Path.{_≡_, refl, sym, ap, ap₂, _∙_}
+use mathlib.Core.Bool.{Bool, true, false, cond}
+use mathlib.Core.List.{List, [], _∷_, _++_, append-nil}
+use mathlib.Core.Logic.{⊎-elim}
+use Prim.Native.Nat.{ℕ, zero, suc, _+_, _*_, _-_, _/_, _%_, _≤_, _<_}
+use native.Mathlib.Nat.{le-refl}
+use native.Mathlib.Omega.{arith}
+use lib.Dec.{eqb}
+use lib.ListN.{length, getD, take, drop, length-append, length-drop, length-take, take-append-drop}
+use lib.Seq.{sets, sets-eq, take-at, drop-at, take-append-le, take-take, take-append-seam, drop-append-seam, length-take-le, drop-drop}
+use Rattle.area.specs.Bytes.{two, bytes, fieldAt, fieldFrom}
+use Rattle.area.specs.Records.{entryAt, entryWidth, entryBytes, entryFields, nthEntry}
+use Rattle.area.specs.Contents.{contents, entryFormat}
+use Rattle.area.proofs.Contents.{listOf-is}
+use Rattle.area.proofs.Fields.{bytes-append, bytes-single, bytes-length, bytes-at}
+use Rattle.area.proofs.Records.{entry-wide}
+use Rattle.link.specs.Link.{relaid}
+use Rattle.run.specs.Run.{putState}
+
+-- ---- ids at the front of bytes
+
+front-length : (st : List ℕ) → length (bytes entryBytes st) ≡ length st * entryWidth
+front-length = bytes-length entryBytes entryWidth entry-wide
+
+two-length : (v : ℕ) → length (two v) ≡ 2
+unfolding two
+two-length v = refl
+
+entry-bytes : (v : ℕ) → entryBytes v ≡ two v
+unfolding bytes entryFields
+entry-bytes v = append-nil (two v)
+
+pub front-read : (st t : List ℕ) (k : ℕ) → k < length st → entryAt (bytes entryBytes st ++ t) k ≡ nthEntry st k
+unfolding entryAt fieldFrom fieldAt two
+front-read st t k h =
+    let l : List ℕ = bytes entryBytes st ++ t in
+    let v : ℕ = nthEntry st k in
+    let low : getD l (k * entryWidth + 2 * 0) 0 ≡ v % 256 = ap (λ (i : ℕ). getD l i 0) {x = k * entryWidth + 2 * 0} {y = k * entryWidth + 0} (omega arith) ∙ bytes-at entryBytes entryWidth entry-wide 0 st t k 0 h (omega arith) ∙ ap (λ (b : List ℕ). getD b 0 0) (entry-bytes v) in
+    let high : getD l (k * entryWidth + 2 * 0 + 1) 0 ≡ v / 256 = ap (λ (i : ℕ). getD l i 0) {x = k * entryWidth + 2 * 0 + 1} {y = k * entryWidth + 1} (omega arith) ∙ bytes-at entryBytes entryWidth entry-wide 0 st t k 1 h (omega arith) ∙ ap (λ (b : List ℕ). getD b 1 0) (entry-bytes v) in
+    ap₂ (λ (x y : ℕ). x + y * 256) low high ∙ omega arith
+
+module _ (s st : List ℕ) where
+  pub laid-read : (k : ℕ) → k < length st → entryAt (relaid entryFormat s st) k ≡ nthEntry st k
+  unfolding relaid
+  laid-read k h = front-read st (drop (length st * entryWidth) s) k h
+
+  pub laid-contents : contents entryFormat (relaid entryFormat s st) (length st) ≡ st
+  unfolding contents
+  laid-contents = listOf-is (entryAt (relaid entryFormat s st)) 0 st (length st) refl (λ k h. laid-read k h)
+
+  module _ (fits : length st * entryWidth ≤ length s) where
+    pub laid-length : length (relaid entryFormat s st) ≡ length s
+    unfolding relaid
+    laid-length = length-append (bytes entryBytes st) _ ∙ omega (arith, front-length st, length-drop (length st * entryWidth) s)
+
+-- the bytes b begin with the stack
+pub record Begins (st b : List ℕ) : Type 0 where
+  pub front : take (length st * entryWidth) b ≡ bytes entryBytes st
+  pub long : length st * entryWidth ≤ length b
+
+pub laid-begins : (s st : List ℕ) → length st * entryWidth ≤ length s → Begins st (relaid entryFormat s st)
+unfolding relaid
+laid-begins s st h = record {
+  front = take-at (bytes entryBytes st) _ (length st * entryWidth) (front-length st);
+  long = omega (arith, laid-length s st h);
+}
+
+-- ---- the operations
+
+module _ (st b : List ℕ) (begins : Begins st b) where
+  -- a stack that the bytes begin with is laid over them already
+  pub laid-again : b ≡ relaid entryFormat b st
+  unfolding relaid
+  laid-again = sym (take-append-drop (length st * entryWidth) b) ∙ ap (λ (x : List ℕ). x ++ drop (length st * entryWidth) b) (begins .front)
+
+  -- and so is a part of it
+  pub laid-shorter : (k : ℕ) → k ≤ length st → Begins (take k st) b
+  laid-shorter k h = record {
+    front = ap (λ (j : ℕ). take (j * entryWidth) b) part ∙ sym (take-take (k * entryWidth) (length st * entryWidth) b (omega arith)) ∙ ap (take (k * entryWidth)) (begins .front ∙ split)
+        ∙ take-at (bytes entryBytes (take k st)) _ (k * entryWidth) (front-length (take k st) ∙ ap (λ (j : ℕ). j * entryWidth) part);
+    long = omega (arith, part, begins .long);
+  }
+    where
+      part : length (take k st) ≡ k
+      part = length-take-le k st h
+
+      split : bytes entryBytes st ≡ bytes entryBytes (take k st) ++ bytes entryBytes (drop k st)
+      split = ap (bytes entryBytes) (sym (take-append-drop k st)) ∙ bytes-append entryBytes (take k st) (drop k st)
+
+  -- an id behind it
+  pub laid-push : (id : ℕ) → length st * entryWidth + entryWidth ≤ length b → putState b (length st) id ≡ relaid entryFormat b (st ++ (id ∷ []))
+  unfolding relaid putState
+  laid-push id h =
+      let n : ℕ = length st * entryWidth in
+      let e : n + length (two id) ≡ length (st ++ (id ∷ [])) * entryWidth = omega (arith, two-length id, length-append st (id ∷ [])) in
+      sets-eq (two id) b n (omega (arith, two-length id))
+      ∙ ap₂ (λ (x y : List ℕ). x ++ two id ++ y) (begins .front) (ap (λ (j : ℕ). drop j b) e)
+      ∙ ap (λ (x : List ℕ). x ++ drop (length (st ++ (id ∷ [])) * entryWidth) b) (more id)
+    where
+      more : (v : ℕ) → bytes entryBytes st ++ two v ≡ bytes entryBytes (st ++ (v ∷ []))
+      more v =
+          ap (λ (x : List ℕ). bytes entryBytes st ++ x) (sym (bytes-single entryBytes v ∙ entry-bytes v))
+          ∙ sym (bytes-append entryBytes st (v ∷ []))
+
+-- an id at the bottom
+pub laid-bottom : (b : List ℕ) (id : ℕ) → entryWidth ≤ length b → putState b 0 id ≡ relaid entryFormat b (id ∷ [])
+unfolding bytes
+laid-bottom b id h = laid-push [] b (record { front = refl; long = omega arith }) id (omega arith)
