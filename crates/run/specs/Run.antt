@@ -11,6 +11,7 @@ use Rattle.area.specs.Bytes.{two}
 use Rattle.area.specs.Records.{entryAt, nthRule, stateWidth, ruleWidth, entryWidth, ruleAt}
 use Rattle.area.specs.Contents.{contents, entryFormat}
 use Rattle.sheet_check.specs.SheetCheck.{SheetBytes, decoded, sheetCheck, all, declared}
+use Rattle.sheet_check.specs.Pattern.{word}
 use Rattle.run.specs.declared.Run.{Run}
 use Rattle.run.specs.declared.Best.{Best}
 use Rattle.run.specs.declared.Begun.{Begun}
@@ -167,10 +168,7 @@ pub record Readable (area1 area2 area3 : List ℕ) (states rules entries : ℕ) 
 
 -- ---- the answers as words
 
--- four two-byte fields: the number of an answer, and its values (01, Numbers given at the counter)
-abbrev pub word : ℕ → ℕ → ℕ → ℕ → ℕ
-word number a b c = number + 65536 * a + 65536 * 65536 * b + 65536 * 65536 * 65536 * c
-
+-- the number of each answer, and its values (01, Numbers given at the counter)
 unfoldable pub startWord : Begun → ℕ
 startWord Started = word 0 0 0 0
 startWord PoorStart = word 8 0 0 0

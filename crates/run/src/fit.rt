@@ -8,12 +8,11 @@ ghost use Rattle.area.specs.Contents.{contents, entryFormat};
 ghost use Rattle.sheet_check.specs.SheetCheck.{all};
 ghost use Rattle.run.specs.Run.{goodNumbers, goodRun, goodRow};
 use crate::Run;
+use area::ENTRY_WIDTH;
 use area::read_entry;
 use sheet_check::check::good_entries;
 
 const MOST_BYTES: u16 = 4096;
-
-const ENTRY_WIDTH: usize = 2;
 
 // The sums are wider than a field, so that they cannot wrap.
 fn good_numbers(r: Run, bytes: usize) -> bool

@@ -7,10 +7,9 @@ ghost use Rattle.run.specs.Run.{putState, stacked, operated, moved, move
 use crate::Run;
 use crate::Step;
 use crate::Stepped;
+use area::ENTRY_WIDTH;
 use area::Rule;
 use area::write_field;
-
-const ENTRY_WIDTH: usize = 2;
 
 // The operations of a rule.
 const REPLACE: u16 = 1;
