@@ -5,7 +5,7 @@ use mathlib.Core.Path.{_≡_, refl, sym, ap, ap₂, _∙_}
 use mathlib.Core.Bool.{Bool, true, false, cond}
 use mathlib.Core.List.{List, [], _∷_, _++_}
 use Prim.Native.Nat.{ℕ, _+_, _*_, _-_, _<_, _≤_}
-use native.Mathlib.Nat.{add-mul, sub-zero, mul-le-mul-right}
+use native.Mathlib.Nat.{add-mul, sub-zero}
 use native.Mathlib.Omega.{arith}
 use lib.ListN.{length, getD, take, drop, length-append, length-drop, take-append-drop}
 use lib.Seq.{sets, length-sets, length-take-le}
@@ -13,8 +13,8 @@ use Rattle.area.specs.declared.Appended.{Appended}
 use Rattle.area.specs.declared.Appended.the-variants.{Next, Full}
 use Rattle.area.specs.Bytes.{bytes, pad, zeros}
 use Rattle.area.specs.Areas.{room, Area, TextArea, one, Pushed, PushedText, insertAt, moveUp, inserted}
-use Rattle.area.proofs.Lists.{length-pad, sets-pad, zeros-pad, insert-pad}
-use Rattle.area.proofs.Fields.{bytes-append, bytes-single, bytes-insert, bytes-length, bytes-at}
+use Rattle.area.proofs.Lists.{length-pad, sets-pad, insert-pad}
+use Rattle.area.proofs.Fields.{bytes-append, bytes-insert, bytes-length, bytes-at}
 use Rattle.area.proofs.Rooms.{room-few, room-fits}
 
 -- ---- what an answer says back
@@ -55,12 +55,6 @@ module _ {A : Type 0} {f : A → List ℕ} {w : ℕ} (wide : (x : A) → length 
     pub area-length : length l ≡ cap
     area-length = ap length (a .is) ∙ length-pad cap (bytes f xs) (rw list-length (a .fits))
 
-    -- a record of the list lies within the area
-    pub area-record : (k : ℕ) → k < n → k * w + w ≤ length l
-    area-record k h =
-        let b : (k + 1) * w ≤ n * w = mul-le-mul-right w (omega arith) in
-        omega (arith, b, a .fits, area-length)
-
     -- byte j of record k
     pub area-at : (d : A) (k j : ℕ) → k < n → j < w → getD l (k * w + j) 0 ≡ getD (f (getD xs k d)) j 0
     unfolding pad
@@ -95,17 +89,10 @@ module _ {A : Type 0} {f : A → List ℕ} {w : ℕ} (wide : (x : A) → length 
           fits = h;
         }
 
-    -- what an append leaves: the list with what was appended, or the same list
+    -- what an append leaves: the list with what was appended
     pub next-areas : {r : Appended} {e : List ℕ} {k : ℕ} (ys : List A) → Pushed w limit (length ys) (bytes f ys) l n r e → r ≡ Next k
         → Area f w limit cap e k (xs ++ ys)
     next-areas ys p q = rw (next-says p q .2, next-says p q .1) (area-append ys (next-room p q))
-
-    pub next-area : {r : Appended} {e : List ℕ} {k : ℕ} (x : A) → Pushed w limit 1 (f x) l n r e → r ≡ Next k
-        → Area f w limit cap e k (xs ++ (x ∷ []))
-    next-area x p q = next-areas (x ∷ []) (rw (bytes-single f x) p) q
-
-    pub full-area : {m : ℕ} {v : List ℕ} {r : Appended} {e : List ℕ} → Pushed w limit m v l n r e → r ≡ Full → Area f w limit cap e n xs
-    full-area p q = rw (full-says p q .1) a
 
     module _ (p : ℕ) (inside : p ≤ n) where
       front-length : length (bytes f (take p xs)) ≡ p * w
@@ -149,10 +136,6 @@ module _ {A : Type 0} {f : A → List ℕ} {w : ℕ} (wide : (x : A) → length 
             fits = h;
           }
 
-    -- zeros from the end of the list on: nothing changes
-    pub area-kept : (e : List ℕ) → e ≡ take (n * w) l ++ zeros (length l - n * w) → Area f w limit cap e n xs
-    area-kept e p = rw (p ∙ zeros-pad cap (n * w) (bytes f xs) l (a .is) list-length area-length) a
-
 -- an area of zeros has no records
 pub area-empty : {A : Type 0} (f : A → List ℕ) (w limit cap : ℕ) {l : List ℕ} → l ≡ zeros cap → Area f w limit cap l 0 []
 unfolding bytes pad
@@ -167,9 +150,6 @@ bytes-one : (xs : List ℕ) → bytes one xs ≡ xs
 unfolding bytes
 bytes-one [] = refl
 bytes-one (x ∷ xs) = ap (λ (l : List ℕ). x ∷ l) (bytes-one xs)
-
-pub text-is : {cap n : ℕ} {l xs : List ℕ} → TextArea cap l n xs → l ≡ pad cap xs
-text-is {cap} {n} {l} {xs} a = a .is ∙ ap (pad cap) (bytes-one xs)
 
 pub next-text : {cap n k : ℕ} {l xs v : List ℕ} {r : Appended} {e : List ℕ} → TextArea cap l n xs → PushedText v l n r e → r ≡ Next k
     → TextArea cap e k (xs ++ v)

@@ -1,21 +1,19 @@
 -- Records that were written are read back: an area determines the list of its records. So what a write does to an area can be said of
 -- the list that is read, once for every kind of record.
-use mathlib.Core.Path.{_≡_, refl, sym, ap, subst, _∙_}
-use mathlib.Core.Bool.{Bool, true, false, cond}
+use mathlib.Core.Path.{_≡_, refl, sym, ap, _∙_}
+use mathlib.Core.Bool.{true, cond}
 use mathlib.Core.List.{List, [], _∷_, _++_}
-use Prim.Native.Nat.{ℕ, zero, suc, _+_, _*_, _-_, _≤_, _<_}
-use native.Mathlib.Nat.{le-refl}
+use Prim.Native.Nat.{ℕ, zero, suc, _+_, _*_, _≤_, _<_}
 use native.Mathlib.Omega.{arith}
-use native.Mathlib.Numerals.{add-one}
 use lib.ListN.{length, getD, take, length-append}
 use lib.Seq.{take-suc, take-length}
 use Rattle.area.specs.declared.Appended.{Appended}
 use Rattle.area.specs.declared.Appended.the-variants.{Next, Full}
 use Rattle.area.specs.Areas.{Area, Pushed, room, insertAt, inserted}
-use mathlib.Core.Option.{Option, none, some}
-use Rattle.area.specs.Bytes.{bytes, pad, zeros}
+use mathlib.Core.Option.{none, some}
+use Rattle.area.specs.Bytes.{bytes, zeros}
 use Rattle.area.specs.Contents.{Format, contents, listOf, Held, append, leftBy, Grows, stateFormat, ruleFormat, entryFormat, textFormat, expectedFormat, faultFormat}
-use Rattle.area.proofs.Areas.{area-at, area-empty, area-inserted, area-length, area-record, full-room, next-areas, next-room, one-wide, pushed-length}
+use Rattle.area.proofs.Areas.{area-at, area-empty, area-inserted, area-length, full-room, next-areas, next-room, one-wide, pushed-length}
 use Rattle.area.proofs.Fields.{bytes-single}
 use Rattle.area.proofs.Records.{state-wide, rule-wide, entry-wide, expected-wide, fault-wide, state-read, rule-read, entry-read, expected-read, fault-read}
 
@@ -81,10 +79,6 @@ module _ {A : Type 0} {F : Format A} (sound : Sound F) where
 
     pub contents-at : (k : ℕ) → k < n → getD (contents F l n) k (F .blank) ≡ F .read l k
     contents-at k g = sym (sound .back k (h .area) g)
-
-    -- record k stands within the area
-    pub held-record : (k : ℕ) → k < n → k * F .width + F .width ≤ length l
-    held-record k g = area-record (sound .wide) (h .area) k g
 
     -- an append does `append`
     pub held-append : (ys : List A) {m : ℕ} {v : List ℕ} {r : Appended} {e : List ℕ} → m ≡ length ys → v ≡ bytes (F .write) ys

@@ -8,7 +8,7 @@ use native.Mathlib.Nat.{add-zero, zero-add, zero-sub, sub-zero, suc-add, suc-sub
 use native.Mathlib.Omega.{arith}
 use native.Mathlib.Numerals.{add-one}
 use lib.ListN.{length, getD, take, drop, set, length-append, length-replicate, length-drop, take-append-drop, drop-of-length-le, replicate-append-replicate, List·getD-append}
-use lib.Seq.{sets, sets-eq, take-append-seam, drop-append-add, drop-append-seam, take-at, set-at, take-suc, drop-cons, append-snoc, length-take-le, drop-length, take-length, getD-take, paste, paste-zero, paste-suc}
+use lib.Seq.{sets, sets-eq, take-append-seam, drop-append-add, drop-append-seam, set-at, take-suc, drop-cons, append-snoc, length-take-le, drop-length, take-length, getD-take, paste, paste-zero, paste-suc}
 use borrow.Author.Needs.{needs}
 use borrow.Rule.Slice.PartMut.{putMid, midOf}
 use Rattle.area.specs.Bytes.{pad, zeros}
@@ -52,14 +52,6 @@ sets-pad n l v h =
     sets-eq v (pad n l) (length l) r
     ∙ ap₂ (λ (a b : List ℕ). a ++ v ++ b) (take-append-seam l _) (drop-append-add l _ _ ∙ drop-zeros (length v) (n - length l))
     ∙ ap (λ (j : ℕ). l ++ v ++ zeros j) e
-
--- zeros, from the list's end on: nothing changes
-pub zeros-pad : (n i : ℕ) (b l : List ℕ) → l ≡ pad n b → length b ≡ i → length l ≡ n → take i l ++ zeros (length l - i) ≡ l
-unfolding pad
-zeros-pad n i b l p q r =
-    let front : take i l ≡ b = ap (take i) p ∙ take-at b (zeros (n - length b)) i q in
-    let k : length l - i ≡ n - length b = omega arith in
-    ap₂ (λ (t : List ℕ) (j : ℕ). t ++ zeros j) front k ∙ sym p
 
 -- bytes put in between u and v: those of v move up
 pub insert-pad : (n : ℕ) (u v x : List ℕ) → length u + length x + length v ≤ n

@@ -12,7 +12,6 @@ use Rattle.area.specs.declared.Fault.{Fault}
 use Rattle.area.specs.Records.{stateWidth, ruleWidth, entryWidth, expectedWidth, faultWidth, stateFields, ruleFields, entryFields, expectedFields, faultFields, stateBytes, ruleBytes, entryBytes, expectedBytes, faultBytes, stateOf, ruleOf, expectedOf, faultOf, stateAt, ruleAt, entryAt, expectedAt, faultAt, nthState, nthRule, nthEntry, nthExpected, nthFault}
 use Rattle.area.specs.Areas.{Area}
 use Rattle.area.proofs.Decode.{listOf, fields-wide, fields-read}
-use Rattle.area.proofs.Areas.{tested-room, next-room, full-room, next-area, full-area, area-inserted, area-record, one-wide, next-text}
 
 state-has : (x : State) → length (stateFields x) ≡ 3
 unfolding stateFields
@@ -69,8 +68,3 @@ module _ {limit cap n : ℕ} {l : List ℕ} (k : ℕ) where
   pub fault-read : {xs : List Fault} → Area faultBytes faultWidth limit cap l n xs → k < n → faultAt l k ≡ nthFault xs k
   unfolding faultAt faultOf faultFields listOf
   fault-read a h = ap (λ (fs : List ℕ). faultOf (λ j. getD fs j 0)) (fields-read faultFields 4 fault-has _ k a h)
-
--- for a caller's `search`: appends and insertions into each of the areas; and records read back
-pub ruleset appends = (tested-room, next-room, full-room, next-area, next-text, full-area, area-inserted, state-wide, rule-wide, entry-wide, expected-wide, fault-wide, one-wide)
-
-pub ruleset reads = (area-record, state-wide, rule-wide, entry-wide, expected-wide, fault-wide, state-read, rule-read, entry-read, expected-read, fault-read)

@@ -7,14 +7,10 @@ use Prim.Native.Nat.{ℕ, _+_, _*_, _-_, _≤_}
 use lib.Dec.{leb}
 use lib.ListN.{length, take, drop}
 use lib.Seq.{sets}
-use Rattle.area.specs.declared.State.{State}
-use Rattle.area.specs.declared.Rule.{Rule}
-use Rattle.area.specs.declared.Expected.{Expected}
-use Rattle.area.specs.declared.Fault.{Fault}
 use Rattle.area.specs.declared.Appended.{Appended}
 use Rattle.area.specs.declared.Appended.the-variants.{Next, Full}
 use Rattle.area.specs.Bytes.{bytes, pad}
-use Rattle.area.specs.Records.{stateWidth, ruleWidth, entryWidth, expectedWidth, faultWidth, mostStates, mostRules, mostOthers, stateBytes, ruleBytes, entryBytes, expectedBytes, faultBytes}
+use Rattle.area.specs.Records.{mostOthers}
 
 -- m records of w bytes more, behind n of them, pass neither the limit nor the cap bytes of the area (01, Numbers given at the counter, 4)
 unfoldable pub room : ℕ → ℕ → ℕ → ℕ → ℕ → Bool
@@ -31,31 +27,9 @@ pub record Area {A : Type 0} (f : A → List ℕ) (w limit cap : ℕ) (l : List 
 abbrev pub one : ℕ → List ℕ
 one b = b ∷ []
 
--- ---- each of the areas by its number in 01, Areas
-
--- 1
-abbrev pub StateArea : ℕ → List ℕ → ℕ → List State → Type 0
-StateArea cap l n xs = Area stateBytes stateWidth mostStates cap l n xs
-
--- 2
-abbrev pub RuleArea : ℕ → List ℕ → ℕ → List Rule → Type 0
-RuleArea cap l n xs = Area ruleBytes ruleWidth mostRules cap l n xs
-
--- 3
-abbrev pub EntryArea : ℕ → List ℕ → ℕ → List ℕ → Type 0
-EntryArea cap l n xs = Area entryBytes entryWidth mostOthers cap l n xs
-
--- 4
+-- the area of text, of which each byte is a record (01, Areas, 4)
 abbrev pub TextArea : ℕ → List ℕ → ℕ → List ℕ → Type 0
 TextArea cap l n xs = Area one 1 mostOthers cap l n xs
-
--- 5
-abbrev pub ExpectedArea : ℕ → List ℕ → ℕ → List Expected → Type 0
-ExpectedArea cap l n xs = Area expectedBytes expectedWidth mostOthers cap l n xs
-
--- 6
-abbrev pub FaultArea : ℕ → List ℕ → ℕ → List Fault → Type 0
-FaultArea cap l n xs = Area faultBytes faultWidth mostOthers cap l n xs
 
 -- ---- to append
 

@@ -64,7 +64,7 @@ abbrev pub leftBy : {A : Type 0} → Format A → List ℕ → Appended → Opti
 leftBy F e (Next m) = some (contents F e m)
 leftBy F e Full = none
 
--- what a function that does f to the n records of the area l answers and leaves
+-- f of the n records of the area l stands in the area e, which has as many bytes: r is their number, or Full where f gives none
 pub record Grows {A : Type 0} (F : Format A) (f : List A → Option (List A)) (l : List ℕ) (n : ℕ) (r : Appended) (e : List ℕ) : Type 0 where
   pub says : f (contents F l n) ≡ leftBy F e r
   pub held : (m : ℕ) → r ≡ Next m → Held F e m

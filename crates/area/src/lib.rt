@@ -8,6 +8,19 @@ ghost use Rattle.area.specs.Bytes.{two, bytes, zeros, fieldAt};
 ghost use Rattle.area.specs.Records.{stateWidth, ruleWidth, entryWidth, expectedWidth, faultWidth, mostStates, mostRules, mostOthers, stateBytes, ruleBytes, entryBytes, expectedBytes, faultBytes, stateAt, ruleAt, entryAt, expectedAt, faultAt, fourAt};
 ghost use Rattle.area.specs.Areas.{room, Pushed, PushedText, moveUp, inserted};
 
+// The areas by their numbers.
+pub const STATE_AREA: u16 = 1;
+
+pub const RULE_AREA: u16 = 2;
+
+pub const ENTRY_AREA: u16 = 3;
+
+pub const TEXT_AREA: u16 = 4;
+
+pub const EXPECTED_AREA: u16 = 5;
+
+pub const FAULT_AREA: u16 = 6;
+
 // How many bytes a record has.
 const STATE_WIDTH: usize = 6;
 
@@ -17,14 +30,14 @@ const ENTRY_WIDTH: usize = 2;
 
 const EXPECTED_WIDTH: usize = 4;
 
-const FAULT_WIDTH: usize = 8;
+pub const FAULT_WIDTH: usize = 8;
 
 // How many records an area may have.
 const MOST_STATES: usize = 64;
 
 const MOST_RULES: usize = 2048;
 
-const MOST_OTHERS: usize = 65535;
+pub const MOST_OTHERS: usize = 65535;
 
 pub struct State {
     pub start: u16,

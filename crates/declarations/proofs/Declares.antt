@@ -1,8 +1,7 @@
 -- States declared by name: a law for each way through a name, and the loop over the names of a line.
-use mathlib.Core.Path.{_≡_, refl, sym, ap, subst, _∙_}
+use mathlib.Core.Path.{_≡_, refl, ap, _∙_}
 use mathlib.Core.Bool.{Bool, true, false, cond, _&&_}
 use mathlib.Core.List.{List, [], _∷_}
-use mathlib.Core.Option.{Option, none, some}
 use Prim.Native.Nat.{ℕ, _+_, _-_, _≤_, _<_}
 use native.Mathlib.Omega.{arith}
 use borrow.Author.Needs.{needs}
@@ -15,15 +14,14 @@ use Rattle.text.specs.Whitespace.{byte, whitespaceLen, Width}
 use Rattle.text.specs.Scan.{findWhitespace}
 use Rattle.text.proofs.Tests.{and-left}
 use Rattle.area.specs.declared.State.{State}
-use Rattle.area.specs.declared.Fault.{Fault}
 use Rattle.area.specs.declared.Appended.{Appended}
 use Rattle.area.specs.declared.Appended.the-variants as Appended
 use Rattle.area.specs.declared.Appended.the-variants.{Next}
 use Rattle.area.specs.Areas.{Pushed}
-use Rattle.area.specs.Records.{nthState, stateAt, stateBytes, stateWidth, mostStates}
+use Rattle.area.specs.Records.{stateAt, stateBytes, stateWidth, mostStates}
 use Rattle.area.specs.Contents.{append, contents, stateFormat, faultFormat, Grows, Held}
 use Rattle.area.proofs.Contents.{contents-at, contents-length, state-sound, held-push}
-use Rattle.fault.specs.Step.{Out, go, bad, full, onto, written, loop, Does}
+use Rattle.fault.specs.Step.{Out, go, bad, full, onto, written, Does}
 use Rattle.fault.specs.Faults.{addRepeat, DuplicateStartState, InvalidStartStateName, GrowsFaults}
 use Rattle.fault.proofs.Steps.{Loops, loops-stop, loops-next, loops-bad, loops-full, going-start, does-go, does-bad, does-full, was-go, written-next, written-full, written-place, onto-place, bad-goes}
 use Rattle.names.specs.Names.{allBytes, isNameByte, isStateName, findState}

@@ -1,8 +1,7 @@
 -- Expected names, one after the other: a law for each way through a name, and the loop over them.
-use mathlib.Core.Path.{_≡_, refl, sym, ap, subst, _∙_}
+use mathlib.Core.Path.{_≡_, refl, sym, ap, _∙_}
 use mathlib.Core.Bool.{Bool, true, false, cond, not, _&&_}
 use mathlib.Core.List.{List, [], _∷_}
-use mathlib.Core.Option.{Option, none, some}
 use Prim.Native.Nat.{ℕ, _+_, _-_, _≤_, _<_}
 use native.Mathlib.Omega.{arith}
 use borrow.Author.Needs.{needs}
@@ -25,7 +24,7 @@ use Rattle.area.proofs.Contents.{expected-sound, held-push}
 use Rattle.fault.specs.declared.Progress.{Progress}
 use Rattle.fault.specs.declared.Progress.the-variants as Progress
 use Rattle.fault.specs.declared.Progress.the-variants.{Go, Bad}
-use Rattle.fault.specs.Step.{Out, go, bad, full, loop, Does, progress, written}
+use Rattle.fault.specs.Step.{Out, go, bad, full, Does, progress, written}
 use Rattle.fault.specs.Faults.{InvalidName}
 use Rattle.fault.proofs.Steps.{Loops, loops-stop, loops-next, loops-bad, loops-full, going-start, does-go, does-bad, does-full, was-go, written-next, written-full, written-place, bad-goes}
 use Rattle.declarations.specs.Declarations.{expected, isQuoted, expectedTo, nextExpected, expectedNames}

@@ -1,18 +1,18 @@
 -- A declaration, and the loop over the declarations: a law for each way through. What a part of the areas comes to is the outcome for all of
 -- them, the others unchanged; and a line that is read has a byte, so the loop goes forward.
 use mathlib.Core.Path.{_≡_, refl, sym, ap, subst, _∙_}
-use mathlib.Core.Bool.{Bool, true, false, cond, not, _&&_}
+use mathlib.Core.Bool.{Bool, true, false, cond}
 use mathlib.Core.List.{List}
-use Prim.Native.Nat.{ℕ, _+_, _-_, _≤_, _<_}
+use Prim.Native.Nat.{ℕ, _-_, _≤_, _<_}
 use native.Mathlib.Nat.{le-refl}
 use native.Mathlib.Omega.{arith}
 use borrow.Author.Needs.{needs}
 use lib.Dec.{eqb}
 use lib.ListN.{length}
-use Rattle.text.specs.Walk.{Between, skip}
-use Rattle.text.specs.Whitespace.{whitespaceLen, atLineEnd, atWhitespace}
+use Rattle.text.specs.Walk.{Between}
+use Rattle.text.specs.Whitespace.{whitespaceLen, atWhitespace}
 use Rattle.text.specs.Range.{lookaheadIs}
-use Rattle.text.specs.Scan.{lineEnd, skipBlanks, skipWhitespace, findWhitespace, trimEnd, trimStart}
+use Rattle.text.specs.Scan.{lineEnd, skipBlanks, findWhitespace, trimEnd, trimStart}
 use Rattle.text.specs.declared.Found.{Found}
 use Rattle.text.specs.declared.Found.the-variants.{At, Nothing}
 use Rattle.text.proofs.Tests.{by-test}

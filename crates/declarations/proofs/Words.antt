@@ -1,15 +1,14 @@
 -- What a declaration's line says: a law for each way through its readers.
 use mathlib.Core.Path.{_≡_, refl, sym, ap, _∙_}
-use mathlib.Core.Bool.{Bool, true, false, cond, not, _&&_, _||_, false≢true}
+use mathlib.Core.Bool.{Bool, true, false, not, _&&_, _||_, false≢true}
 use mathlib.Core.List.{List}
 use Prim.Native.Nat.{ℕ, _+_, _-_, _≤_, _<_}
 use native.Mathlib.Omega.{arith}
 use borrow.Author.Needs.{needs}
 use borrow.Author.Tests.{eq-eqb, ne-eqb}
 use lib.Dec.{eqb}
-use lib.ListN.{length}
 use Rattle.text.specs.Class.{isLetter, isDigit}
-use Rattle.text.specs.Walk.{first, Between}
+use Rattle.text.specs.Walk.{Between}
 use Rattle.text.specs.Whitespace.{byte}
 use Rattle.text.specs.Range.{lookaheadIs}
 use Rattle.text.specs.Scan.{findWhitespace, trimEnd, trimStart}

@@ -9,6 +9,8 @@ ghost use Rattle.fault.specs.Step.{Does};
 ghost use Rattle.declarations.specs.Declarations.{declaration, declarations};
 ghost use Rattle.declarations.specs.Answers.{HeldDeclared, declaredIn, declarationProgress, capsOf};
 use fault::Progress;
+use fault::kinds::PREMATURE_END;
+use fault::kinds::UNKNOWN_DECLARATION;
 use line::declaration_of;
 use missing::expected_names;
 use section::in_section;
@@ -18,10 +20,6 @@ use text::Found;
 use text::range::lookahead_is;
 use text::scan::line_end;
 use text::scan::parse_spaces;
-
-const PREMATURE_END: u16 = 0;
-
-const UNKNOWN_DECLARATION: u16 = 2;
 
 // A name in a declaration of states: of no good form; a repeat of the state with that span; or new.
 pub enum Naming {

@@ -6,15 +6,13 @@ ghost use Rattle.area.specs.Contents.{expectedFormat, contents, Held};
 ghost use Rattle.fault.specs.Step.{Does, progress};
 ghost use Rattle.declarations.specs.Declarations.{isQuoted, nextExpected, expectedNames};
 use area::Appended;
+use area::EXPECTED_AREA;
 use area::Expected;
 use area::push_expected;
 use fault::Progress;
+use fault::kinds::INVALID_NAME;
 use text::scan::find_ascii_whitespace;
 use text::scan::skip_ascii_whitespace;
-
-const INVALID_NAME: u16 = 4;
-
-const EXPECTED_AREA: u16 = 5;
 
 fn is_quoted(src: &[u8], a: usize, e: usize) -> bool
     requires { ⌜ (a ≤ e) × (e ≤ length (now src)) ⌝ }

@@ -4,29 +4,25 @@ ghost use Prim.Native.Nat.{_+_, _≤_, _<_};
 ghost use lib.ListN.{length};
 ghost use Rattle.area.specs.Contents.{stateFormat, contents, Held};
 ghost use Rattle.fault.specs.Step.{Does};
-ghost use Rattle.declarations.specs.Declarations.{namingOf, nameTo, nextName, stateNames};
+ghost use Rattle.declarations.specs.Declarations.{namingOf, nameTo, stateNames};
 ghost use Rattle.declarations.specs.Answers.{HeldNames, namesIn, nameProgress};
 use crate::NameCounts;
 use crate::NameProgress;
 use crate::Naming;
 use area::Appended;
+use area::FAULT_AREA;
+use area::STATE_AREA;
 use area::State;
 use area::push_state;
 use area::read_state;
 use fault::Span;
 use fault::add_duplicate_occurrence;
+use fault::kinds::DUPLICATE_START_STATE;
+use fault::kinds::INVALID_START_STATE_NAME;
 use names::get_start_state_by_name;
 use names::validate_start_state_name;
 use text::scan::find_whitespace;
 use text::whitespace::whitespace_len;
-
-const DUPLICATE_START_STATE: u16 = 6;
-
-const INVALID_START_STATE_NAME: u16 = 8;
-
-const STATE_AREA: u16 = 1;
-
-const FAULT_AREA: u16 = 6;
 
 // What the name from a to e is.
 fn validate_start_state(src: &[u8], a: usize, e: usize, area: &[u8], n: u16) -> Naming

@@ -5,9 +5,9 @@ use mathlib.Core.List.{List}
 use Prim.Native.Nat.{ℕ, _+_}
 use borrow.Author.Needs.{needs}
 use lib.Dec.{ltb, eqb}
-use Rattle.text.specs.Class.{isDigit, isHexDigit, isMetaCharacter, isEscapeLetter}
+use Rattle.text.specs.Class.{isHexDigit, isAlwaysKept}
 use Rattle.text.specs.Whitespace.{byte}
-use Rattle.escape.specs.Escape.{isCodeLetter, isKeptBy, isKept}
+use Rattle.escape.specs.Escape.{isCodeLetter, isCode, isKeptBy, isKept}
 
 or-false : (p : Bool) → p ≡ p || false
 or-false true = refl
@@ -17,13 +17,25 @@ pub code-letter : (b : ℕ) → eqb b 0x78 || (eqb b 0x75 || eqb b 0x55) ≡ isC
 unfolding isCodeLetter
 code-letter b = ap (λ (t : Bool). eqb b 0x78 || (eqb b 0x75 || t)) (or-false (eqb b 0x55))
 
-pub kept-by : (x y : ℕ) (more m d e k h : Bool) → m ≡ isMetaCharacter x → d ≡ isDigit x → e ≡ isEscapeLetter x → k ≡ isCodeLetter x → h ≡ isHexDigit y
-    → m || (d || (e || (k && (more && h)))) ≡ isKeptBy x y more
-unfolding isKeptBy
-kept-by x y more m d e k h p q r t u = rw (p, q, r, t, u)
+module _ (x y : ℕ) (more r : Bool) where
+  pub code-before : r ≡ isCodeLetter x → r ≡ true → (h : Bool) → h ≡ isHexDigit y → more && h ≡ isCode x y more
+  unfolding isCode
+  code-before e t h u = rw (← e, t, u) refl
+
+  pub no-code : r ≡ isCodeLetter x → r ≡ false → false ≡ isCode x y more
+  unfolding isCode
+  no-code e f = rw (← e, f) refl
+
+  pub kept-alone : r ≡ isAlwaysKept x → r ≡ true → true ≡ isKeptBy x y more
+  unfolding isKeptBy
+  kept-alone e t = rw (← e, t) refl
+
+  pub kept-as-code : r ≡ isAlwaysKept x → r ≡ false → (k : Bool) → k ≡ isCode x y more → k ≡ isKeptBy x y more
+  unfolding isKeptBy
+  kept-as-code e f k u = rw (← e, f) u
 
 pub kept-at : (s : List ℕ) (c q x y : ℕ) (r : Bool) → x ≡ byte s q → y ≡ byte s (q + 1) → r ≡ isKeptBy x y (ltb (q + 1) c) → r ≡ isKept s c q
 unfolding isKept
 kept-at s c q x y r p t e = rw (← p, ← t) e
 
-pub ruleset keeping = (needs, code-letter, kept-by, kept-at)
+pub ruleset keeping = (needs, code-letter, code-before, no-code, kept-alone, kept-as-code, kept-at)

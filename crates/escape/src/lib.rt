@@ -5,13 +5,11 @@ ghost use lib.ListN.{length};
 ghost use Rattle.text.specs.Walk.{Between};
 ghost use Rattle.area.specs.Areas.{PushedText};
 ghost use Rattle.area.specs.Contents.{Held, Grows, append, textFormat};
-ghost use Rattle.escape.specs.Escape.{isCodeLetter, isKeptBy, isKept, charEnd, pastEscape, pastKept, pastAllKept, isRewritten, lastWhole, rewrittenEnd, backspace, escaped, pieceEnd, piece, unescaped};
+ghost use Rattle.escape.specs.Escape.{isCodeLetter, isCode, isKeptBy, isKept, charEnd, pastEscape, pastKept, pastAllKept, isRewritten, lastWhole, rewrittenEnd, backspace, escaped, pieceEnd, piece, unescaped};
 use area::Appended;
 use area::push_text;
-use text::class::is_digit;
-use text::class::is_escape_letter;
+use text::class::is_always_kept;
 use text::class::is_hex_digit;
-use text::class::is_meta_character;
 use text::scan::find_byte;
 use text::utf8::is_continuation;
 use text::whitespace::byte_at;
@@ -27,12 +25,24 @@ fn is_code_letter(b: u8) -> bool
     (b == 0x78) | ((b == 0x75) | (b == 0x55))
 }
 
+// Whether x starts a character's code whose next byte is y, if there is one more.
+fn is_code(x: u8, y: u8, more: bool) -> bool
+    ensures { λ r. ⌜ r ≡ isCode x y more ⌝ }
+{
+    if is_code_letter(x) {
+        return more & is_hex_digit(y);
+    }
+    false
+}
+
 // Whether an escape of the byte x stays as it is. The next byte is y, if there is one more.
 fn is_kept_by(x: u8, y: u8, more: bool) -> bool
     ensures { λ r. ⌜ r ≡ isKeptBy x y more ⌝ }
 {
-    let code = is_code_letter(x) & (more & is_hex_digit(y));
-    is_meta_character(x) | (is_digit(x) | (is_escape_letter(x) | code))
+    if is_always_kept(x) {
+        return true;
+    }
+    is_code(x, y, more)
 }
 
 // Whether the escape stays whose character starts at q.

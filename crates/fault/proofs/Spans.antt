@@ -1,19 +1,18 @@
 -- The spans of the fault area, read back from its bytes. Each law turns what the code reads and writes into what the definitions say of the
 -- list that the area holds; that numbers stay low goes along.
 use mathlib.Core.Path.{_≡_, refl, sym, ap, subst, _∙_}
-use mathlib.Core.Bool.{Bool, true, false, cond, not, _&&_, _||_, true≢false}
+use mathlib.Core.Bool.{Bool, true, false, cond, not, _&&_, true≢false}
 use mathlib.Core.List.{List, [], _∷_, _++_, append-assoc}
 use mathlib.Core.Logic.{⊎-elim}
 use mathlib.Core.Option.{Option, none, some}
 use Prim.Native.Nat.{ℕ, zero, suc, _+_, _*_, _-_, _≤_, _<_}
-use native.Mathlib.Nat.{le-refl, eq-or-lt-of-le}
 use native.Mathlib.Omega.{arith}
 use borrow.Author.Needs.{needs}
 use borrow.Author.Tests.{eq-eqb, ne-eqb, eqb-false, lt-ltb, le-ltb}
-use lib.Dec.{eqb, ltb}
+use lib.Dec.{eqb}
 use mir.Syntax.{w16}
 use mir.Val.{Fits}
-use lib.ListN.{length, getD, take, drop, length-append, length-take, length-drop, List·getD-append}
+use lib.ListN.{length, take, drop, length-append, length-drop, List·getD-append}
 use lib.Seq.{getD-append-add, getD-take, getD-drop, length-take-le}
 use Rattle.text.specs.Walk.{first, last, Between}
 use Rattle.text.specs.declared.Found.{Found}
@@ -25,10 +24,10 @@ use Rattle.area.specs.declared.Appended.{Appended}
 use Rattle.area.specs.declared.Appended.the-variants.{Next, Full}
 use Rattle.area.specs.Areas.{Pushed, room, insertAt, inserted}
 use Rattle.area.specs.Records.{faultAt, faultBytes, faultWidth, mostOthers, nthFault}
-use Rattle.area.specs.Contents.{append, contents, faultFormat, Grows, Held, leftBy}
+use Rattle.area.specs.Contents.{append, contents, faultFormat, Grows, leftBy}
 use Rattle.area.proofs.Rooms.{room-few, room-fits, room-fewer, room-later}
 use Rattle.area.proofs.Areas.{full-says, next-says}
-use Rattle.area.proofs.Contents.{contents-at, contents-length, fault-sound, held-append, held-insert, held-push}
+use Rattle.area.proofs.Contents.{contents-at, contents-length, fault-sound, held-insert, held-push}
 use Rattle.fault.specs.Faults.{fault, Numbered, HeldFaults, GrowsFaults, nextNumber, addFault, startsFault, isFault, findFault, behind, faultEnd, addSpan, addPair, repeatAt, addRepeat}
 
 abbrev spans : List ℕ → ℕ → List Fault

@@ -1,12 +1,11 @@
 -- Steps, and loops of them. An answer that tells the outcome is made, and taken apart, by one law for each outcome. A loop keeps how many turns the definition has left, and that the definition's loop from here comes to what the
 -- whole loop does; as each turn goes forward, there are enough of them.
 use mathlib.Core.Path.{_≡_, refl, sym, ap, subst, _∙_}
-use mathlib.Core.Bool.{Bool, true, false, cond}
+use mathlib.Core.Bool.{Bool, true, false}
 use Prim.Native.Nat.{ℕ, zero, suc, _+_, _≤_, _<_}
 use native.Mathlib.Omega.{arith}
 use mathlib.Core.Option.{Option, none, some}
 use mathlib.Core.List.{List}
-use lib.ListN.{length}
 use Rattle.area.specs.declared.Appended.{Appended}
 use Rattle.area.specs.declared.Appended.the-variants.{Next, Full}
 use Rattle.area.specs.Contents.{Format, contents, leftBy}
@@ -187,23 +186,3 @@ module _ {S T Q P : Type 0} (lift : S → T) (inject : Q → P) {g : S → Out S
   does-onto is same keep (go i q) d = does-go (is ∙ ap (onto lift) (d .says) ∙ ap (go i) (sym (same q))) (keep q (d .goes i q refl))
   does-onto is same keep (bad kind at q) d = does-bad (is ∙ ap (onto lift) (d .says) ∙ ap (bad kind at) (sym (same q))) (keep q (d .ends kind at q refl))
   does-onto is same keep (full n) d = does-full (is ∙ ap (onto lift) (d .says))
-
--- ---- what each turn of a loop keeps holds where the loop leaves off
-
-module _ {S : Type 0} (P : S → Type 0) (test : ℕ → Bool) (body : ℕ → S → Out S) (keeps : (i : ℕ) (s : S) (j : ℕ) (t : S) → body i s ≡ go j t → P s → P t) where
-  same-state : {i j : ℕ} {s t : S} → go i s ≡ go j t → s ≡ t
-  same-state z = cc
-
-  pub loop-keeps : (n i : ℕ) (s : S) (j : ℕ) (t : S) → loop n test body i s ≡ go j t → P s → P t
-  unfolding loop
-  loop-keeps zero i s j t e h = subst P (same-state e) h
-  loop-keeps (suc n) i s j t e h = by (test i) e (body i s) refl (λ k u. loop-keeps n k u j t)
-    where
-      step : (o : Out S) → body i s ≡ o → ((k : ℕ) (u : S) → loop n test body k u ≡ go j t → P u → P t) → next o (λ k u. loop n test body k u) ≡ go j t → P t
-      step (go k u) q on z = on k u z (keeps i s k u q h)
-      step (bad kind at u) q on z = absurd (bad-goes z)
-      step (full m) q on z = absurd (full-goes z)
-
-      by : (b : Bool) → cond b (next (body i s) (λ k u. loop n test body k u)) (go i s) ≡ go j t → (o : Out S) → body i s ≡ o → ((k : ℕ) (u : S) → loop n test body k u ≡ go j t → P u → P t) → P t
-      by true z o q on = step o q on (rw (← q) z)
-      by false z o q on = subst P (same-state z) h

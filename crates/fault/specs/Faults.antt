@@ -1,8 +1,8 @@
 -- The fault list: a fault is one or more spans with its number, one after the other (01, Areas, 6).
 use Prim.Native.Nat.{ℕ, _+_, _-_}
 use mathlib.Core.Path.{_≡_}
-use mathlib.Core.Bool.{Bool, true, false, cond, not, _&&_, _||_}
-use mathlib.Core.List.{List, [], _∷_, _++_}
+use mathlib.Core.Bool.{Bool, cond, not, _&&_, _||_}
+use mathlib.Core.List.{List, [], _∷_}
 use mathlib.Core.Option.{Option, none, some}
 use lib.Dec.{eqb, ltb}
 use lib.ListN.{length}
@@ -14,7 +14,7 @@ use Rattle.area.specs.declared.Fault.{Fault}
 use Rattle.area.specs.Areas.{room, insertAt}
 use Rattle.area.specs.Records.{nthFault, faultWidth, mostOthers}
 use Rattle.area.specs.declared.Appended.{Appended}
-use Rattle.area.specs.declared.Appended.the-variants.{Next, Full}
+use Rattle.area.specs.declared.Appended.the-variants.{Next}
 use Rattle.area.specs.Contents.{append, faultFormat, contents, Held, leftBy}
 
 -- the kinds, in the order of LexErrorKind (01, Areas, 6)
@@ -115,7 +115,8 @@ pub record HeldFaults (l : List ℕ) (n : ℕ) : Type 0 where
   pub held : Held faultFormat l n
   pub numbered : Numbered (contents faultFormat l n)
 
--- what a function that does f to the n spans of the area l answers and leaves
+-- f of the n spans of the area l stands in the area e, which has as many bytes, and their numbers are low: r is how many they are, or Full
+-- where f gives none
 pub record GrowsFaults (f : List Fault → Option (List Fault)) (l : List ℕ) (n : ℕ) (r : Appended) (e : List ℕ) : Type 0 where
   pub says : f (contents faultFormat l n) ≡ leftBy faultFormat e r
   pub held : (m : ℕ) → r ≡ Next m → HeldFaults e m

@@ -1,6 +1,6 @@
 -- What a step of the parse comes to, and how steps follow one another. What the step writes is its state, a variable here.
 use Prim.Native.Nat.{ℕ, zero, suc}
-use mathlib.Core.Bool.{Bool, true, false, cond}
+use mathlib.Core.Bool.{Bool, cond}
 use mathlib.Core.Option.{Option, none, some}
 use mathlib.Core.Path.{_≡_}
 use Rattle.fault.specs.declared.Progress.{Progress}
@@ -35,16 +35,16 @@ unfoldable pub loop : {S : Type 0} → ℕ → (ℕ → Bool) → (ℕ → S →
 loop zero test body i s = go i s
 loop (suc n) test body i s = let r = next (body i s) (λ j t. loop n test body j t) in cond (test i) r (go i s)
 
--- ---- what code that does a step answers
+-- ---- an outcome with counts of records in place of the records
 
--- the outcome that an answer tells, with the count of records in place of the records
+-- the outcome of a step over one area
 abbrev pub progress : Progress → Out ℕ
 progress (Go i n) = go i n
 progress (Bad kind at n) = bad kind at n
 progress (Full n) = full n
 
--- an answer o to the step f from the state s: what it tells is what f comes to, where `view` is the state that counts stand for in the areas
--- afterwards; and unless an area was full, H holds of the counts
+-- the step f from the state s comes to o, where `view` is the state that the counts stand for in the areas afterwards; and unless an area is
+-- full, H holds of the counts
 pub record Does {S Q : Type 0} (H : Q → Type 0) (f : S → Out S) (s : S) (view : Q → S) (o : Out Q) : Type 0 where
   pub says : f s ≡ onto view o
   pub goes : (i : ℕ) (q : Q) → o ≡ go i q → H q

@@ -1,12 +1,16 @@
 // The fault area: a fault appended, and the span of a repeated name inserted behind the last span of its fault (01, Areas, 6).
+pub mod kinds; // the kinds of faults
+
 ghost use mathlib.Core.Path.{_≡_};
-ghost use Prim.Native.Nat.{_≤_, _<_};
+ghost use Prim.Native.Nat.{_<_};
 ghost use lib.ListN.{length};
 ghost use Rattle.text.specs.Walk.{Between};
 ghost use Rattle.area.specs.Contents.{faultFormat, contents};
 ghost use Rattle.fault.specs.Faults.{HeldFaults, GrowsFaults, nextNumber, addFault, startsFault, isFault, findFault, faultEnd, addSpan, addPair, addRepeat};
 use area::Appended;
+use area::FAULT_WIDTH;
 use area::Fault;
+use area::MOST_OTHERS;
 use area::has_room;
 use area::insert_fault;
 use area::push_fault;
@@ -25,10 +29,6 @@ pub struct Span {
     pub start: u16,
     pub end: u16,
 }
-
-const FAULT_WIDTH: usize = 8;
-
-const MOST_FAULTS: usize = 65535;
 
 // The number of the next fault: one above that of the last span.
 fn next_number(area: &[u8], n: u16) -> u16
@@ -124,7 +124,7 @@ fn add_span(area: &mut [u8], n: u16, j: usize, start: u16, end: u16) -> Appended
     ensures { λ r. ⌜ GrowsFaults (addSpan (length (now (area .entry))) j start end) (now (area .entry)) n r (now (area .exit)) ⌝ }
 {
     let count = n as usize;
-    if has_room(area.len(), FAULT_WIDTH, MOST_FAULTS, count, 1) {
+    if has_room(area.len(), FAULT_WIDTH, MOST_OTHERS, count, 1) {
         let x = read_fault(area, j);
         let number = x.number;
         let p = fault_end(area, n, number);
@@ -146,7 +146,7 @@ fn add_pair(area: &mut [u8], n: u16, kind: u16, first: Span, second: Span) -> Ap
     ensures { λ r. ⌜ GrowsFaults (addPair (length (now (area .entry))) kind (first .start) (first .end) (second .start) (second .end)) (now (area .entry)) n r (now (area .exit)) ⌝ }
 {
     let count = n as usize;
-    if has_room(area.len(), FAULT_WIDTH, MOST_FAULTS, count, 2) {
+    if has_room(area.len(), FAULT_WIDTH, MOST_OTHERS, count, 2) {
         let number = next_number(area, n);
         let one = Fault {
             number: number,

@@ -1,6 +1,6 @@
 -- Names of states and of rules: their form, and the record whose name stands in the source from a to e (01, Declarations and Rules).
 use Prim.Native.Nat.{ℕ, _+_}
-use mathlib.Core.Bool.{Bool, true, false, cond, not, _&&_, _||_}
+use mathlib.Core.Bool.{Bool, cond, not, _&&_, _||_}
 use mathlib.Core.List.{List, [], _∷_}
 use lib.Dec.{eqb, ltb}
 use lib.ListN.{length}
@@ -24,7 +24,7 @@ isNameByte b = isLetter b || (isDigit b || among (0x5f ∷ 0x2e ∷ []) b)
 unfoldable pub isStateName : List ℕ → ℕ → ℕ → Bool
 isStateName s a e = ltb a e && (isLetter (byte s a) && allBytes isNameByte s (a + 1) e)
 
--- INITIAL
+-- INITIAL, the name of state 0 (01, Areas, 1)
 abbrev pub initial : List ℕ
 initial = 0x49 ∷ 0x4e ∷ 0x49 ∷ 0x54 ∷ 0x49 ∷ 0x41 ∷ 0x4c ∷ []
 
@@ -32,14 +32,14 @@ initial = 0x49 ∷ 0x4e ∷ 0x49 ∷ 0x54 ∷ 0x49 ∷ 0x41 ∷ 0x4c ∷ []
 unfoldable pub isState : List ℕ → ℕ → ℕ → List State → ℕ → Bool
 isState s a e xs j = cond (eqb j 0) (sameRange s a e initial 0 7) (sameRange s a e s (nthState xs j .start) (nthState xs j .end))
 
--- the state of that name; the number of states where there is none
+-- the state of that name; the number of states where there is none (01, Declarations and Rules)
 unfoldable pub findState : List ℕ → ℕ → ℕ → List State → ℕ
 findState s a e xs = first (isState s a e xs) 0 (length xs)
 
--- the rule x has the name from a to e
+-- the rule x has the name from a to e: an unnamed rule has none (01, Rules)
 unfoldable pub hasName : List ℕ → ℕ → ℕ → Rule → Bool
 hasName s a e x = eqb (x .named) 1 && sameRange s a e s (x .«name_from») (x .«name_from» + x .«name_length»)
 
--- the rule of that name; the number of rules where there is none
+-- the rule of that name; the number of rules where there is none (01, Rules)
 unfoldable pub findRule : List ℕ → ℕ → ℕ → List Rule → ℕ
 findRule s a e xs = first (λ j. hasName s a e (nthRule xs j)) 0 (length xs)

@@ -1,24 +1,21 @@
 -- What the parse call leaves: every area is its records and zeros behind them, and so it is what the definition lays down, field by field.
-use mathlib.Core.Path.{_≡_, refl, sym, ap, subst, _∙_}
-use mathlib.Core.Bool.{Bool, true, false, cond}
+use mathlib.Core.Path.{_≡_, sym, ap, _∙_}
+use mathlib.Core.Bool.{Bool, true, false}
 use mathlib.Core.List.{List, [], _∷_}
 use Prim.Native.Nat.{ℕ, _≤_, _<_}
-use native.Mathlib.Omega.{arith}
-use borrow.Author.Needs.{needs}
 use borrow.Author.Tests.{lt-ltb, le-ltb}
-use lib.Dec.{ltb}
 use lib.ListN.{length}
 use Rattle.text.specs.Utf8.{utf8}
 use Rattle.area.specs.Bytes.{bytes, pad, zeros}
-use Rattle.area.specs.Contents.{Format, listOf, contents, stateFormat, ruleFormat, entryFormat, textFormat, expectedFormat, faultFormat, Held}
+use Rattle.area.specs.Contents.{Format, listOf, contents, Held}
 use Rattle.area.proofs.Contents.{state-sound, rule-sound, entry-sound, text-sound, expected-sound, fault-sound, contents-length}
 use Rattle.parse.specs.declared.FileCounts.{FileCounts}
 use Rattle.parse.specs.declared.Parsed.{Parsed}
 use Rattle.parse.specs.declared.Parsed.the-variants.{Clean, Faulty, Short}
 use Rattle.parse.specs.declared.Answer.{Answer}
-use Rattle.parse.specs.declared.Answer.the-variants.{Accepted, LongFile, StrayFlag, NotText, AreaFull, FaultyFile}
-use Rattle.parse.specs.Parse.{Caps, Outcome, accepted, faulty, short, long, stray, untext, caps, file, outcome, Left, left, laid, leaves, parseCall}
-use Rattle.parse.specs.Answers.{contentsIn, tells, HeldFile, Parses, Zeroed, Cleared}
+use Rattle.parse.specs.declared.Answer.the-variants.{Accepted, LongFile, UnknownFlag, InvalidUtf8, AreaFull, FaultyFile}
+use Rattle.parse.specs.Parse.{Caps, Outcome, caps, file, outcome, Left, left, laid, leaves, parseCall}
+use Rattle.parse.specs.Answers.{tells, Parses, Zeroed, Cleared}
 
 -- an area of c bytes that holds n records is those records and zeros
 laid-is : {A : Type 0} {F : Format A} {v : List ℕ} {n c : ℕ} → Held F v n → length v ≡ c → v ≡ laid F c (contents F v n)
@@ -83,12 +80,12 @@ text-short {c1} {c2} {c3} {c4} {c5} {c6} {o} {w1} {w2} {w3} {w4} {w5} {w6} {v1} 
 
 pub zeroed-by : {c1 c2 c3 c4 c5 c6 : ℕ} {v1 v2 v3 v4 v5 v6 : List ℕ} → Cleared c1 c2 c3 c4 c5 c6 v1 v2 v3 v4 v5 v6 → Long c1 c2 c3 c4 c5 c6 v1 v2 v3 v4 v5 v6 → Zeroed v1 v2 v3 v4 v5 v6
 zeroed-by z e = record {
-  zero1 = z .is1 ∙ ap zeros (sym (e .long1));
-  zero2 = z .is2 ∙ ap zeros (sym (e .long2));
-  zero3 = z .is3 ∙ ap zeros (sym (e .long3));
-  zero4 = z .is4 ∙ ap zeros (sym (e .long4));
-  zero5 = z .is5 ∙ ap zeros (sym (e .long5));
-  zero6 = z .is6 ∙ ap zeros (sym (e .long6));
+  is1 = z .is1 ∙ ap zeros (sym (e .long1));
+  is2 = z .is2 ∙ ap zeros (sym (e .long2));
+  is3 = z .is3 ∙ ap zeros (sym (e .long3));
+  is4 = z .is4 ∙ ap zeros (sym (e .long4));
+  is5 = z .is5 ∙ ap zeros (sym (e .long5));
+  is6 = z .is6 ∙ ap zeros (sym (e .long6));
 }
 
 -- ---- the tests
@@ -98,19 +95,19 @@ module _ (s : List ℕ) (flags : ℕ) (verdicts : List ℕ) (c1 c2 c3 c4 c5 c6 :
   Leaves r = (v1 v2 v3 v4 v5 v6 : List ℕ) → Cleared c1 c2 c3 c4 c5 c6 v1 v2 v3 v4 v5 v6 → (n6 : List ℕ) → n6 ≡ zeros 6
       → left r n6 v1 v2 v3 v4 v5 v6 ≡ parseCall s flags verdicts (caps c1 c2 c3 c4 c5 c6)
 
-  pub call-long : 65535 < length s → Leaves LongFile
+  pub call-long-file : 65535 < length s → Leaves LongFile
   unfolding parseCall leaves outcome
-  call-long h v1 v2 v3 v4 v5 v6 z n6 zn = zeros-left LongFile z zn ∙ rw (lt-ltb 65535 (length s) h)
+  call-long-file h v1 v2 v3 v4 v5 v6 z n6 zn = zeros-left LongFile z zn ∙ rw (lt-ltb 65535 (length s) h)
 
   module _ (within : length s ≤ 65535) where
-    pub call-stray : 3 < flags → Leaves StrayFlag
+    pub call-unknown-flag : 3 < flags → Leaves UnknownFlag
     unfolding parseCall leaves outcome
-    call-stray h v1 v2 v3 v4 v5 v6 z n6 zn = zeros-left StrayFlag z zn ∙ rw (le-ltb 65535 (length s) within, lt-ltb 3 flags h)
+    call-unknown-flag h v1 v2 v3 v4 v5 v6 z n6 zn = zeros-left UnknownFlag z zn ∙ rw (le-ltb 65535 (length s) within, lt-ltb 3 flags h)
 
     module _ (known : flags ≤ 3) (t : Bool) (is : t ≡ utf8 s) where
-      pub call-untext : t ≡ false → Leaves NotText
+      pub call-invalid-utf8 : t ≡ false → Leaves InvalidUtf8
       unfolding parseCall leaves outcome
-      call-untext h v1 v2 v3 v4 v5 v6 z n6 zn = zeros-left NotText z zn ∙ rw (le-ltb 65535 (length s) within, le-ltb 3 flags known, ← is, h)
+      call-invalid-utf8 h v1 v2 v3 v4 v5 v6 z n6 zn = zeros-left InvalidUtf8 z zn ∙ rw (le-ltb 65535 (length s) within, le-ltb 3 flags known, ← is, h)
 
       -- the text is parsed, with areas of as many bytes
       pub call-text : t ≡ true → {m1 m2 m3 m4 m5 m6 : ℕ} → m1 ≡ c1 → m2 ≡ c2 → m3 ≡ c3 → m4 ≡ c4 → m5 ≡ c5 → m6 ≡ c6 → {x : Left}

@@ -4,13 +4,12 @@ use mathlib.Core.Path.{_≡_, refl, sym, ap, subst, _∙_}
 use mathlib.Core.Bool.{Bool, true, false, cond, not}
 use mathlib.Core.List.{List, [], _∷_}
 use mathlib.Core.Option.{Option, none, some}
-use Prim.Native.Nat.{ℕ, _+_, _≤_, _<_}
+use Prim.Native.Nat.{ℕ, _+_, _≤_}
 use native.Mathlib.Omega.{arith}
 use borrow.Author.Needs.{needs}
 use borrow.Author.Tests.{eq-eqb, ne-eqb, eqb-true}
 use lib.Dec.{eqb}
 use lib.ListN.{length}
-use Rattle.text.specs.Walk.{first}
 use Rattle.text.specs.Scan.{skipBlanks}
 use Rattle.text.specs.Class.{isBlank}
 use Rattle.text.specs.Whitespace.{byte}
@@ -28,7 +27,7 @@ use Rattle.area.specs.Records.{stateWidth, mostStates, stateBytes}
 use Rattle.area.specs.Contents.{listOf, contents, stateFormat, ruleFormat, entryFormat, textFormat, expectedFormat, faultFormat, append, leftBy, Grows, Held}
 use Rattle.area.proofs.Contents.{state-sound, rule-sound, entry-sound, text-sound, expected-sound, fault-sound, held-empty, held-push, contents-length}
 use Rattle.fault.specs.Step.{Out, go, bad, full, next, onto, written, loop, Does}
-use Rattle.fault.specs.Faults.{PrematureEnd, addFault, HeldFaults, GrowsFaults, Numbered}
+use Rattle.fault.specs.Faults.{PrematureEnd, addFault, HeldFaults, GrowsFaults}
 use Rattle.fault.proofs.Steps.{does-full, bad-goes, full-goes}
 use Rattle.section.specs.Section.{percents, found, inSection, toDeclaration}
 use Rattle.section.proofs.Lines.{ahead-within}
@@ -45,8 +44,8 @@ use Rattle.parse.specs.declared.RuleProgress.the-variants as Ruling
 use Rattle.parse.specs.declared.FileCounts.{FileCounts}
 use Rattle.parse.specs.declared.Parsed.{Parsed}
 use Rattle.parse.specs.declared.Parsed.the-variants.{Clean, Faulty, Short}
-use Rattle.parse.specs.Parse.{Caps, Outcome, accepted, faulty, short, caps, closed, ending, judge, contentsOf, rulesFrom, undeclared, withStates, opening, file}
-use Rattle.parse.specs.Answers.{ruleProgress, ruledIn, HeldRuled, ruleCounts, sizesOf, closedBy, judgedBy, contentsIn, tells, HeldFile, Parses, Zeroed}
+use Rattle.parse.specs.Parse.{Caps, Outcome, accepted, faulty, areaFull, caps, closed, ending, judge, contentsOf, rulesFrom, undeclared, withStates, opening, file}
+use Rattle.parse.specs.Answers.{ruleProgress, ruledIn, HeldRuled, ruleCounts, sizesOf, closedBy, judgedBy, contentsIn, HeldFile, Parses, Zeroed}
 
 -- ---- state 0 and the declarations
 
@@ -135,13 +134,7 @@ judged-clean d q z = rw (eq-eqb (q .faults) 0 z)
 pub judged-faulty : (d : DeclarationCounts) (q : RuleCounts) → (q .faults ≡ 0 → ⊥) → Faulty (q .faults) ≡ judgedBy d q
 judged-faulty d q z = rw (ne-eqb (q .faults) 0 z)
 
-pub closed-next : (p : Appended) (m : ℕ) → p ≡ Appended.Next m → Faulty m ≡ closedBy p
-closed-next p m z = ap closedBy (sym z)
-
-pub closed-full : (p : Appended) → p ≡ Appended.Full → Short 6 ≡ closedBy p
-closed-full p z = ap closedBy (sym z)
-
-pub ruleset answering = (needs, judged-clean, judged-faulty, closed-next, closed-full)
+pub ruleset judging = (needs, judged-clean, judged-faulty)
 
 -- ---- the file
 
@@ -151,7 +144,7 @@ tag (Faulty n) = 1
 tag (Short n) = 2
 
 module _ {o : Outcome} {l1 l2 l3 l4 l5 l6 : List ℕ} where
-  parses-short : {n : ℕ} → o ≡ short n → Parses o l1 l2 l3 l4 l5 l6 (Short n)
+  parses-short : {n : ℕ} → o ≡ areaFull n → Parses o l1 l2 l3 l4 l5 l6 (Short n)
   unfolding tag
   parses-short e = record { says = e; clean = λ q z. absurd (omega (arith, ap tag z)); faults = λ n z. absurd (omega (arith, ap tag z)) }
 
@@ -195,7 +188,7 @@ module _ (s : List ℕ) (flags : ℕ) (l1 l2 l3 l4 l5 l6 : List ℕ) (zero : Zer
     states-held = kept .states
 
     pub rules-held : HeldRuled l2 l3 l4 w6 (ruleCounts 0 0 0 (c .faults))
-    rules-held = record { rules = held-empty rule-sound l2 (zero .zero2); entries = held-empty entry-sound l3 (zero .zero3); text = held-empty text-sound l4 (zero .zero4); faults = kept .faults }
+    rules-held = record { rules = held-empty rule-sound l2 (zero .is2); entries = held-empty entry-sound l3 (zero .is3); text = held-empty text-sound l4 (zero .is4); faults = kept .faults }
 
   module _ (verdicts : List ℕ) where
     abbrev sizes : Caps
@@ -257,5 +250,3 @@ module _ (s : List ℕ) (flags : ℕ) (l1 l2 l3 l4 l5 l6 : List ℕ) (zero : Zer
                 (is ∙ rw e (ap (λ (fs : List Fault). accepted (record { states = contents stateFormat v1 (c .states); rules = contents ruleFormat v2 (m .rules); lists = contents entryFormat v3 (m .entries); text = contents textFormat v4 (m .text); expected = contents expectedFormat v5 (c .expected); faults = fs })) (none-left z0)))
                 (record { states = kept i c went .states; rules = held .rules; entries = held .entries; text = held .text; expected = kept i c went .expected; faults = subst (Held faultFormat x6) z0 (held .faults .held) })
             by false e = parses-faulty (is ∙ rw e) (held .faults .held)
-
-pub ruleset filing = (needs, file-short, file-closed, rules-inside, states-held, rules-held, rules-short, rules-closed, rules-judged)

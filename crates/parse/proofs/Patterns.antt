@@ -16,7 +16,7 @@ use Rattle.area.specs.Contents.{append, contents, ruleFormat, entryFormat, text
 use Rattle.area.proofs.Contents.{contents-length, rule-sound, entry-sound, text-sound}
 use Rattle.fault.specs.declared.Progress.{Progress}
 use Rattle.fault.specs.declared.Progress.the-variants as Progress
-use Rattle.fault.specs.Step.{Out, go, bad, full, onto, Does, progress}
+use Rattle.fault.specs.Step.{Out, bad, full, onto, Does, progress}
 use Rattle.fault.specs.Faults.{InvalidStartState}
 use Rattle.fault.proofs.Steps.{does-bad, does-full, does-onto, was-go, was-bad, was-full}
 use Rattle.escape.specs.Escape.{unescaped}
@@ -30,23 +30,6 @@ use Rattle.parse.specs.declared.SheetCounts.{SheetCounts}
 use Rattle.parse.specs.declared.SheetProgress.{SheetProgress}
 use Rattle.parse.specs.declared.SheetProgress.the-variants.{Go, Bad, Full}
 use Rattle.parse.specs.Answers.{sheetProgress, sheetIn, HeldSheet, sheetCounts, sizesOf}
-
--- ---- a progress with further counts
-
-module _ (p : Progress) (e t : ℕ) where
-  abbrev counted : Out SheetCounts
-  counted = onto (λ n. sheetCounts n e t) (progress p)
-
-  pub counted-go : (i n : ℕ) → p ≡ Progress.Go i n → go i (sheetCounts n e t) ≡ counted
-  counted-go i n q = ap (λ (x : Progress). onto (λ n. sheetCounts n e t) (progress x)) (sym q)
-
-  pub counted-bad : (kind at n : ℕ) → p ≡ Progress.Bad kind at n → bad kind at (sheetCounts n e t) ≡ counted
-  counted-bad kind at n q = ap (λ (x : Progress). onto (λ n. sheetCounts n e t) (progress x)) (sym q)
-
-  pub counted-full : (n : ℕ) → p ≡ Progress.Full n → full n ≡ counted
-  counted-full n q = ap (λ (x : Progress). onto (λ n. sheetCounts n e t) (progress x)) (sym q)
-
-pub ruleset counting = (needs, counted-go, counted-bad, counted-full)
 
 -- ---- a list of states is closed within the pattern
 

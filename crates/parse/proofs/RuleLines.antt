@@ -1,9 +1,9 @@
 -- A line of the rules section, and the loop over the lines: a law for each way through, as for the declarations.
 use mathlib.Core.Path.{_≡_, refl, sym, ap, subst, _∙_}
-use mathlib.Core.Bool.{Bool, true, false, cond}
+use mathlib.Core.Bool.{Bool, true, false}
 use mathlib.Core.List.{List}
 use mathlib.Core.Option.{Option}
-use Prim.Native.Nat.{ℕ, _+_, _-_, _≤_, _<_}
+use Prim.Native.Nat.{ℕ, _-_, _≤_, _<_}
 use native.Mathlib.Omega.{arith}
 use borrow.Author.Needs.{needs}
 use lib.ListN.{length}
@@ -11,52 +11,26 @@ use Rattle.text.specs.Walk.{Between}
 use Rattle.text.specs.Whitespace.{atWhitespace, lineEndLen}
 use Rattle.text.specs.Scan.{lineEnd, trimEnd, trimEndUnescaped}
 use Rattle.area.specs.declared.State.{State}
-use Rattle.area.specs.declared.Rule.{Rule}
 use Rattle.area.specs.declared.Fault.{Fault}
 use Rattle.area.specs.declared.Appended.{Appended}
 use Rattle.area.specs.declared.Appended.the-variants as Appended
-use Rattle.area.specs.Contents.{contents, faultFormat, ruleFormat, Held}
-use Rattle.fault.specs.Step.{Out, go, bad, full, next, onto, written, loop, Does}
+use Rattle.area.specs.Contents.{contents, faultFormat, ruleFormat}
+use Rattle.fault.specs.Step.{Out, go, bad, full, next, onto, written, Does}
 use Rattle.fault.specs.Faults.{addFault, addRepeat, DuplicateName, VerbatimNotSupported, RoutinesNotSupported, GrowsFaults}
-use Rattle.fault.proofs.Steps.{Loops, loops-stop, loops-next, loops-bad, loops-full, going-start, does-go, does-bad, does-full, does-onto, was-go, written-next, written-full, then-go, then-bad, then-full, bad-goes, full-goes}
+use Rattle.fault.proofs.Steps.{Loops, loops-stop, loops-next, loops-bad, loops-full, going-start, does-go, does-bad, does-full, does-onto, written-next, written-full, then-go, then-bad, then-full}
 use Rattle.section.specs.Section.{inSection, toRule, hasRoutines}
 use Rattle.section.proofs.Lines.{in-section-inside, line-has-byte, rule-starts}
 use Rattle.rules.specs.declared.Head.{Head}
 use Rattle.rules.specs.declared.Heading.{Heading}
 use Rattle.rules.specs.declared.Heading.the-variants.{Faulty, Repeated, Fresh}
 use Rattle.rules.specs.Heading.{headingOf}
-use Rattle.rules.specs.Rules.{Sheet, Ruled, Caps, sheetOf, withSheet, withFaults, pattern, recordRule, ruleAs, rule, line, nextRule, rules, routines, rulesSection}
+use Rattle.rules.specs.Rules.{Ruled, Caps, withSheet, withFaults, pattern, ruleAs, rule, line, nextRule, rules, routines, rulesSection}
 use Rattle.rules.proofs.Heads.{fresh-from, fresh-to}
-use Rattle.parse.specs.declared.SheetCounts.{SheetCounts}
 use Rattle.parse.specs.declared.SheetProgress.{SheetProgress}
-use Rattle.parse.specs.declared.SheetProgress.the-variants as Sheet
 use Rattle.parse.specs.declared.RuleCounts.{RuleCounts}
 use Rattle.parse.specs.declared.RuleProgress.{RuleProgress}
 use Rattle.parse.specs.declared.RuleProgress.the-variants.{Go, Bad, Full}
 use Rattle.parse.specs.Answers.{sheetProgress, sheetIn, HeldSheet, sheetCounts, ruleProgress, ruledIn, HeldRuled, ruleCounts, sizesOf, afterFaults}
-
--- ---- a progress with further counts
-
-pub faults-next : (e : ℕ) (q : RuleCounts) (p : Appended) (m : ℕ) → p ≡ Appended.Next m → go e (ruleCounts (q .rules) (q .entries) (q .text) m) ≡ afterFaults e q p
-faults-next e q p m z = ap (afterFaults e q) (sym z)
-
-pub faults-full : (e : ℕ) (q : RuleCounts) (p : Appended) → p ≡ Appended.Full → full 6 ≡ afterFaults e q p
-faults-full e q p z = ap (afterFaults e q) (sym z)
-
-module _ (p : SheetProgress) (f : ℕ) where
-  abbrev faulted : SheetCounts → RuleCounts
-  faulted w = ruleCounts (w .rules) (w .entries) (w .text) f
-
-  pub faulted-go : (i : ℕ) (w : SheetCounts) → p ≡ Sheet.Go i w → go i (faulted w) ≡ onto faulted (sheetProgress p)
-  faulted-go i w z = ap (λ (x : SheetProgress). onto faulted (sheetProgress x)) (sym z)
-
-  pub faulted-bad : (kind at : ℕ) (w : SheetCounts) → p ≡ Sheet.Bad kind at w → bad kind at (faulted w) ≡ onto faulted (sheetProgress p)
-  faulted-bad kind at w z = ap (λ (x : SheetProgress). onto faulted (sheetProgress x)) (sym z)
-
-  pub faulted-full : (n : ℕ) → p ≡ Sheet.Full n → full n ≡ onto faulted (sheetProgress p)
-  faulted-full n z = ap (λ (x : SheetProgress). onto faulted (sheetProgress x)) (sym z)
-
-pub ruleset faulting = (needs, faults-next, faults-full, faulted-go, faulted-bad, faulted-full)
 
 -- ---- a rule
 

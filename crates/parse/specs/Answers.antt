@@ -1,4 +1,4 @@
--- What the functions of the rules section answer: the outcome of a step, with counts of records in place of the records.
+-- Outcomes in the rules and of a file, with counts of records in place of the records, and what the areas hold then (01, Areas).
 use Prim.Native.Nat.{ℕ}
 use mathlib.Core.Path.{_≡_}
 use mathlib.Core.Bool.{cond}
@@ -13,7 +13,7 @@ use Rattle.fault.specs.Step.{Out, go, bad, full}
 use Rattle.fault.specs.Faults.{HeldFaults}
 use Rattle.declarations.specs.declared.DeclarationCounts.{DeclarationCounts}
 use Rattle.rules.specs.Rules.{Sheet, sheet, Ruled, Caps}
-use Rattle.parse.specs.Parse.{Contents, Outcome, accepted, faulty, short}
+use Rattle.parse.specs.Parse.{Contents, Outcome, accepted, faulty, areaFull}
 use Rattle.parse.specs.declared.FileCounts.{FileCounts}
 use Rattle.parse.specs.declared.Parsed.{Parsed}
 use Rattle.parse.specs.declared.Parsed.the-variants.{Clean, Faulty, Short}
@@ -24,6 +24,7 @@ use Rattle.parse.specs.declared.RuleCounts.{RuleCounts}
 use Rattle.parse.specs.declared.RuleProgress.{RuleProgress}
 use Rattle.parse.specs.declared.RuleProgress.the-variants as R
 
+-- the outcome of a step over areas 2, 3 and 4
 abbrev pub sheetProgress : SheetProgress → Out SheetCounts
 sheetProgress (S.Go i q) = go i q
 sheetProgress (S.Bad kind at q) = bad kind at q
@@ -33,6 +34,7 @@ sheetProgress (S.Full n) = full n
 abbrev pub sheetIn : List ℕ → List ℕ → List ℕ → SheetCounts → Sheet
 sheetIn l2 l3 l4 q = sheet (contents ruleFormat l2 (q .rules)) (contents entryFormat l3 (q .entries)) (contents textFormat l4 (q .text))
 
+-- they hold these many, and zeros behind them
 pub record HeldSheet (l2 l3 l4 : List ℕ) (q : SheetCounts) : Type 0 where
   pub rules : Held ruleFormat l2 (q .rules)
   pub entries : Held entryFormat l3 (q .entries)
@@ -41,12 +43,13 @@ pub record HeldSheet (l2 l3 l4 : List ℕ) (q : SheetCounts) : Type 0 where
 abbrev pub sheetCounts : ℕ → ℕ → ℕ → SheetCounts
 sheetCounts r e t = record { rules = r; entries = e; text = t }
 
+-- the outcome of a step over areas 2, 3, 4 and 6
 abbrev pub ruleProgress : RuleProgress → Out RuleCounts
 ruleProgress (R.Go i q) = go i q
 ruleProgress (R.Bad kind at q) = bad kind at q
 ruleProgress (R.Full n) = full n
 
--- the same with the faults that area 6 holds
+-- the rules, list entries, text and faults that areas 2, 3, 4 and 6 hold
 abbrev pub ruledIn : List ℕ → List ℕ → List ℕ → List ℕ → RuleCounts → Ruled
 ruledIn l2 l3 l4 l6 q = record {
   rules = contents ruleFormat l2 (q .rules);
@@ -55,6 +58,7 @@ ruledIn l2 l3 l4 l6 q = record {
   faults = contents faultFormat l6 (q .faults);
 }
 
+-- they hold these many, and zeros behind them
 pub record HeldRuled (l2 l3 l4 l6 : List ℕ) (q : RuleCounts) : Type 0 where
   pub rules : Held ruleFormat l2 (q .rules)
   pub entries : Held entryFormat l3 (q .entries)
@@ -67,19 +71,19 @@ ruleCounts r e t f = record { rules = r; entries = e; text = t; faults = f }
 abbrev pub sizesOf : ℕ → ℕ → ℕ → Caps
 sizesOf c2 c3 c4 = record { c2 = c2; c3 = c3; c4 = c4 }
 
--- the faults have grown to p: on at e, or area 6 is full
+-- on at e with the fault spans that p counts, or area 6 is full
 abbrev pub afterFaults : ℕ → RuleCounts → Appended → Out RuleCounts
 afterFaults e q (Next m) = go e (ruleCounts (q .rules) (q .entries) (q .text) m)
 afterFaults e q Full = full 6
 
 -- ---- the file as a whole
 
--- the fault that ends parsing is written: the spans, or area 6 is full
+-- with the fault that ends parsing: so many fault spans, or area 6 is full
 abbrev pub closedBy : Appended → Parsed
 closedBy (Next m) = Faulty m
 closedBy Full = Short 6
 
--- no fault, or these spans
+-- at the end of the file: no fault, or so many fault spans
 abbrev pub judgedBy : DeclarationCounts → RuleCounts → Parsed
 judgedBy d q =
     cond (eqb (q .faults) 0) (Clean (record { states = d .states; rules = q .rules; entries = q .entries; text = q .text; expected = d .expected }))
@@ -96,12 +100,13 @@ contentsIn l1 l2 l3 l4 l5 q = record {
   faults = [];
 }
 
--- the outcome that an answer tells
+-- the outcome that counts stand for
 abbrev pub tells : List ℕ → List ℕ → List ℕ → List ℕ → List ℕ → List ℕ → Parsed → Outcome
 tells l1 l2 l3 l4 l5 l6 (Clean q) = accepted (contentsIn l1 l2 l3 l4 l5 q)
 tells l1 l2 l3 l4 l5 l6 (Faulty n) = faulty (contents faultFormat l6 n)
-tells l1 l2 l3 l4 l5 l6 (Short n) = short n
+tells l1 l2 l3 l4 l5 l6 (Short n) = areaFull n
 
+-- the areas hold these many, area 6 none, and zeros behind them
 pub record HeldFile (l1 l2 l3 l4 l5 l6 : List ℕ) (q : FileCounts) : Type 0 where
   pub states : Held stateFormat l1 (q .states)
   pub rules : Held ruleFormat l2 (q .rules)
@@ -110,20 +115,11 @@ pub record HeldFile (l1 l2 l3 l4 l5 l6 : List ℕ) (q : FileCounts) : Type 0 whe
   pub expected : Held expectedFormat l5 (q .expected)
   pub faults : Held faultFormat l6 0
 
--- an answer to the file whose outcome is o, and what the areas hold then
+-- p stands for the outcome o, and the areas hold what it counts
 pub record Parses (o : Outcome) (l1 l2 l3 l4 l5 l6 : List ℕ) (p : Parsed) : Type 0 where
   pub says : o ≡ tells l1 l2 l3 l4 l5 l6 p
   pub clean : (q : FileCounts) → p ≡ Clean q → HeldFile l1 l2 l3 l4 l5 l6 q
   pub faults : (n : ℕ) → p ≡ Faulty n → Held faultFormat l6 n
-
--- every area is zero
-pub record Zeroed (l1 l2 l3 l4 l5 l6 : List ℕ) : Type 0 where
-  pub zero1 : l1 ≡ zeros (length l1)
-  pub zero2 : l2 ≡ zeros (length l2)
-  pub zero3 : l3 ≡ zeros (length l3)
-  pub zero4 : l4 ≡ zeros (length l4)
-  pub zero5 : l5 ≡ zeros (length l5)
-  pub zero6 : l6 ≡ zeros (length l6)
 
 -- the areas are zero, of these many bytes
 pub record Cleared (c1 c2 c3 c4 c5 c6 : ℕ) (l1 l2 l3 l4 l5 l6 : List ℕ) : Type 0 where
@@ -133,3 +129,7 @@ pub record Cleared (c1 c2 c3 c4 c5 c6 : ℕ) (l1 l2 l3 l4 l5 l6 : List ℕ) : Ty
   pub is4 : l4 ≡ zeros c4
   pub is5 : l5 ≡ zeros c5
   pub is6 : l6 ≡ zeros c6
+
+-- every area is zero
+abbrev pub Zeroed : List ℕ → List ℕ → List ℕ → List ℕ → List ℕ → List ℕ → Type 0
+Zeroed l1 l2 l3 l4 l5 l6 = Cleared (length l1) (length l2) (length l3) (length l4) (length l5) (length l6) l1 l2 l3 l4 l5 l6

@@ -1,6 +1,6 @@
 -- The meaning of a file, and of the parse call (01, Numbers given at the counter, and Areas).
 use Prim.Native.Nat.{ℕ, _+_, _*_}
-use mathlib.Core.Bool.{Bool, true, false, cond}
+use mathlib.Core.Bool.{cond}
 use mathlib.Core.List.{List, [], _∷_}
 use mathlib.Core.Option.{Option, none, some}
 use lib.Dec.{eqb, ltb}
@@ -19,7 +19,7 @@ use Rattle.rules.specs.Rules.{Ruled, rulesSection}
 use Rattle.declarations.specs.Declarations as D
 use Rattle.rules.specs.Rules as R
 use Rattle.parse.specs.declared.Answer.{Answer}
-use Rattle.parse.specs.declared.Answer.the-variants.{Accepted, LongFile, StrayFlag, NotText, AreaFull, FaultyFile}
+use Rattle.parse.specs.declared.Answer.the-variants.{Accepted, LongFile, UnknownFlag, InvalidUtf8, AreaFull, FaultyFile}
 
 -- what stands in the six areas
 pub record Contents : Type 0 where
@@ -50,23 +50,23 @@ ruleCaps k = record { c2 = k .c2; c3 = k .c3; c4 = k .c4 }
 
 -- what becomes of a file: refused by the number 1, 2 or 3; the area of a number was full (4); these faults (5); or accepted
 pub data Outcome : Type 0 where
-  long : Outcome
-  stray : Outcome
-  untext : Outcome
-  short : ℕ → Outcome
+  longFile : Outcome
+  unknownFlag : Outcome
+  invalidUtf8 : Outcome
+  areaFull : ℕ → Outcome
   faulty : List Fault → Outcome
   accepted : Contents → Outcome
 
--- the fault that ends parsing goes behind the others, in an area of cap bytes
+-- the fault list with the fault that ends parsing as the last, or none where area 6 has no room for it
 unfoldable pub closed : Option (List Fault) → Outcome
-closed none = short 6
+closed none = areaFull 6
 closed (some fs) = faulty fs
 
--- what a section comes to: on with g, or the end
+-- what a section comes to: on with g, or the end; area 6 has cap bytes
 abbrev pub ending : {S : Type 0} → (S → List Fault) → ℕ → Out S → (ℕ → S → Outcome) → Outcome
 ending faults cap (go i s) g = g i s
 ending faults cap (bad kind at s) g = closed (addFault cap kind at at (faults s))
-ending faults cap (full n) g = short n
+ending faults cap (full n) g = areaFull n
 
 -- number 5 where the fault list is not empty at the end
 unfoldable pub judge : Contents → Outcome
@@ -102,7 +102,7 @@ file s flags verdicts k = ending (λ d. d .faults) (k .c6) (opening s flags (dec
 
 -- 1, 2, 3, then 4 or 5, whichever comes first
 unfoldable pub outcome : List ℕ → ℕ → List ℕ → Caps → Outcome
-outcome s flags verdicts k = cond (ltb 65535 (length s)) long (cond (ltb 3 flags) stray (cond (utf8 s) (file s flags verdicts k) untext))
+outcome s flags verdicts k = cond (ltb 65535 (length s)) longFile (cond (ltb 3 flags) unknownFlag (cond (utf8 s) (file s flags verdicts k) invalidUtf8))
 
 -- ---- the call
 
@@ -148,11 +148,12 @@ sheetLeft b k =
     (laid expectedFormat (k .c5) (b .expected))
     (laid faultFormat (k .c6) (b .faults))
 
+-- what the call leaves by the outcome (01, Numbers given at the counter)
 unfoldable pub leaves : Caps → Outcome → Left
-leaves k long = cleared LongFile k
-leaves k stray = cleared StrayFlag k
-leaves k untext = cleared NotText k
-leaves k (short n) = cleared (AreaFull n) k
+leaves k longFile = cleared LongFile k
+leaves k unknownFlag = cleared UnknownFlag k
+leaves k invalidUtf8 = cleared InvalidUtf8 k
+leaves k (areaFull n) = cleared (AreaFull n) k
 leaves k (faulty fs) = faultsLeft fs k
 leaves k (accepted b) = sheetLeft b k
 
@@ -167,7 +168,7 @@ word number a = number + 65536 * a
 unfoldable pub wordOf : Answer → ℕ
 wordOf Accepted = word 0 0
 wordOf LongFile = word 1 0
-wordOf StrayFlag = word 2 0
-wordOf NotText = word 3 0
+wordOf UnknownFlag = word 2 0
+wordOf InvalidUtf8 = word 3 0
 wordOf (AreaFull n) = word 4 n
 wordOf (FaultyFile n) = word 5 n

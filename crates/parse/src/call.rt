@@ -102,7 +102,7 @@ pub fn parse(
         return Answer::LongFile;
     }
     if flags > MOST_FLAGS {
-        return Answer::StrayFlag;
+        return Answer::UnknownFlag;
     }
     if utf8(src) {
         return parse_text(
@@ -118,5 +118,5 @@ pub fn parse(
             area6,
         );
     }
-    Answer::NotText
+    Answer::InvalidUtf8
 }

@@ -54,8 +54,8 @@ pub enum Parsed {
 pub enum Answer {
     Accepted,
     LongFile,
-    StrayFlag,
-    NotText,
+    UnknownFlag,
+    InvalidUtf8,
     AreaFull(u16),
     FaultyFile(u16),
 }

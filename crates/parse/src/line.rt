@@ -12,20 +12,17 @@ use crate::SheetCounts;
 use crate::SheetProgress;
 use crate::pattern::parse_pattern;
 use area::Appended;
+use area::FAULT_AREA;
 use fault::Span;
 use fault::add_duplicate_occurrence;
 use fault::add_fault;
+use fault::kinds::DUPLICATE_NAME;
+use fault::kinds::VERBATIM_NOT_SUPPORTED;
 use rules::Heading;
 use rules::headings::heading_of;
 use text::scan::trim_end;
 use text::scan::trim_end_unescaped;
 use text::whitespace::matches_whitespace;
-
-const DUPLICATE_NAME: u16 = 9;
-
-const VERBATIM_NOT_SUPPORTED: u16 = 11;
-
-const FAULT_AREA: u16 = 6;
 
 // What the pattern comes to, with the count of faults.
 fn with_faults(p: SheetProgress, faults: u16) -> RuleProgress

@@ -2,25 +2,23 @@
 ghost use mathlib.Core.Path.{_≡_};
 ghost use Prim.Native.Nat.{_-_, _≤_};
 ghost use lib.ListN.{length};
-ghost use Rattle.area.specs.Contents.{stateFormat, ruleFormat, contents, Held};
+ghost use Rattle.area.specs.Contents.{stateFormat, contents, Held};
 ghost use Rattle.fault.specs.Step.{Does, onto, progress};
-ghost use Rattle.rules.specs.Rules.{recordRule, ruleOf, pattern};
+ghost use Rattle.rules.specs.Rules.{ruleOf, pattern};
 ghost use Rattle.parse.specs.Answers.{sheetProgress, sheetIn, HeldSheet, sheetCounts, sizesOf};
 use crate::SheetCounts;
 use crate::SheetProgress;
 use area::Appended;
 use area::Rule;
+use area::TEXT_AREA;
 use escape::unescape;
 use fault::Progress;
+use fault::kinds::INVALID_START_STATE;
 use rules::Body;
 use rules::Head;
 use rules::bodies::body_of;
-use rules::entries::parse_entries;
+use rules::entries::parse_start_states;
 use rules::record::record_rule;
-
-const INVALID_START_STATE: u16 = 7;
-
-const TEXT_AREA: u16 = 4;
 
 // Where a rule's text and list stand: five of the rule's fields.
 pub struct Text {
@@ -119,7 +117,7 @@ pub fn parse_pattern(
         Body::Listed(g) => {
             let from = (g + 1) as u16;
             let length = (c - (g + 1)) as u16;
-            match parse_entries(src, i, g, area1, n1, area3, entries) {
+            match parse_start_states(src, i, g, area1, n1, area3, entries) {
                 Progress::Go(_, m) => {
                     let t = Text {
                         place: 0,

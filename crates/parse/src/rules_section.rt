@@ -8,12 +8,11 @@ ghost use Rattle.parse.specs.Answers.{ruleProgress, ruledIn, HeldRuled, 
 use crate::RuleCounts;
 use crate::RuleProgress;
 use crate::line::parse_line;
+use fault::kinds::ROUTINES_NOT_SUPPORTED;
 use section::has_routines;
 use section::in_section;
 use section::to_rule;
 use text::scan::line_end;
-
-const ROUTINES_NOT_SUPPORTED: u16 = 1;
 
 // The rules from i on, and what follows them.
 pub fn parse_rules(

@@ -13,16 +13,14 @@ use crate::RuleCounts;
 use crate::RuleProgress;
 use crate::rules_section::parse_rules;
 use area::Appended;
+use area::FAULT_AREA;
+use area::STATE_AREA;
 use area::State;
 use area::push_state;
 use declarations::DeclarationCounts;
 use declarations::DeclarationProgress;
 use declarations::parse_declarations;
 use fault::add_fault;
-
-const STATE_AREA: u16 = 1;
-
-const FAULT_AREA: u16 = 6;
 
 // State 0, then the declarations.
 fn parse_opening(

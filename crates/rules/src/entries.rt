@@ -8,16 +8,14 @@ ghost use Rattle.fault.specs.Step.{Does, progress};
 ghost use Rattle.names.specs.Names.{findState};
 ghost use Rattle.rules.specs.Rules.{nextEntry, entries};
 use area::Appended;
+use area::ENTRY_AREA;
 use area::push_entry;
 use fault::Progress;
+use fault::kinds::UNKNOWN_START_STATE;
 use names::get_start_state_by_name;
 use text::scan::find_byte;
 use text::scan::trim_end;
 use text::scan::trim_start;
-
-const UNKNOWN_START_STATE: u16 = 5;
-
-const ENTRY_AREA: u16 = 3;
 
 // The state whose name, trimmed, stands from a to e, or n1.
 fn state_between(src: &[u8], a: usize, e: usize, area1: &[u8], n1: u16) -> usize
@@ -57,7 +55,7 @@ fn next_entry(
 }
 
 // Each name between the `<` at i and the `>` at g, in turn.
-pub fn parse_entries(
+pub fn parse_start_states(
     src: &[u8],
     i: usize,
     g: usize,

@@ -11,6 +11,10 @@ use crate::Heading;
 use crate::Label;
 use crate::Target;
 use area::read_rule;
+use fault::kinds::INVALID_NAME;
+use fault::kinds::INVALID_START_STATE;
+use fault::kinds::MISSING_SPACE;
+use fault::kinds::UNKNOWN_START_STATE;
 use names::find_rule;
 use names::get_start_state_by_name;
 use text::Found;
@@ -18,18 +22,10 @@ use text::scan::find_byte;
 use text::scan::last_blank;
 use text::whitespace::byte_at;
 
-const MISSING_SPACE: u16 = 3;
-
-const INVALID_NAME: u16 = 4;
-
-const UNKNOWN_START_STATE: u16 = 5;
-
-const INVALID_START_STATE: u16 = 7;
-
 // ---- the target, behind the blank at r of a line trimmed at t
 
 // 2 push for `+`, 3 pop for `-`, else 1 replace.
-fn operation_of(x: u8) -> u16
+fn parse_start_state_ops(x: u8) -> u16
     ensures { λ r. ⌜ r ≡ operationOf x ⌝ }
 {
     if x == b'+' {
@@ -82,7 +78,14 @@ fn target_to(src: &[u8], r: usize, t: usize, area1: &[u8], n1: u16) -> Target
 {
     let g = find_byte(src, r + 1, t, b'>');
     if g < t {
-        return target_by(src, r, g, operation_of(byte_at(src, r + 2)), area1, n1);
+        return target_by(
+            src,
+            r,
+            g,
+            parse_start_state_ops(byte_at(src, r + 2)),
+            area1,
+            n1,
+        );
     }
     Target::Wrong(INVALID_START_STATE, r as u16)
 }

@@ -5,14 +5,12 @@ ghost use Rattle.area.specs.Contents.{ruleFormat, contents, Held};
 ghost use Rattle.fault.specs.Step.{Does, progress};
 ghost use Rattle.rules.specs.Rules.{refuses, recordRule};
 use area::Appended;
+use area::RULE_AREA;
 use area::Rule;
 use area::push_rule;
 use fault::Progress;
+use fault::kinds::REGEX_ERROR;
 use text::whitespace::byte_at;
-
-const REGEX_ERROR: u16 = 10;
-
-const RULE_AREA: u16 = 2;
 
 // Whether the engine refuses the rule at the position k. Past the end of the verdicts it passes.
 fn refuses(verdicts: &[u8], k: usize) -> bool

@@ -1,7 +1,7 @@
 -- Lines that are skipped. Each way to skip goes forward, and not past the end of the text; so repeating it comes to rest, and the loop that
 -- repeats it comes to rest at the same place from wherever it stands.
 use mathlib.Core.Path.{_≡_, refl, sym, ap, _∙_}
-use mathlib.Core.Bool.{Bool, true, false, cond, not, _&&_, false≢true}
+use mathlib.Core.Bool.{Bool, true, false, cond, not, false≢true}
 use mathlib.Core.List.{List}
 use mathlib.Core.Logic.{⊎-elim}
 use Prim.Native.Nat.{ℕ, _+_, _-_, _%_, _≤_, _<_, max}
@@ -11,7 +11,7 @@ use borrow.Author.Needs.{needs}
 use borrow.Author.Tests.{eq-eqb, ne-eqb, eqb-false}
 use lib.Dec.{eqb}
 use lib.ListN.{length, length-take, length-drop}
-use Rattle.text.specs.Walk.{first, repeat, skip, Between}
+use Rattle.text.specs.Walk.{repeat, skip, Between}
 use Rattle.text.specs.Whitespace.{whitespaceLen, lineEndLen, atLineEnd}
 use Rattle.text.specs.Range.{part, sameBytes, lookaheadIs}
 use Rattle.text.specs.Scan.{lineEnd, skipWhitespace, skipLineEnds}

@@ -7,7 +7,7 @@ use Prim.Native.Nat.{ℕ, zero, suc, _+_, _*_, _-_, _≤_, _<_}
 use native.Mathlib.Numerals.{add-one}
 use lib.Dec.{eqb, leb, ltb}
 use native.Mathlib.Omega.{arith}
-use lib.ListN.{length}
+use lib.ListN.{length, getD}
 use borrow.Author.Needs.{needs}
 use borrow.Author.Tests.{eq-eqb, ne-eqb, leb-true}
 use Rattle.area.specs.declared.State.{State}
@@ -16,7 +16,7 @@ use Rattle.area.specs.Records.{stateWidth, ruleWidth, entryWidth, expectedWidth
 use Rattle.area.specs.Contents.{Format, contents, listOf, stateFormat, ruleFormat, entryFormat, textFormat, expectedFormat}
 use Rattle.area.proofs.Contents.{listOf-length}
 use Rattle.text.proofs.Tests.{and-left, and-right}
-use Rattle.sheet_check.specs.SheetCheck.{SheetBytes, all, count, decoded, mark, ordered, within, declared, goodState, goodRule, goodExpected, goodContents, longEnough, sheetCheck}
+use Rattle.sheet_check.specs.SheetCheck.{SheetBytes, sheetBytes, all, count, decoded, mark, ordered, within, declared, goodState, goodRule, goodExpected, goodContents, longEnough, sheetCheck}
 
 -- ---- a record
 
@@ -122,3 +122,9 @@ module _ (b : SheetBytes) (t : Bool) (is : t ≡ longEnough b) where
   pub check-short : t ≡ false → false ≡ sheetCheck b
   unfolding sheetCheck
   check-short e = ap (λ (x : Bool). x && goodContents (length (b .source)) (decoded b)) (sym e ∙ is)
+
+-- the check reads five numbers of the counts, so those five are as good as the whole list
+pub check-listed : (s x1 x2 x3 x4 x5 n m : List ℕ) (r : Bool) → r ≡ sheetCheck (sheetBytes s x1 x2 x3 x4 x5 m)
+    → m ≡ getD n 0 0 ∷ getD n 1 0 ∷ getD n 2 0 ∷ getD n 3 0 ∷ getD n 4 0 ∷ [] → r ≡ sheetCheck (sheetBytes s x1 x2 x3 x4 x5 n)
+unfolding sheetCheck longEnough decoded
+check-listed s x1 x2 x3 x4 x5 n m r q e = q ∙ ap (λ (l : List ℕ). sheetCheck (sheetBytes s x1 x2 x3 x4 x5 l)) e

@@ -1,1 +1,3 @@
 pub mod SheetCheck
+pub mod Counted
+pub mod Pattern

@@ -8,6 +8,7 @@ ghost use lib.Dec.{eqb};
 ghost use lib.ListN.{length};
 ghost use Rattle.area.specs.Records.{stateWidth, ruleWidth, entryWidth, expectedWidth};
 ghost use Rattle.area.specs.Contents.{contents, stateFormat, ruleFormat, entryFormat, expectedFormat};
+ghost use Rattle.sheet_check.specs.Counted.{listed};
 ghost use Rattle.sheet_check.specs.SheetCheck.{sheetBytes, decoded, all, ordered, within, declared, goodState, goodRule, goodExpected, goodContents, longEnough, sheetCheck};
 use area::Expected;
 use area::Rule;
@@ -30,6 +31,15 @@ const EXPECTED_WIDTH: usize = 4;
 const MOST_STATES: u16 = 64;
 
 const MOST_RULES: u16 = 2048;
+
+// The counts of areas 1 to 5. In code they are numbers and not a lent array, so that their products are known to fit.
+struct Counts {
+    states: u16,
+    rules: u16,
+    entries: u16,
+    text: u16,
+    expected: u16,
+}
 
 // ---- a record
 
@@ -148,7 +158,6 @@ fn good_names(area: &[u8], count: u16, n: usize) -> bool
 
 // ---- the sheet
 
-// The counts are numbers here, so that their products are known to fit.
 fn long_enough(
     src: &[u8],
     area1: &[u8],
@@ -156,19 +165,15 @@ fn long_enough(
     area3: &[u8],
     area4: &[u8],
     area5: &[u8],
-    states: u16,
-    rules: u16,
-    entries: u16,
-    text: u16,
-    expected: u16,
+    m: Counts,
 ) -> bool
-    ensures { λ r. ⌜ r ≡ longEnough (sheetBytes (now (src .entry)) (now (area1 .entry)) (now (area2 .entry)) (now (area3 .entry)) (now (area4 .entry)) (now (area5 .entry)) (states ∷ rules ∷ entries ∷ text ∷ expected ∷ [])) ⌝ }
+    ensures { λ r. ⌜ r ≡ longEnough (sheetBytes (now (src .entry)) (now (area1 .entry)) (now (area2 .entry)) (now (area3 .entry)) (now (area4 .entry)) (now (area5 .entry)) (listed m)) ⌝ }
 {
-    (states as usize * STATE_WIDTH <= area1.len())
-        & (rules as usize * RULE_WIDTH <= area2.len())
-        & (entries as usize * ENTRY_WIDTH <= area3.len())
-        & (text as usize <= area4.len())
-        & (expected as usize * EXPECTED_WIDTH <= area5.len())
+    (m.states as usize * STATE_WIDTH <= area1.len())
+        & (m.rules as usize * RULE_WIDTH <= area2.len())
+        & (m.entries as usize * ENTRY_WIDTH <= area3.len())
+        & (m.text as usize <= area4.len())
+        & (m.expected as usize * EXPECTED_WIDTH <= area5.len())
 }
 
 fn good_contents(
@@ -178,21 +183,20 @@ fn good_contents(
     area3: &[u8],
     area4: &[u8],
     area5: &[u8],
-    states: u16,
-    rules: u16,
-    entries: u16,
-    text: u16,
-    expected: u16,
+    m: Counts,
 ) -> bool
-    requires { ⌜ longEnough (sheetBytes (now src) (now area1) (now area2) (now area3) (now area4) (now area5) (states ∷ rules ∷ entries ∷ text ∷ expected ∷ [])) ≡ true ⌝ }
-    ensures { λ r. ⌜ r ≡ goodContents (length (now (src .entry))) (decoded (sheetBytes (now (src .entry)) (now (area1 .entry)) (now (area2 .entry)) (now (area3 .entry)) (now (area4 .entry)) (now (area5 .entry)) (states ∷ rules ∷ entries ∷ text ∷ expected ∷ []))) ⌝ }
+    requires { ⌜ longEnough (sheetBytes (now src) (now area1) (now area2) (now area3) (now area4) (now area5) (listed m)) ≡ true ⌝ }
+    ensures { λ r. ⌜ r ≡ goodContents (length (now (src .entry))) (decoded (sheetBytes (now (src .entry)) (now (area1 .entry)) (now (area2 .entry)) (now (area3 .entry)) (now (area4 .entry)) (now (area5 .entry)) (listed m))) ⌝ }
 {
     let n = src.len();
-    let good1 = good_states(area1, states, n);
-    let good2 = good_rules(area2, rules, n, states, entries as usize, text as usize);
-    let good3 = good_entries(area3, entries, states);
-    let good5 = good_names(area5, expected, n);
-    (1 <= states) & (states <= MOST_STATES) & (rules <= MOST_RULES) & good1 & good2 & good3 & good5
+    let entries = m.entries as usize;
+    let text = m.text as usize;
+    let few = (1 <= m.states) & (m.states <= MOST_STATES) & (m.rules <= MOST_RULES);
+    let good1 = good_states(area1, m.states, n);
+    let good2 = good_rules(area2, m.rules, n, m.states, entries, text);
+    let good3 = good_entries(area3, m.entries, m.states);
+    let good5 = good_names(area5, m.expected, n);
+    few & good1 & good2 & good3 & good5
 }
 
 // The lengths first, so that every record may be read.
@@ -203,42 +207,26 @@ fn check_counted(
     area3: &[u8],
     area4: &[u8],
     area5: &[u8],
-    states: u16,
-    rules: u16,
-    entries: u16,
-    text: u16,
-    expected: u16,
+    m: Counts,
 ) -> bool
-    ensures { λ r. ⌜ r ≡ sheetCheck (sheetBytes (now (src .entry)) (now (area1 .entry)) (now (area2 .entry)) (now (area3 .entry)) (now (area4 .entry)) (now (area5 .entry)) (states ∷ rules ∷ entries ∷ text ∷ expected ∷ [])) ⌝ }
+    ensures { λ r. ⌜ r ≡ sheetCheck (sheetBytes (now (src .entry)) (now (area1 .entry)) (now (area2 .entry)) (now (area3 .entry)) (now (area4 .entry)) (now (area5 .entry)) (listed m)) ⌝ }
 {
-    if long_enough(
-        src,
-        area1,
-        area2,
-        area3,
-        area4,
-        area5,
-        states,
-        rules,
-        entries,
-        text,
-        expected,
-    ) {
-        return good_contents(
-            src,
-            area1,
-            area2,
-            area3,
-            area4,
-            area5,
-            states,
-            rules,
-            entries,
-            text,
-            expected,
-        );
+    if long_enough(src, area1, area2, area3, area4, area5, m) {
+        return good_contents(src, area1, area2, area3, area4, area5, m);
     }
     false
+}
+
+fn counted(states: u16, rules: u16, entries: u16, text: u16, expected: u16) -> Counts
+    ensures { λ r. ⌜ listed r ≡ states ∷ rules ∷ entries ∷ text ∷ expected ∷ [] ⌝ }
+{
+    Counts {
+        states: states,
+        rules: rules,
+        entries: entries,
+        text: text,
+        expected: expected,
+    }
 }
 
 // Whether what the host hands in is a sheet.
@@ -253,17 +241,6 @@ pub fn check(
 ) -> bool
     ensures { λ r. ⌜ r ≡ sheetCheck (sheetBytes (now (src .entry)) (now (area1 .entry)) (now (area2 .entry)) (now (area3 .entry)) (now (area4 .entry)) (now (area5 .entry)) (now (counts .entry))) ⌝ }
 {
-    check_counted(
-        src,
-        area1,
-        area2,
-        area3,
-        area4,
-        area5,
-        counts[0],
-        counts[1],
-        counts[2],
-        counts[3],
-        counts[4],
-    )
+    let m = counted(counts[0], counts[1], counts[2], counts[3], counts[4]);
+    check_counted(src, area1, area2, area3, area4, area5, m)
 }

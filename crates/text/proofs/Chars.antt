@@ -1,5 +1,5 @@
 -- Characters at an offset: a law for each branch of `charOf`, and that a character ends within the text.
-use mathlib.Core.Path.{_≡_, ap, sym, _∙_}
+use mathlib.Core.Path.{_≡_, ap, _∙_}
 use mathlib.Core.Bool.{true, false}
 use mathlib.Core.List.{List}
 use mathlib.Core.Logic.{⊎-elim}
@@ -9,7 +9,6 @@ use borrow.Author.Needs.{needs}
 use borrow.Author.Tests.{lt-ltb, le-ltb, le-leb, lt-leb}
 use lib.Dec.{eqb}
 use lib.ListN.{length}
-use Rattle.text.specs.Walk.{skip}
 use Rattle.text.specs.Whitespace.{byte, Width}
 use Rattle.text.specs.Utf8.{twoBytes, threeBytes, fourBytes, charOf, charAt, charLen, skipChars, utf8}
 use Rattle.text.proofs.Tests.{le-or-lt, answer}

@@ -1,7 +1,7 @@
 -- S2, the other direction: what is well formed is the encoding of scalar values. The bytes of each row of the table give a scalar value whose
 -- encoding they are; the walk then gives the list of them, from the end of the text back.
-use mathlib.Core.Path.{_≡_, refl, sym, ap, subst, _∙_}
-use mathlib.Core.Bool.{Bool, true, false, cond, _&&_, _||_}
+use mathlib.Core.Path.{_≡_, refl, sym, subst, _∙_}
+use mathlib.Core.Bool.{Bool, true, _&&_, _||_}
 use mathlib.Core.List.{List, [], _∷_, _++_}
 use mathlib.Core.Logic.{⊎-elim}
 use Prim.Native.Nat.{ℕ, zero, suc, _+_, _-_, _*_, _/_, _%_, _≤_, _<_}
@@ -15,7 +15,7 @@ use lib.Seq.{drop-cons}
 use Rattle.text.specs.Class.{within}
 use Rattle.text.specs.Whitespace.{byte}
 use Rattle.text.specs.Utf8.{isContinuation, oneByte, twoBytes, threeBytes, fourBytes, charOf, charAt, charLen, skipChars, utf8}
-use Rattle.text.specs.Unicode.{isScalar, encode, encodeAll, Scalars, Encoded, Judges}
+use Rattle.text.specs.Unicode.{isScalar, encode, encodeAll, Encoded, Judges}
 use Rattle.text.proofs.Tests.{in-range, and-left, and-right, or-cases, range-of, by-test, le-or-lt}
 use Rattle.text.proofs.Chars.{char-fits, char-cut, char-inside}
 use Rattle.text.proofs.Codes.{encode-1, encode-2, encode-3, encode-4}

@@ -1,10 +1,12 @@
 pub mod Tests
 pub mod Walks
 pub mod Table
+pub mod Settled
 pub mod Spaces
 pub mod Ranges
 pub mod Trims
 pub mod Chars
+pub mod Blocks
 pub mod Codes
 pub mod Uax31
 pub mod Encoding

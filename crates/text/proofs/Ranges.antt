@@ -3,14 +3,13 @@ use mathlib.Core.Path.{_≡_, refl, sym, ap, ap₂, _∙_}
 use mathlib.Core.Bool.{Bool, true, false, _&&_, cond, false≢true, and-true, and-false, and-assoc}
 use mathlib.Core.List.{List, [], _∷_, _++_}
 use mathlib.Core.Logic.{⊎-elim}
-use Prim.Native.Nat.{ℕ, zero, suc, _+_, _-_, _≤_, _<_, min}
-use native.Mathlib.Numerals.{add-one}
+use Prim.Native.Nat.{ℕ, suc, _+_, _-_, _≤_, _<_, min}
 use native.Mathlib.Omega.{arith}
 use borrow.Author.Needs.{needs}
 use borrow.Author.Tests.{eq-eqb, ne-eqb, eqb-true}
 use lib.Dec.{eqb}
 use lib.ListN.{length, take, drop, length-take, length-drop}
-use lib.Seq.{drop-cons, take-length, take-all, take-suc, getD-drop}
+use lib.Seq.{take-length, take-all, take-suc, getD-drop}
 use Rattle.text.specs.Whitespace.{byte}
 use Rattle.text.specs.Range.{part, sameBytes, sameRange, lookaheadIs}
 use Rattle.text.specs.declared.Found.the-variants.{At, Nothing}
@@ -55,13 +54,6 @@ part-length s a e h = simp (length-take, length-drop) (omega arith)
 part-short : (s : List ℕ) (a n : ℕ) → length s - a < n → (length (part s a (a + n)) ≡ n → ⊥)
 unfolding part
 part-short s a n h e = omega (arith, simp (length-take, length-drop) at e)
-
-pub part-step : (s : List ℕ) (a e : ℕ) → a < e → e ≤ length s → part s a e ≡ byte s a ∷ part s (a + 1) e
-unfolding part
-part-step s a e h l =
-    let q : e - a ≡ suc (e - (a + 1)) = omega arith in
-    let g : a < length s = omega arith in
-    rw (q, drop-cons s a 0 g, add-one)
 
 pub part-none : (s : List ℕ) (a e : ℕ) → e ≤ a → part s a e ≡ []
 unfolding part

@@ -1,22 +1,23 @@
 -- Trimming. The end of a trimmed text is the first position from which only whitespace stands up to e; the loop jumps over each run of
 -- whitespace, which is right because no whitespace character starts inside another, so that a walk from inside the run ends where the run does.
-use mathlib.Core.Path.{_≡_, refl, sym, ap, _∙_}
-use mathlib.Core.Bool.{Bool, true, false, cond, not, _&&_, _||_}
+use mathlib.Core.Path.{_≡_, sym, ap, _∙_}
+use mathlib.Core.Bool.{Bool, true, not, _&&_, _||_, true≢false}
 use mathlib.Core.List.{List}
 use mathlib.Core.Logic.{⊎-elim}
-use Prim.Native.Nat.{ℕ, zero, suc, _+_, _-_, _%_, _≤_, _<_, min}
+use Prim.Native.Nat.{ℕ, zero, suc, _+_, _-_, _%_, _≤_, _<_}
 use native.Mathlib.Nat.{le-refl, lt-irrefl, lt-of-lt-of-le, lt-of-le-of-lt, eq-or-lt-of-le, eq-zero-or-pos}
 use native.Mathlib.Omega.{arith}
 use borrow.Author.Needs.{needs}
-use borrow.Author.Tests.{le-leb, lt-leb, eq-eqb, ne-eqb, eqb-true}
-use lib.Dec.{eqb}
+use borrow.Author.Tests.{le-leb, lt-leb, eq-eqb, ne-eqb, eqb-true, ltb-true}
+use lib.Dec.{eqb, ltb}
 use lib.ListN.{length}
 use Rattle.text.specs.Class.{isWhitespaceByte, isLineEnd, isBlank, isOtherWhitespace}
-use Rattle.text.specs.Walk.{first, last, Between}
+use Rattle.text.specs.Walk.{last, skip, Between}
 use Rattle.text.specs.Whitespace.{byte, isNextLine, isMark, isSeparator, whitespaceOf, whitespaceLen, Width}
 use Rattle.text.specs.Scan.{skipWhitespace, trimStart, trimEnd, backslashesBehind, backslashesBefore, keepEscaped, trimEndUnescaped}
 use Rattle.text.proofs.Tests.{and-left, and-right, or-cases, by-test, le-or-lt, equal, unequal}
-use Rattle.text.proofs.Walks.{first-here, first-none, first-over, last-found, last-again, last-ended, skip-stays, skip-goes}
+use Rattle.text.proofs.Walks.{first-here, first-none, first-over, last-found, last-again, last-ended, skip-stays, skip-goes, repeat-keeps}
+use Rattle.text.proofs.Settled.{none-white-above}
 use Rattle.text.proofs.Spaces.{white-inside}
 
 -- ---- no whitespace character starts inside another
@@ -124,7 +125,59 @@ module _ (s : List ℕ) where
   unfolding trimEnd
   trim-ended i k e before h = first-none _ _ _ h ∙ sym before
 
-pub ruleset trimming = (needs, trim-found, trim-again, trim-ended)
+-- ---- a byte that is above space and ASCII is no part of a whitespace character, so what ends with it is not trimmed
+
+three-first : (a b c : ℕ) → isMark a b c || isSeparator a b c ≡ true → a ≡ 0xe2
+three-first a b c e =
+    or-cases (isMark a b c) (isSeparator a b c) e (λ t. eqb-true a 0xe2 (and-left (eqb a 0xe2) _ t)) (λ t. eqb-true a 0xe2 (and-left (eqb a 0xe2) _ t))
+
+module _ (s : List ℕ) (p : ℕ) (above : 0x20 < byte s p) (ascii : byte s p < 0x80) where
+  not-one : (j : ℕ) → isWhitespaceByte (byte s j) ≡ true → j ≡ p → ⊥
+  not-one j e q = true≢false (sym e ∙ ap (λ (x : ℕ). isWhitespaceByte (byte s x)) q ∙ sym (none-white-above (byte s p) above))
+
+  not-high : (m : ℕ) → 0x80 ≤ byte s m → m ≡ p → ⊥
+  not-high m h q = omega (arith, ap (byte s) q)
+
+  stays-before : (j : ℕ) → j ≤ p → j + whitespaceLen s j ≤ p
+  unfolding whitespaceOf whitespaceLen
+  stays-before j h =
+      let a = byte s j in
+      let b = byte s (j + 1) in
+      let c = byte s (j + 2) in
+      let P : ℕ → Type 0 = λ n. j + n ≤ p in
+      by-test P (isWhitespaceByte a) 1 _ (λ e. omega (arith, not-one j e))
+      (λ _. by-test P (isNextLine a b) 2 _ (λ e. two (and-left (eqb a 0xc2) (eqb b 0x85) e) (and-right (eqb a 0xc2) (eqb b 0x85) e))
+      (λ _. by-test P (isMark a b c || isSeparator a b c) 3 0 (λ e. three (three-first a b c e) (three-bytes a b c e)) (λ _. omega arith)))
+    where
+      two : eqb (byte s j) 0xc2 ≡ true → eqb (byte s (j + 1)) 0x85 ≡ true → j + 2 ≤ p
+      two e f =
+          let n0 = not-high j (omega (arith, eqb-true (byte s j) 0xc2 e)) in
+          let n1 = not-high (j + 1) (omega (arith, eqb-true (byte s (j + 1)) 0x85 f)) in
+          omega (arith, n0, n1)
+
+      three : byte s j ≡ 0xe2 → (byte s (j + 1) ≡ 0x80) × (0x80 ≤ byte s (j + 2)) × (byte s (j + 2) < 0xc0) → j + 3 ≤ p
+      three e t =
+          let n0 = not-high j (omega arith) in
+          let n1 = not-high (j + 1) (omega (arith, t .0)) in
+          let n2 = not-high (j + 2) (t .1) in
+          omega (arith, n0, n1, n2)
+
+  stops-before : (k : ℕ) → k ≤ p → skipWhitespace s k ≤ p
+  unfolding skip
+  stops-before k h = repeat-keeps (λ j. j ≤ p) (λ j. j + whitespaceLen s j) stays-before (length s) k h
+
+nothing-behind : (s : List ℕ) (i e : ℕ) → i < e → 0x20 < byte s (e - 1) → byte s (e - 1) < 0x80 → e ≡ trimEnd s i e
+unfolding trimEnd
+nothing-behind s i e l above ascii =
+    first-none _ e e (le-refl e)
+    ∙ sym (first-over _ i e e (omega arith) (le-refl e) (λ m a b. lt-leb e (skipWhitespace s m) (omega (arith, stops-before s (e - 1) above ascii m (omega arith)))))
+
+pub nothing-trailing : (s : List ℕ) (i e : ℕ) → i < e → ltb 0x20 (byte s (e - 1)) && ltb (byte s (e - 1)) 0x80 ≡ true → e ≡ trimEnd s i e
+nothing-trailing s i e l t =
+    let b = byte s (e - 1) in
+    nothing-behind s i e l (ltb-true 0x20 b (and-left (ltb 0x20 b) (ltb b 0x80) t)) (ltb-true b 0x80 (and-right (ltb 0x20 b) (ltb b 0x80) t))
+
+pub ruleset trimming = (needs, trim-found, trim-again, trim-ended, nothing-trailing)
 
 -- ---- at the start
 

@@ -1,7 +1,7 @@
 -- 01, Characters: the classes of a byte. A byte of 128 or more is in none of them.
 use Prim.Native.Nat.{ℕ}
 use mathlib.Core.Path.{_≡_}
-use mathlib.Core.Bool.{Bool, true, false, _&&_, _||_, not}
+use mathlib.Core.Bool.{Bool, false, _&&_, _||_, not}
 use mathlib.Core.List.{List, [], _∷_}
 use lib.Dec.{leb, eqb}
 use lib.Bits.{bitAnd}
@@ -27,15 +27,15 @@ isBlank b = among (0x20 ∷ 0x09 ∷ []) b
 unfoldable pub isOtherWhitespace : ℕ → Bool
 isOtherWhitespace b = eqb b 0x0c
 
--- A to Z, a to z
+-- A to Z, a to z (01, Characters)
 unfoldable pub isLetter : ℕ → Bool
 isLetter b = within 0x41 0x5a b || within 0x61 0x7a b
 
--- 0 to 9
+-- 0 to 9 (01, Characters)
 unfoldable pub isDigit : ℕ → Bool
 isDigit b = within 0x30 0x39 b
 
--- 0 to 9, A to F, a to f
+-- 0 to 9, A to F, a to f (01, Characters)
 unfoldable pub isHexDigit : ℕ → Bool
 isHexDigit b = within 0x30 0x39 b || (within 0x41 0x46 b || within 0x61 0x66 b)
 
@@ -49,11 +49,15 @@ unfoldable pub isEscapeLetter : ℕ → Bool
 isEscapeLetter b =
     among (0x61 ∷ 0x66 ∷ 0x6e ∷ 0x72 ∷ 0x74 ∷ 0x76 ∷ 0x70 ∷ 0x50 ∷ 0x64 ∷ 0x44 ∷ 0x73 ∷ 0x53 ∷ 0x77 ∷ 0x57 ∷ 0x41 ∷ 0x7a ∷ []) b
 
+-- a meta character, a digit or an escape letter: an escape of it stays as it is (01, Rules)
+unfoldable pub isAlwaysKept : ℕ → Bool
+isAlwaysKept b = isMetaCharacter b || (isDigit b || isEscapeLetter b)
+
 -- the number x has a bit of the mask m
 abbrev pub has : ℕ → ℕ → Bool
 has x m = not (eqb (bitAnd x m) 0)
 
--- the number x tells the classes of the byte b: a bit for each
+-- the number x tells the classes of the byte b, a bit for each (01, Characters)
 pub record Classes (b x : ℕ) : Type 0 where
   pub lineEnd : has x 1 ≡ isLineEnd b
   pub blank : has x 2 ≡ isBlank b
@@ -64,7 +68,7 @@ pub record Classes (b x : ℕ) : Type 0 where
   pub metaCharacter : has x 64 ≡ isMetaCharacter b
   pub escapeLetter : has x 128 ≡ isEscapeLetter b
 
--- the whitespace characters of one byte
+-- the whitespace characters of one byte (01, Characters)
 unfoldable pub isWhitespaceByte : ℕ → Bool
 isWhitespaceByte b = isLineEnd b || (isBlank b || isOtherWhitespace b)
 

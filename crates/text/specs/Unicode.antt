@@ -1,6 +1,6 @@
 -- Code points, their encoding form UTF-8, and the sets of UAX #31 that 01 names (01, Characters).
 use mathlib.Core.Path.{_≡_}
-use mathlib.Core.Bool.{Bool, true, false, cond, _||_}
+use mathlib.Core.Bool.{Bool, true, cond, _||_}
 use mathlib.Core.List.{List, [], _∷_, _++_}
 use Prim.Native.Nat.{ℕ, _+_, _/_, _%_}
 use lib.Dec.{ltb}
@@ -39,18 +39,18 @@ pub record Judges (s : List ℕ) (r : Bool) : Type 0 where
   pub sound : r ≡ true → Encoded s
   pub complete : Encoded s → r ≡ true
 
--- Pattern_White_Space of UAX #31: U+0009 to U+000D, U+0020, U+0085, U+200E, U+200F, U+2028, U+2029
+-- Pattern_White_Space of UAX #31: U+0009 to U+000D, U+0020, U+0085, U+200E, U+200F, U+2028, U+2029 (01, Characters)
 abbrev pub patternWhiteSpace : List ℕ
 patternWhiteSpace = 0x09 ∷ 0x0a ∷ 0x0b ∷ 0x0c ∷ 0x0d ∷ 0x20 ∷ 0x85 ∷ 0x200e ∷ 0x200f ∷ 0x2028 ∷ 0x2029 ∷ []
 
--- the line ends among them: U+000A, U+000B, U+000D, U+2028, U+2029
+-- the line ends among them: U+000A, U+000B, U+000D, U+2028, U+2029 (01, Characters)
 abbrev pub lineTerminators : List ℕ
 lineTerminators = 0x0a ∷ 0x0b ∷ 0x0d ∷ 0x2028 ∷ 0x2029 ∷ []
 
--- c is a whitespace character
+-- c is a whitespace character (01, Characters)
 unfoldable pub isPatternWhiteSpace : ℕ → Bool
 isPatternWhiteSpace c = among patternWhiteSpace c
 
--- c is a line end
+-- c is a line end (01, Characters)
 unfoldable pub isLineTerminator : ℕ → Bool
 isLineTerminator c = among lineTerminators c

@@ -1,6 +1,6 @@
--- Three walks over positions, of which every scanner is an instance. A `let` keeps a walk from computing past its answer.
+-- Walks over positions, of which every search in a text is an instance. A `let` keeps a walk from computing past its end.
 use mathlib.Core.Path.{_≡_}
-use mathlib.Core.Bool.{Bool, true, false, cond}
+use mathlib.Core.Bool.{Bool, false, cond, _||_}
 use Prim.Native.Nat.{ℕ, zero, suc, _+_, _-_, _≤_}
 use lib.Dec.{eqb}
 use Rattle.text.specs.declared.Found.{Found}
@@ -26,6 +26,11 @@ unfoldable pub last : (ℕ → Bool) → ℕ → ℕ → Found
 unfolding lastOf
 last test i e = lastOf test i (e - i)
 
+-- one of the first n positions passes the test
+unfoldable pub any : (ℕ → Bool) → ℕ → Bool
+any test zero = false
+any test (suc n) = any test n || test n
+
 -- k, then next k, and so on until it stays the same: at most n times
 unfoldable pub repeat : (ℕ → ℕ) → ℕ → ℕ → ℕ
 repeat next zero k = k
@@ -35,7 +40,7 @@ repeat next (suc n) k = let j = next k in let r = repeat next n j in cond (eqb j
 unfoldable pub skip : (ℕ → ℕ) → ℕ → ℕ → ℕ
 skip width n k = repeat (λ j. j + width j) n k
 
--- what a scanner from i to e answers: n, which is not before i and not past e
+-- r is n, which is not before i and not past e
 pub record Between (i e n r : ℕ) : Type 0 where
   pub is : r ≡ n
   pub from : i ≤ r

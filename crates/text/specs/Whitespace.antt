@@ -1,9 +1,9 @@
 -- 01, Characters: whitespace characters and line ends, as they stand in the bytes of a text. `Unicode` has their code points.
 use mathlib.Core.Path.{_≡_}
-use mathlib.Core.Bool.{Bool, true, false, _&&_, _||_, cond}
+use mathlib.Core.Bool.{Bool, _&&_, _||_, cond}
 use mathlib.Core.List.{List}
 use Prim.Native.Nat.{ℕ, _+_, _≤_}
-use lib.Dec.{eqb, ltb}
+use lib.Dec.{eqb, ltb, leb}
 use lib.ListN.{getD, length}
 use Rattle.text.specs.Class.{isWhitespaceByte, isLineEnd}
 
@@ -47,7 +47,11 @@ atWhitespace s i = ltb 0 (whitespaceLen s i)
 abbrev pub atLineEnd : List ℕ → ℕ → Bool
 atLineEnd s i = ltb 0 (lineEndLen s i)
 
--- what a function that measures a character at i answers: n, and that many bytes stand there
+-- 0A to 0D, and E2: every line end starts with one of these bytes, though form feed is none (01, Characters)
+abbrev pub mayEndLine : ℕ → Bool
+mayEndLine a = (leb 0x0a a && leb a 0x0d) || eqb a 0xe2
+
+-- r is n, and that many bytes stand at i
 pub record Width (s : List ℕ) (i n r : ℕ) : Type 0 where
   pub is : r ≡ n
   pub fits : i + r ≤ length s

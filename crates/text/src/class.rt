@@ -1,6 +1,6 @@
 // The classes of a byte, by one table (01, Characters).
 ghost use mathlib.Core.Path.{_≡_};
-ghost use Rattle.text.specs.Class.{Classes, isLineEnd, isBlank, isOtherWhitespace, isLetter, isDigit, isHexDigit, isMetaCharacter, isEscapeLetter, isWhitespaceByte, isAsciiWhitespace};
+ghost use Rattle.text.specs.Class.{Classes, isLineEnd, isBlank, isOtherWhitespace, isLetter, isDigit, isHexDigit, isMetaCharacter, isEscapeLetter, isAlwaysKept, isWhitespaceByte, isAsciiWhitespace};
 
 // A mask for each byte: 1 line end, 2 blank, 4 other whitespace, 8 letter, 16 digit, 32 hex digit, 64 meta character,
 // 128 escape letter.
@@ -269,15 +269,30 @@ pub fn class(b: u8) -> u8
     CLASS[b as usize]
 }
 
+// The table is laid out anew on the stack for each look into it, since a constant array has no place of its own. So line feed, space and what
+// is above them, by far the most bytes of a file, are told before.
+
 pub fn is_line_end(b: u8) -> bool
     ensures { λ r. ⌜ r ≡ isLineEnd b ⌝ }
 {
+    if b == 0x0a {
+        return true;
+    }
+    if 0x0d < b {
+        return false;
+    }
     class(b) & 1 != 0
 }
 
 pub fn is_blank(b: u8) -> bool
     ensures { λ r. ⌜ r ≡ isBlank b ⌝ }
 {
+    if b == 0x20 {
+        return true;
+    }
+    if 0x20 < b {
+        return false;
+    }
     class(b) & 2 != 0
 }
 
@@ -317,11 +332,26 @@ pub fn is_escape_letter(b: u8) -> bool
     class(b) & 128 != 0
 }
 
+// Whether an escape of the byte stays whatever follows: one look into the table for three classes.
+pub fn is_always_kept(b: u8) -> bool
+    ensures { λ r. ⌜ r ≡ isAlwaysKept b ⌝ }
+{
+    let mask = class(b);
+    (mask & 64 != 0) | ((mask & 16 != 0) | (mask & 128 != 0))
+}
+
 // Whether a byte is a whitespace character by itself.
 pub fn is_whitespace_byte(b: u8) -> bool
     ensures { λ r. ⌜ r ≡ isWhitespaceByte b ⌝ }
 {
-    is_line_end(b) | (is_blank(b) | is_other_whitespace(b))
+    if (b == 0x20) | (b == 0x0a) {
+        return true;
+    }
+    if 0x20 < b {
+        return false;
+    }
+    let mask = class(b);
+    (mask & 1 != 0) | ((mask & 2 != 0) | (mask & 4 != 0))
 }
 
 // What `split_ascii_whitespace` splits at: vertical tab is not in it.

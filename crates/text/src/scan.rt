@@ -2,8 +2,9 @@
 ghost use mathlib.Core.Path.{_≡_};
 ghost use Prim.Native.Nat.{_+_, _≤_};
 ghost use lib.ListN.{length};
-ghost use Rattle.text.specs.Walk.{Between};
-ghost use Rattle.text.specs.Scan.{skipWhitespace, skipLineEnds, skipBlanks, lineEnd, findWhitespace, skipAsciiWhitespace, findAsciiWhitespace, findByte, lastBlank, trimStart, trimEnd, backslashesBefore, trimEndUnescaped};
+ghost use Rattle.text.specs.Walk.{Between, any};
+ghost use Rattle.text.specs.Whitespace.{byte, mayEndLine};
+ghost use Rattle.text.specs.Scan.{skipWhitespace, skipLineEnds, skipBlanks, findLineEnd, lineEnd, findWhitespace, skipAsciiWhitespace, findAsciiWhitespace, findByte, lastBlank, trimStart, trimEnd, backslashesBefore, trimEndUnescaped};
 use crate::Found;
 use crate::class::is_ascii_whitespace;
 use crate::class::is_blank;
@@ -11,6 +12,9 @@ use crate::whitespace::at_line_end;
 use crate::whitespace::line_end_len;
 use crate::whitespace::matches_whitespace;
 use crate::whitespace::whitespace_len;
+
+// How many bytes are looked at together.
+const BLOCK: usize = 16;
 
 // Past the whitespace at i.
 pub fn parse_ws(s: &[u8], i: usize) -> usize
@@ -57,19 +61,53 @@ pub fn parse_spaces(s: &[u8], i: usize) -> usize
     k
 }
 
-// Where the line ends that i stands in.
+// The first line end from i to before e, or e.
+fn find_line_end(s: &[u8], i: usize, e: usize) -> usize
+    requires { ⌜ (i ≤ e) × (e ≤ length (now s)) ⌝ }
+    ensures { λ r. ⌜ Between i e (findLineEnd (now (s .entry)) i e) r ⌝ }
+{
+    let mut k = i;
+    while k < e {
+        if at_line_end(s, k) {
+            return k;
+        }
+        k += 1;
+    }
+    k
+}
+
+// Whether one of the 16 bytes from i on may start a line end. It looks at all of them, so that the compiler can take them at once.
+fn block_may_end_line(s: &[u8], i: usize) -> bool
+    requires { ⌜ i + 16 ≤ length (now s) ⌝ }
+    ensures { λ r. ⌜ r ≡ any (λ j. mayEndLine (byte (now (s .entry)) (i + j))) 16 ⌝ }
+{
+    let mut found = false;
+    let mut j = 0;
+    while j < BLOCK {
+        let b = s[i + j];
+        found = found | (((0x0a <= b) & (b <= 0x0d)) | (b == 0xe2));
+        j += 1;
+    }
+    found
+}
+
+// Where the line ends that i stands in. Blocks without a candidate are passed at once.
 pub fn line_end(s: &[u8], i: usize) -> usize
     requires { ⌜ i ≤ length (now s) ⌝ }
     ensures { λ r. ⌜ Between i (length (now (s .entry))) (lineEnd (now (s .entry)) i) r ⌝ }
 {
-    let mut end = i;
-    while end < s.len() {
-        if at_line_end(s, end) {
-            return end;
+    let mut k = i;
+    while k + BLOCK <= s.len() {
+        let next = k + BLOCK;
+        if block_may_end_line(s, k) {
+            let end = find_line_end(s, k, next);
+            if end < next {
+                return end;
+            }
         }
-        end += 1;
+        k = next;
     }
-    end
+    find_line_end(s, k, s.len())
 }
 
 // The first whitespace character from i to before e, or e.
@@ -156,11 +194,18 @@ pub fn trim_start(s: &[u8], i: usize, e: usize) -> usize
     e
 }
 
-// Each byte is passed once: whitespace goes from k to w, and what stands at w is none, so the end is past w.
+// Most texts end with a byte that is no part of whitespace. Otherwise each byte is passed once: whitespace goes from k to w, and what stands
+// at w is none, so the end is past w.
 pub fn trim_end(s: &[u8], i: usize, e: usize) -> usize
     requires { ⌜ (i ≤ e) × (e ≤ length (now s)) ⌝ }
     ensures { λ r. ⌜ Between i e (trimEnd (now (s .entry)) i e) r ⌝ }
 {
+    if i < e {
+        let b = s[e - 1];
+        if (0x20 < b) & (b < 0x80) {
+            return e;
+        }
+    }
     let mut k = i;
     while k < e {
         let w = parse_ws(s, k);

@@ -4,7 +4,7 @@ ghost use Prim.Native.Nat.{_≤_};
 ghost use lib.ListN.{length};
 ghost use Rattle.text.specs.Whitespace.{Width};
 ghost use Rattle.text.specs.Utf8;
-ghost use Rattle.text.specs.Utf8.{isContinuation, twoBytes, threeBytes, fourBytes, charOf, charLen};
+ghost use Rattle.text.specs.Utf8.{isContinuation, twoBytes, threeBytes, fourBytes, charOf, charLen, isAscii};
 use crate::whitespace::byte_at;
 
 pub fn is_continuation(b: u8) -> bool
@@ -76,9 +76,25 @@ pub fn char_len(s: &[u8], k: usize) -> usize
     0
 }
 
+// It looks at every byte whatever it finds, so that the compiler can take many at once.
+fn is_ascii(s: &[u8]) -> bool
+    ensures { λ r. ⌜ r ≡ isAscii (now (s .entry)) ⌝ }
+{
+    let mut above = false;
+    let mut k = 0;
+    while k < s.len() {
+        above = above | (0x80 <= s[k]);
+        k += 1;
+    }
+    !above
+}
+
 pub fn utf8(s: &[u8]) -> bool
     ensures { λ r. ⌜ r ≡ Utf8.utf8 (now (s .entry)) ⌝ }
 {
+    if is_ascii(s) {
+        return true;
+    }
     let mut k = 0;
     loop {
         let n = char_len(s, k);

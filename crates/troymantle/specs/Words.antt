@@ -3,6 +3,7 @@ use Prim.Native.Nat.{ℕ}
 use mathlib.Core.List.{List}
 use Rattle.parse.specs.Parse.{Left, wordOf}
 
+-- what a call leaves: its word, the six counts and the six areas (01, Numbers given at the counter)
 pub record LeftInWords : Type 0 where
   pub answer : ℕ
   pub counts : List ℕ
@@ -13,6 +14,7 @@ pub record LeftInWords : Type 0 where
   pub area5 : List ℕ
   pub area6 : List ℕ
 
+-- the record of these
 abbrev pub leftInWords : ℕ → List ℕ → List ℕ → List ℕ → List ℕ → List ℕ → List ℕ → List ℕ → LeftInWords
 leftInWords r n x1 x2 x3 x4 x5 x6 = record { answer = r; counts = n; area1 = x1; area2 = x2; area3 = x3; area4 = x4; area5 = x5; area6 = x6 }
 

@@ -6,14 +6,16 @@ ghost use Rattle.troymantle.specs.Words.{inWords, leftInWords};
 use parse::Answer;
 use parse::call::parse;
 
+mod pattern;
+
 fn word_of(answer: Answer) -> u64
     ensures { λ r. ⌜ r ≡ wordOf answer ⌝ }
 {
     match answer {
         Answer::Accepted => 0,
         Answer::LongFile => 1,
-        Answer::StrayFlag => 2,
-        Answer::NotText => 3,
+        Answer::UnknownFlag => 2,
+        Answer::InvalidUtf8 => 3,
         Answer::AreaFull(n) => 4 + 65536 * (n as u64),
         Answer::FaultyFile(n) => 5 + 65536 * (n as u64),
     }

@@ -1,4 +1,4 @@
--- `escape::is_kept_by` meets its contract: the classes of the two bytes.
+-- `escape::is_kept_by` meets its contract: the classes of the byte, or a code.
 use Rattle.escape.proofs.Kept.{keeping}
 use Rattle.escape.proofs.is_kept_by.Statement.{statement}
 use Rattle.escape.proofs.is_kept_by.Tie as tie
@@ -8,8 +8,6 @@ is-kept-by-spec =
     tie.close
     (tie.spec
     (λ c κs. search keeping)
-    (λ c κs. search keeping)
-    (λ c κs. search keeping)
-    (λ c κs. search keeping)
+    (λ c. search keeping)
     (λ c κs. search keeping)
     (λ c. search keeping))

@@ -1,27 +1,30 @@
--- `troymantle::word_of` meets its contract: each answer has its word.
-use Rattle.troymantle.proofs.Words.{words}
+-- `troymantle::word_of` meets its contract: each return is the word of the answer that the branch is taken for.
+use mathlib.Core.Path.{sym, ap}
+use borrow.Author.Needs.{needs}
+use Rattle.parse.specs.Parse.{wordOf}
 use Rattle.troymantle.proofs.word_of.Statement.{statement}
 use Rattle.troymantle.proofs.word_of.Tie as tie
 
 pub word-of-spec : {M : Type 1} → statement M
+unfolding wordOf
 word-of-spec =
     tie.close
     (tie.spec
-    (λ c. search words)
-    (λ c. search words)
-    (λ c. search words)
-    (λ c. search words)
-    (λ c. search words)
-    (λ c. search words)
-    (λ c. search words)
-    (λ c. search words)
-    (λ c. search words)
-    (λ c. search words)
-    (λ c. search words)
-    (λ c. search words)
-    (λ c. search words)
-    (λ c. search words)
-    (λ c. search words)
-    (λ c. search words)
-    (λ c. search words)
-    (λ c. search words))
+    (λ c. search needs)
+    (λ c. search needs)
+    (λ c. search needs)
+    (λ c. search needs)
+    (λ c. search needs)
+    (λ c. search needs)
+    (λ c. search needs)
+    (λ c. search needs)
+    (λ c. search needs)
+    (λ c. search needs)
+    (λ c. search needs)
+    (λ c. search needs)
+    (λ c. ap wordOf (sym (c .enum-told .given .1)))
+    (λ c. ap wordOf (sym (c .enum-told2 .given .1)))
+    (λ c. ap wordOf (sym (c .enum-told3 .given .1)))
+    (λ c. ap wordOf (sym (c .enum-told4 .given .1)))
+    (λ c. ap wordOf (sym (c .before .answer .given .1)))
+    (λ c. ap wordOf (sym (c .before .answer2 .given .1))))

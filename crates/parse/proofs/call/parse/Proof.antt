@@ -1,17 +1,17 @@
 -- `parse::call::parse` meets its contract: the areas are zero before the first test, and each test is that of the definition.
 use mathlib.Core.Path.{refl}
 use borrow.Author.Needs.{needs}
-use Rattle.parse.proofs.Calls.{call-long, call-stray, call-untext, call-text, zeroed-by}
+use Rattle.parse.proofs.Calls.{call-long-file, call-unknown-flag, call-invalid-utf8, call-text, zeroed-by}
 use Rattle.parse.proofs.call.parse.Statement.{statement}
 use Rattle.parse.proofs.call.parse.Tie as tie
 
 returns : tie.Need-returns
 returns c =
-    call-long _ _ _ _ _ _ _ _ _ (c .if1 .taken) _ _ _ _ _ _ (c .before .before .before .before .before .before .before .before .before .before .before .before .before .clear-all .ensures) _ refl
+    call-long-file _ _ _ _ _ _ _ _ _ (c .if1 .taken) _ _ _ _ _ _ (c .before .before .before .before .before .before .before .before .before .before .before .before .before .clear-all .ensures) _ refl
 
 returns-2 : tie.Need-returns-2
 returns-2 c =
-    call-stray _ _ _ _ _ _ _ _ _ (c .before .if1 .left) (c .if2 .taken) _ _ _ _ _ _ (c .before .before .before .before .before .before .before .before .before .before .before .before .before .before .clear-all .ensures) _ refl
+    call-unknown-flag _ _ _ _ _ _ _ _ _ (c .before .if1 .left) (c .if2 .taken) _ _ _ _ _ _ (c .before .before .before .before .before .before .before .before .before .before .before .before .before .before .clear-all .ensures) _ refl
 
 parse-text-requires : tie.Need-parse-text-requires
 parse-text-requires c κs =
@@ -24,7 +24,7 @@ returns-3 c =
 
 returns-4 : tie.Need-returns-4
 returns-4 c =
-    call-untext _ _ _ _ _ _ _ _ _ (c .before .before .before .if1 .left) (c .before .before .if2 .left) _ (c .before .utf8 .ensures) (c .if3 .left) _ _ _ _ _ _ (c .before .before .before .before .before .before .before .before .before .before .before .before .before .before .before .before .clear-all .ensures) _ refl
+    call-invalid-utf8 _ _ _ _ _ _ _ _ _ (c .before .before .before .if1 .left) (c .before .before .if2 .left) _ (c .before .utf8 .ensures) (c .if3 .left) _ _ _ _ _ _ (c .before .before .before .before .before .before .before .before .before .before .before .before .before .before .before .before .clear-all .ensures) _ refl
 
 pub parse-spec : {M : Type 1} → statement M
 parse-spec =

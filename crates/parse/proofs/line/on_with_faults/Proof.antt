@@ -1,5 +1,7 @@
 -- `parse::line::on_with_faults` meets its contract: each case of the answer.
-use Rattle.parse.proofs.RuleLines.{faulting}
+use mathlib.Core.Path.{sym, ap}
+use borrow.Author.Needs.{needs}
+use Rattle.parse.specs.Answers.{afterFaults}
 use Rattle.parse.proofs.line.on_with_faults.Statement.{statement}
 use Rattle.parse.proofs.line.on_with_faults.Tie as tie
 
@@ -7,7 +9,7 @@ pub on-with-faults-spec : {M : Type 1} → statement M
 on-with-faults-spec =
     tie.close
     (tie.spec
-    (λ c. search faulting)
-    (λ c. search faulting)
-    (λ c. search faulting)
-    (λ c. search faulting))
+    (λ c. search needs)
+    (λ c. search needs)
+    (λ c. ap (afterFaults _ _) (sym (c .before .p .given .1)))
+    (λ c. ap (afterFaults _ _) (sym (c .enum-told .given .1))))

@@ -1,18 +1,18 @@
 -- `parse::line::with_faults` meets its contract: each case of the progress.
-use Rattle.parse.proofs.RuleLines.{faulting, faulted-full}
+use mathlib.Core.Path.{sym, ap}
+use borrow.Author.Needs.{needs}
+use Rattle.fault.specs.Step.{onto}
+use Rattle.parse.specs.Answers.{sheetProgress}
 use Rattle.parse.proofs.line.with_faults.Statement.{statement}
 use Rattle.parse.proofs.line.with_faults.Tie as tie
-
-returns-3 : tie.Need-returns-3
-returns-3 c = faulted-full _ _ _ (c .before .p3 .given .1)
 
 pub with-faults-spec : {M : Type 1} → statement M
 with-faults-spec =
     tie.close
     (tie.spec
-    (λ c. search faulting)
-    (λ c. search faulting)
-    (λ c. search faulting)
-    (λ c. search faulting)
-    (λ c. search faulting)
-    returns-3)
+    (λ c. search needs)
+    (λ c. search needs)
+    (λ c. search needs)
+    (λ c. ap (onto _) (ap sheetProgress (sym (c .before .p .given .1))))
+    (λ c. ap (onto _) (ap sheetProgress (sym (c .before .p2 .given .1))))
+    (λ c. ap (onto _) (ap sheetProgress (sym (c .before .p3 .given .1)))))

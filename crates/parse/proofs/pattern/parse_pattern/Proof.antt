@@ -4,8 +4,8 @@ use Rattle.parse.proofs.Patterns.{patterning, list-to, pattern-listed, 
 use Rattle.parse.proofs.pattern.parse_pattern.Statement.{statement}
 use Rattle.parse.proofs.pattern.parse_pattern.Tie as tie
 
-parse-entries-requires : tie.Need-parse-entries-requires
-parse-entries-requires c κs =
+parse-start-states-requires : tie.Need-parse-start-states-requires
+parse-start-states-requires c κs =
     let start = c .before .before .before .before .before .before .before .before .before .before .before in
     let body = c .before .before .before .before .body-of .ensures in
     let listed = c .before .before .g .given .1 in (
@@ -23,7 +23,7 @@ returns-2 : tie.Need-returns-2
 returns-2 c =
     let start = c .before .before .before .before .before .before .before .before .before .before .before .before .before .before .before .before .before .before .before .before .before .before .before .before in
     let body = c .before .before .before .before .before .before .before .before .before .before .before .before .before .before .before .before .before .body-of in
-    let listed = c .before .before .before .before .before .before .before .before .before .before .before .before .parse-entries in
+    let listed = c .before .before .before .before .before .before .before .before .before .before .before .before .parse-start-states in
     let made = c .before .before .before .record-rule in
     pattern-listed _ _ _ _ _ _ _ _ _ _ _ _ (start .pre .1 .1) _ (body .ensures) _ (made .result) (made .ensures) (c .with-counts .result) _
     (c .before .before .before .before .before .before .before .before .before .before .before .before .before .before .before .g .given .1) (listed .result) (listed .ensures) _ _ (c .before .before .before .before .before .before .before .before .m .given .1) _
@@ -51,7 +51,7 @@ parse-pattern-spec =
     (λ c. search patterning)
     (λ c. search patterning)
     (λ c. search patterning)
-    parse-entries-requires
+    parse-start-states-requires
     (λ c. search patterning)
     (λ c κs. search patterning)
     (λ c κs. search patterning)

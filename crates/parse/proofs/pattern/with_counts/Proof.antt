@@ -1,18 +1,17 @@
 -- `parse::pattern::with_counts` meets its contract: each case of the progress.
-use Rattle.parse.proofs.Patterns.{counting, counted-full}
+use mathlib.Core.Path.{sym, ap}
+use borrow.Author.Needs.{needs}
+use Rattle.fault.specs.Step.{onto, progress}
 use Rattle.parse.proofs.pattern.with_counts.Statement.{statement}
 use Rattle.parse.proofs.pattern.with_counts.Tie as tie
-
-returns-3 : tie.Need-returns-3
-returns-3 c = counted-full _ _ _ _ (c .before .p3 .given .1)
 
 pub with-counts-spec : {M : Type 1} → statement M
 with-counts-spec =
     tie.close
     (tie.spec
-    (λ c. search counting)
-    (λ c. search counting)
-    (λ c. search counting)
-    (λ c. search counting)
-    (λ c. search counting)
-    returns-3)
+    (λ c. search needs)
+    (λ c. search needs)
+    (λ c. search needs)
+    (λ c. ap (onto _) (ap progress (sym (c .before .p .given .1))))
+    (λ c. ap (onto _) (ap progress (sym (c .before .p2 .given .1))))
+    (λ c. ap (onto _) (ap progress (sym (c .before .p3 .given .1)))))

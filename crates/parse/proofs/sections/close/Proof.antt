@@ -1,5 +1,7 @@
 -- `parse::sections::close` meets its contract: the answer by its cases.
-use Rattle.parse.proofs.Files.{answering}
+use mathlib.Core.Path.{sym, ap}
+use borrow.Author.Needs.{needs}
+use Rattle.parse.specs.Answers.{closedBy}
 use Rattle.parse.proofs.sections.close.Statement.{statement}
 use Rattle.parse.proofs.sections.close.Tie as tie
 
@@ -7,7 +9,7 @@ pub close-spec : {M : Type 1} → statement M
 close-spec =
     tie.close
     (tie.spec
-    (λ c. search answering)
-    (λ c. search answering)
-    (λ c. search answering)
-    (λ c. search answering))
+    (λ c. search needs)
+    (λ c. search needs)
+    (λ c. ap closedBy (sym (c .before .p .given .1)))
+    (λ c. ap closedBy (sym (c .enum-told .given .1))))

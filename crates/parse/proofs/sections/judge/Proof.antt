@@ -1,5 +1,5 @@
 -- `parse::sections::judge` meets its contract: the answer by its cases.
-use Rattle.parse.proofs.Files.{answering}
+use Rattle.parse.proofs.Files.{judging}
 use Rattle.parse.proofs.sections.judge.Statement.{statement}
 use Rattle.parse.proofs.sections.judge.Tie as tie
 
@@ -7,5 +7,5 @@ pub judge-spec : {M : Type 1} → statement M
 judge-spec =
     tie.close
     (tie.spec
-    (λ c. search answering)
-    (λ c. search answering))
+    (λ c. search judging)
+    (λ c. search judging))

@@ -1,4 +1,5 @@
 -- `sheet_check::check::good_contents` meets its contract: each area is long enough to be read, and the tests of the areas are joined.
+use borrow.Author.Needs.{needs}
 use Rattle.sheet_check.proofs.Judging.{long-areas, contents-judged}
 use Rattle.sheet_check.proofs.check.good_contents.Statement.{statement}
 use Rattle.sheet_check.proofs.check.good_contents.Tie as tie
@@ -10,8 +11,10 @@ pub good-contents-spec : {M : Type 1} → statement M
 good-contents-spec =
     tie.close
     (tie.spec
-    (λ c κs. long-areas _ (c .before .before .before .before .before .before .pre) .long1)
-    (λ c κs. long-areas _ (c .before .before .before .before .before .before .before .pre) .long2)
-    (λ c κs. long-areas _ (c .before .before .before .before .before .before .before .before .pre) .long3)
-    (λ c κs. long-areas _ (c .before .before .before .before .before .before .before .before .before .pre) .long5)
+    (λ c. search needs)
+    (λ c. search needs)
+    (λ c κs. long-areas _ (c .before .before .before .before .before .before .before .before .before .before .before .pre) .long1)
+    (λ c κs. long-areas _ (c .before .before .before .before .before .before .before .before .before .before .before .before .pre) .long2)
+    (λ c κs. long-areas _ (c .before .before .before .before .before .before .before .before .before .before .before .before .before .pre) .long3)
+    (λ c κs. long-areas _ (c .before .before .before .before .before .before .before .before .before .before .before .before .before .before .pre) .long5)
     returns)

@@ -1,17 +1,17 @@
--- `text::scan::line_end` meets its contract: from where the loop stands the first position is the same.
+-- `text::scan::line_end` meets its contract: from where the loop stands the line ends at the same place; a block is passed or ends it.
 use mathlib.Core.Path.{_≡_}
 use Prim.Native.Nat.{_≤_, _-_}
 use lib.ListN.{length}
 use Rattle.text.specs.Scan.{lineEnd}
-use Rattle.text.proofs.Walks.{scanning}
+use Rattle.text.proofs.Blocks.{passing-blocks}
 use Rattle.text.proofs.scan.line_end.Statement.{statement}
 use Rattle.text.proofs.scan.line_end.Tie as tie
 
 abbrev Inv-loop : tie.InvT-loop
-Inv-loop s i end₀ end = (i ≤ end) × (end ≤ length s) × (lineEnd s i ≡ lineEnd s end)
+Inv-loop s i k₀ k = (i ≤ k) × (k ≤ length s) × (lineEnd s i ≡ lineEnd s k)
 
 abbrev μ-loop : tie.MeasureT-loop
-μ-loop s i end₀ end = length s - end
+μ-loop s i k₀ k = length s - k
 
 pub line-end-spec : {M : Type 1} → statement M
 line-end-spec =
@@ -19,10 +19,15 @@ line-end-spec =
     (tie.spec
     Inv-loop
     μ-loop
-    (λ c. search scanning)
-    (λ c κs. search scanning)
-    (λ c. search scanning)
-    (λ c. search scanning)
-    (λ c. search scanning)
-    (λ c. search scanning)
-    (λ c. search scanning))
+    (λ c. search passing-blocks)
+    (λ c. search passing-blocks)
+    (λ c. search passing-blocks)
+    (λ c κs. search passing-blocks)
+    (λ c κs. search passing-blocks)
+    (λ c. search passing-blocks)
+    (λ c. search passing-blocks)
+    (λ c. search passing-blocks)
+    (λ c. search passing-blocks)
+    (λ c. search passing-blocks)
+    (λ c κs. search passing-blocks)
+    (λ c. search passing-blocks))

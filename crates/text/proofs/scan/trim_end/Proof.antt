@@ -1,4 +1,4 @@
--- `text::scan::trim_end` meets its contract: from where the loop stands the trimmed text ends at the same place.
+-- `text::scan::trim_end` meets its contract: a last byte above space is told; otherwise from where the loop stands the trimmed text ends at the same place.
 use mathlib.Core.Path.{_≡_}
 use Prim.Native.Nat.{_≤_, _-_}
 use Rattle.text.specs.Scan.{trimEnd}
@@ -18,6 +18,9 @@ trim-end-spec =
     (tie.spec
     Inv-loop
     μ-loop
+    (λ c. search trimming)
+    (λ c. search trimming)
+    (λ c. search trimming)
     (λ c. search trimming)
     (λ c κs. search trimming)
     (λ c. search trimming)

@@ -1,9 +1,9 @@
--- `text::utf8::utf8` meets its contract: from where the loop stands the walk ends where it would from the start.
+-- `text::utf8::utf8` meets its contract: ASCII alone is well formed; otherwise from where the loop stands the walk ends where it would from the start.
 use mathlib.Core.Path.{_≡_}
 use Prim.Native.Nat.{_≤_, _-_}
 use lib.ListN.{length}
 use Rattle.text.specs.Utf8.{skipChars}
-use Rattle.text.proofs.Chars.{walking}
+use Rattle.text.proofs.Blocks.{walking-by-characters}
 use Rattle.text.proofs.utf8.utf8.Statement.{statement}
 use Rattle.text.proofs.utf8.utf8.Tie as tie
 
@@ -19,9 +19,11 @@ utf8-spec =
     (tie.spec
     Inv-loop
     μ-loop
-    (λ c. search walking)
-    (λ c κs. search walking)
-    (λ c. search walking)
-    (λ c. search walking)
-    (λ c. search walking)
-    (λ c. search walking))
+    (λ c κs. search walking-by-characters)
+    (λ c. search walking-by-characters)
+    (λ c. search walking-by-characters)
+    (λ c κs. search walking-by-characters)
+    (λ c. search walking-by-characters)
+    (λ c. search walking-by-characters)
+    (λ c. search walking-by-characters)
+    (λ c. search walking-by-characters))

@@ -1,0 +1,11 @@
+pub mod Going
+pub mod Elements
+pub mod Places
+pub mod ByteLists
+pub mod Declaring
+pub mod Headings
+pub mod Ruling
+pub mod Accepting
+pub mod Checking
+pub mod Fields
+pub mod Decoding

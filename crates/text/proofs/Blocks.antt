@@ -1,0 +1,183 @@
+-- Positions that are looked at together: where none of a block passes, the walk for the first that does goes on behind the block; where one may,
+-- the walk within the block answers, or it goes on as well.
+use mathlib.Core.Path.{_≡_, refl, sym, ap, _∙_}
+use mathlib.Core.Bool.{Bool, true, false, cond, not, _||_, true≢false}
+use mathlib.Core.List.{List}
+use mathlib.Core.Logic.{⊎-elim}
+use Prim.Native.Nat.{ℕ, zero, suc, _+_, _-_, _≤_, _<_}
+use native.Mathlib.Nat.{eq-or-lt-of-le, le-of-suc-le-suc, eq-zero-or-pos}
+use native.Mathlib.Numerals.{add-one}
+use native.Mathlib.Omega.{arith}
+use borrow.Author.Needs.{needs}
+use borrow.Author.Tests.{ne-eqb, eq-eqb, leb-false}
+use lib.Dec.{eqb, leb}
+use lib.ListN.{length}
+use Rattle.text.specs.Class.{isLineEnd}
+use Rattle.text.specs.Walk.{any, firstOf, first, Between}
+use Rattle.text.specs.Whitespace.{byte, mayEndLine, isSeparator, lineEndOf, lineEndLen, atLineEnd}
+use Rattle.text.specs.Scan.{findLineEnd, lineEnd}
+use Rattle.text.specs.Utf8.{charAt, charLen, skipChars, utf8, isAscii}
+use Rattle.text.proofs.Tests.{answer}
+use Rattle.text.proofs.Walks.{first-here, first-over, first-from, first-to, skip-stays, skip-goes}
+use Rattle.text.proofs.Chars.{char-one, char-fits, char-inside, walking}
+
+-- ---- all of the first n positions
+
+or-none : (p q : Bool) → p || q ≡ false → (p ≡ false) × (q ≡ false)
+or-none true q e = absurd (true≢false e)
+or-none false q e = (refl, e)
+
+module _ (test : ℕ → Bool) where
+  pub none-passes : (n m : ℕ) → any test n ≡ false → m < n → test m ≡ false
+  unfolding any
+  none-passes zero m e h = absurd (omega arith)
+  none-passes (suc n) m e h =
+      let p = or-none (any test n) (test n) e in
+      ⊎-elim (λ q. ap test q ∙ p .1) (λ l. none-passes n m (p .0) l) (eq-or-lt-of-le (le-of-suc-le-suc h))
+
+  pub any-none : false ≡ any test 0
+  unfolding any
+  any-none = refl
+
+  -- the loop has looked at k positions
+  pub any-again : (found : Bool) (k : ℕ) → found ≡ any test k → found || test k ≡ any test (k + 1)
+  unfolding any
+  any-again found k e = rw (add-one, e) refl
+
+  pub any-ended : (found : Bool) (k n : ℕ) → found ≡ any test k → n ≤ k → k ≤ n → found ≡ any test n
+  any-ended found k n e a b =
+      let q : k ≡ n = omega arith in
+      e ∙ ap (any test) q
+
+-- ---- the first that passes
+
+first-of-fails : (test : ℕ → Bool) (n i m : ℕ) → i ≤ m → m < firstOf test i n → test m ≡ false
+unfolding firstOf
+first-of-fails test zero i m a = λ b. absurd (omega arith)
+first-of-fails test (suc n) i m a = go (test i) refl (first-of-fails test n (suc i) m)
+  where
+    go :
+        (t : Bool)
+        → test i ≡ t
+        → (suc i ≤ m → m < firstOf test (suc i) n → test m ≡ false)
+        → m < cond t i (firstOf test (suc i) n)
+        → test m ≡ false
+    go true e ih h = absurd (omega arith)
+    go false e ih h = ⊎-elim (λ q. ap test (sym q) ∙ e) (λ l. ih l h) (eq-or-lt-of-le a)
+
+first-of-passes : (test : ℕ → Bool) (n i : ℕ) → firstOf test i n < i + n → test (firstOf test i n) ≡ true
+unfolding firstOf
+first-of-passes test zero i = λ h. absurd (omega arith)
+first-of-passes test (suc n) i = go (test i) refl (first-of-passes test n (suc i))
+  where
+    go :
+        (t : Bool)
+        → test i ≡ t
+        → (firstOf test (suc i) n < suc i + n → test (firstOf test (suc i) n) ≡ true)
+        → cond t i (firstOf test (suc i) n) < i + suc n
+        → test (cond t i (firstOf test (suc i) n)) ≡ true
+    go true e ih h = e
+    go false e ih h = ih (omega arith)
+
+module _ (test : ℕ → Bool) (i m e : ℕ) (h : i ≤ m) (l : m ≤ e) where
+  -- none before m: it goes on from there
+  pub first-behind : m ≤ first test i m → first test i e ≡ first test m e
+  unfolding first
+  first-behind n = first-over test i m e h l (λ k a b. first-of-fails test (m - i) i k a (omega arith))
+
+  fails : (k : ℕ) → i ≤ k → k < first test i m → test k ≡ false
+  unfolding first
+  fails k a b = first-of-fails test (m - i) i k a b
+
+  passes : first test i m < m → test (first test i m) ≡ true
+  unfolding first
+  passes n = first-of-passes test (m - i) i (omega arith)
+
+  -- one before m: it is the same up to e
+  pub first-cut : first test i m < m → first test i m ≡ first test i e
+  first-cut n =
+      first-here test (first test i m) e (omega arith) (passes n)
+      ∙ sym (first-over test i (first test i m) e (first-from test i m) (omega arith) fails)
+
+-- ---- line ends
+
+may-end : (a b c : ℕ) → mayEndLine a ≡ false → lineEndOf a b c ≡ 0
+unfolding lineEndOf isLineEnd
+may-end a b c e = simp (other 0x0a refl, other 0x0b refl, other 0x0d refl, other 0xe2 refl)
+  where
+    other : (x : ℕ) → mayEndLine x ≡ true → eqb a x ≡ false
+    other x t = ne-eqb a x (λ q. true≢false (sym t ∙ ap mayEndLine (sym q) ∙ e))
+
+none-at : (s : List ℕ) (m : ℕ) → mayEndLine (byte s m) ≡ false → atLineEnd s m ≡ false
+unfolding lineEndLen
+none-at s m e = rw (may-end (byte s m) (byte s (m + 1)) (byte s (m + 2)) e) refl
+
+-- the loop began at i and stands at k
+module _ (s : List ℕ) (i k : ℕ) (before : lineEnd s i ≡ lineEnd s k) where
+  module _ (next : ℕ) (is : next ≡ k + 16) (l : k + 16 ≤ length s) where
+    pub block-without : (r : Bool) → r ≡ any (λ j. mayEndLine (byte s (k + j))) 16 → r ≡ false → lineEnd s i ≡ lineEnd s next
+    block-without r e f =
+        before
+        ∙ first-over (atLineEnd s) k next (length s) (omega arith) (omega arith)
+        (λ m a b. none-at s m (at m a (none-passes (λ j. mayEndLine (byte s (k + j))) 16 (m - k) (sym e ∙ f) (omega arith))))
+      where
+        at : (m : ℕ) → k ≤ m → mayEndLine (byte s (k + (m - k))) ≡ false → mayEndLine (byte s m) ≡ false
+        at m a t =
+            let q : k + (m - k) ≡ m = omega arith in
+            ap (λ (x : ℕ). mayEndLine (byte s x)) (sym q) ∙ t
+
+    module _ (end : ℕ) (f : Between k next (findLineEnd s k next) end) where
+      pub block-ends : end < next → i ≤ k → Between i (length s) (lineEnd s i) end
+      block-ends h a =
+          record {
+            is = f .is ∙ first-cut (atLineEnd s) k next (length s) (omega arith) (omega arith) (rw (← f .is) h) ∙ sym before;
+            from = omega (arith, f .from);
+            to = omega arith;
+          }
+
+      pub block-passed : next ≤ end → lineEnd s i ≡ lineEnd s next
+      block-passed h = before ∙ first-behind (atLineEnd s) k next (length s) (omega arith) (omega arith) (rw (← f .is) h)
+
+  pub rest-ends : (end : ℕ) → Between k (length s) (lineEnd s k) end → i ≤ k → Between i (length s) (lineEnd s i) end
+  rest-ends end f a = record { is = f .is ∙ sym before; from = omega (arith, f .from); to = f .to }
+
+pub ruleset passing-blocks = (needs, block-without, block-ends, block-passed, rest-ends)
+
+pub ruleset looking = (needs, any-none, any-again, any-ended)
+
+-- ---- a text of ASCII bytes is well formed
+
+not-true : (b : Bool) → not b ≡ true → b ≡ false
+not-true true e = absurd (true≢false (sym e))
+not-true false e = refl
+
+pub ascii-told : (s : List ℕ) (above : Bool) (k : ℕ) → above ≡ any (λ m. leb 0x80 (byte s m)) k → length s ≤ k → k ≤ length s → not above ≡ isAscii s
+unfolding isAscii
+ascii-told s above k e a b = ap not (any-ended (λ m. leb 0x80 (byte s m)) above k (length s) e a b)
+
+module _ (s : List ℕ) (ascii : isAscii s ≡ true) where
+  below : (k : ℕ) → k < length s → byte s k < 0x80
+  unfolding isAscii
+  below k h = leb-false 0x80 (byte s k) (none-passes (λ j. leb 0x80 (byte s j)) (length s) k (not-true _ ascii) h)
+
+  one : (k : ℕ) → k < length s → 1 ≡ charLen s k
+  one k h =
+      let q = char-one (byte s k) (byte s (k + 1)) (byte s (k + 2)) (byte s (k + 3)) (below k h) in
+      q ∙ char-fits s k (rw (← q) (omega arith))
+
+  to-the-end : (n k : ℕ) → k + n ≡ length s → skipChars s k ≡ length s
+  to-the-end zero k e = sym (skip-stays (charLen s) (length s) (char-inside s) k none) ∙ omega arith
+    where
+      none : charLen s k ≡ 0
+      none = ⊎-elim (λ z. z) (λ p. absurd (omega (arith, char-inside s k p))) (eq-zero-or-pos (charLen s k))
+  to-the-end (suc n) k e =
+      skip-goes (charLen s) (length s) (char-inside s) k (rw (← one k (omega arith)) (omega arith))
+      ∙ rw (← one k (omega arith)) (to-the-end n (k + 1) (omega arith))
+
+  pub ascii-well-formed : true ≡ utf8 s
+  unfolding utf8
+  ascii-well-formed = sym (eq-eqb (skipChars s 0) (length s) (to-the-end (length s) 0 (omega arith)))
+
+pub ruleset looking-for-ascii = (looking, ascii-told)
+
+pub ruleset walking-by-characters = (walking, answer, ascii-well-formed)

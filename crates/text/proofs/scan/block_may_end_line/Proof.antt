@@ -1,0 +1,28 @@
+-- `text::scan::block_may_end_line` meets its contract: it has found one exactly if one of the bytes looked at so far is one.
+use mathlib.Core.Path.{_≡_}
+use Prim.Native.Nat.{_+_, _≤_, _-_}
+use Rattle.text.specs.Walk.{any}
+use Rattle.text.specs.Whitespace.{byte, mayEndLine}
+use Rattle.text.proofs.Blocks.{looking}
+use Rattle.text.proofs.scan.block_may_end_line.Statement.{statement}
+use Rattle.text.proofs.scan.block_may_end_line.Tie as tie
+
+abbrev Inv-loop : tie.InvT-loop
+Inv-loop s i found₀ j₀ found j = (j ≤ 16) × (found ≡ any (λ m. mayEndLine (byte s (i + m))) j)
+
+abbrev μ-loop : tie.MeasureT-loop
+μ-loop s i found₀ j₀ found j = 16 - j
+
+pub block-may-end-line-spec : {M : Type 1} → statement M
+block-may-end-line-spec =
+    tie.close
+    (tie.spec
+    Inv-loop
+    μ-loop
+    (λ c. search looking)
+    (λ c. search looking)
+    (λ c. search looking)
+    (λ c. search looking)
+    (λ c. search looking)
+    (λ c. search looking)
+    (λ c. search looking))

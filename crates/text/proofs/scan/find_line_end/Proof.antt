@@ -1,0 +1,27 @@
+-- `text::scan::find_line_end` meets its contract: from where the loop stands the first position is the same.
+use mathlib.Core.Path.{_≡_}
+use Prim.Native.Nat.{_≤_, _-_}
+use Rattle.text.specs.Scan.{findLineEnd}
+use Rattle.text.proofs.Walks.{scanning}
+use Rattle.text.proofs.scan.find_line_end.Statement.{statement}
+use Rattle.text.proofs.scan.find_line_end.Tie as tie
+
+abbrev Inv-loop : tie.InvT-loop
+Inv-loop s i e k₀ k = (i ≤ k) × (k ≤ e) × (findLineEnd s i e ≡ findLineEnd s k e)
+
+abbrev μ-loop : tie.MeasureT-loop
+μ-loop s i e k₀ k = e - k
+
+pub find-line-end-spec : {M : Type 1} → statement M
+find-line-end-spec =
+    tie.close
+    (tie.spec
+    Inv-loop
+    μ-loop
+    (λ c. search scanning)
+    (λ c κs. search scanning)
+    (λ c. search scanning)
+    (λ c. search scanning)
+    (λ c. search scanning)
+    (λ c. search scanning)
+    (λ c. search scanning))

@@ -1,0 +1,29 @@
+-- `text::utf8::is_ascii` meets its contract: it has found a byte above exactly if one of the bytes looked at so far is one.
+use mathlib.Core.Path.{_≡_}
+use Prim.Native.Nat.{_≤_, _-_}
+use lib.Dec.{leb}
+use lib.ListN.{length}
+use Rattle.text.specs.Walk.{any}
+use Rattle.text.specs.Whitespace.{byte}
+use Rattle.text.proofs.Blocks.{looking-for-ascii}
+use Rattle.text.proofs.utf8.is_ascii.Statement.{statement}
+use Rattle.text.proofs.utf8.is_ascii.Tie as tie
+
+abbrev Inv-loop : tie.InvT-loop
+Inv-loop s above₀ k₀ above k = (k ≤ length s) × (above ≡ any (λ m. leb 0x80 (byte s m)) k)
+
+abbrev μ-loop : tie.MeasureT-loop
+μ-loop s above₀ k₀ above k = length s - k
+
+pub is-ascii-spec : {M : Type 1} → statement M
+is-ascii-spec =
+    tie.close
+    (tie.spec
+    Inv-loop
+    μ-loop
+    (λ c. search looking-for-ascii)
+    (λ c. search looking-for-ascii)
+    (λ c. search looking-for-ascii)
+    (λ c. search looking-for-ascii)
+    (λ c. search looking-for-ascii)
+    (λ c. search looking-for-ascii))

@@ -1,0 +1,52 @@
+// The pattern of a rule, as numbers: no exported function may hand back a reference, so the host takes the part itself (01, Areas, 4).
+ghost use mathlib.Core.Path.{_≡_};
+ghost use Rattle.sheet_check.specs.SheetCheck.{sheetBytes};
+ghost use Rattle.sheet_check.specs.Pattern.{patternPart, numberOf, wordOf};
+use sheet_check::Located;
+use sheet_check::pattern::locate;
+use sheet_check::pattern::pattern_test;
+
+fn located_word(part: Located) -> u64
+    ensures { λ r. ⌜ r ≡ wordOf part ⌝ }
+{
+    match part {
+        Located::Part(place, from, length) => {
+            65536 * (place as u64) + 4294967296 * (from as u64) + 281474976710656 * (length as u64)
+        }
+        Located::BrokenSheet => 6,
+    }
+}
+
+// Where the text of a rule stands: its place, from where, and its length; or number 6.
+#[no_mangle]
+pub extern "C" fn troymantle_pattern(
+    src: &[u8],
+    area1: &[u8],
+    area2: &[u8],
+    area3: &[u8],
+    area4: &[u8],
+    area5: &[u8],
+    counts: &[u16; 6],
+    rule: u64,
+) -> u64
+    ensures { λ r. ⌜ r ≡ wordOf (patternPart (sheetBytes (now (src .entry)) (now (area1 .entry)) (now (area2 .entry)) (now (area3 .entry)) (now (area4 .entry)) (now (area5 .entry)) (now (counts .entry))) rule) ⌝ }
+{
+    located_word(locate(src, area1, area2, area3, area4, area5, counts, rule))
+}
+
+// 0 where the rule has a text, and 6 where it has none.
+#[no_mangle]
+pub extern "C" fn troymantle_pattern_test(
+    src: &[u8],
+    area1: &[u8],
+    area2: &[u8],
+    area3: &[u8],
+    area4: &[u8],
+    area5: &[u8],
+    counts: &[u16; 6],
+    rule: u64,
+) -> u64
+    ensures { λ r. ⌜ r ≡ numberOf (patternPart (sheetBytes (now (src .entry)) (now (area1 .entry)) (now (area2 .entry)) (now (area3 .entry)) (now (area4 .entry)) (now (area5 .entry)) (now (counts .entry))) rule) ⌝ }
+{
+    pattern_test(src, area1, area2, area3, area4, area5, counts, rule)
+}
