@@ -2,3 +2,4 @@ pub mod Maps
 pub mod LinkedRules
 pub mod Counting
 pub mod Outcomes
+pub mod LinkLaws

@@ -1,0 +1,212 @@
+-- What a link leaves of a sheet: only the marks and ids of named rules change, the sheet passes its check as before, and a named rule whose name
+-- is in the map has the map's id. Each is a law of one rule, carried over the list and then to the bytes.
+use mathlib.Core.Path.{_≡_, refl, sym, ap, subst, _∙_}
+use mathlib.Core.Bool.{Bool, true, false, cond, _&&_}
+use mathlib.Core.List.{List, [], _∷_, map}
+use mathlib.Core.Option.{Option, none, some}
+use mathlib.Core.Logic.{_⊎_, inl, inr}
+use Prim.Native.Nat.{ℕ, zero, suc, _*_, _≤_, _<_}
+use native.Mathlib.Omega.{arith}
+use borrow.Author.Tests.{le-leb, eqb-true, lt-ltb}
+use lib.Dec.{eqb, leb}
+use lib.ListN.{length, drop, length-append, length-drop}
+use Rattle.text.proofs.Tests.{and-left, and-right, le-or-lt}
+use Rattle.area.specs.declared.Rule.{Rule}
+use Rattle.area.specs.Bytes.{bytes}
+use Rattle.area.specs.Records.{ruleWidth, mostStates, mostRules, nthRule}
+use Rattle.area.specs.Contents.{contents, stateFormat, ruleFormat, entryFormat, textFormat, expectedFormat}
+use Rattle.area.proofs.Fields.{bytes-length}
+use Rattle.area.proofs.Contents.{rule-sound}
+use Rattle.parse.specs.Parse.{Contents}
+use Rattle.sheet_check.specs.SheetCheck.{SheetBytes, sheetBytes, count, decoded, all, mark, ordered, within, declared, goodRule, goodContents, longEnough, sheetCheck}
+use Rattle.sheet_check.proofs.Checked.{good-rule, good-contents, checked-long, rules-count}
+use Rattle.link.specs.declared.LinkAnswer.the-variants.{Linked, BrokenSheet, BrokenMap, AreaFull}
+use Rattle.link.specs.Map.{Entry, entriesOf, nth, findEntry, idAt, idOf, allBelow, distinct, mapCheck}
+use Rattle.link.specs.Link.{isNamed, nameOf, withId, withFound, linkRule, linkRules, linkLeft, relaid, fits, unmapped, unused, linkAll, linkChecked, linkCall}
+use Rattle.link.proofs.Outcomes.{link-count, link-at, rules-read-back}
+
+-- ---- a rule
+
+module _ (s : List ℕ) (es : List Entry) where
+  found-changes : (o : Option ℕ) (x : Rule) → withFound o x ≡ withId (withFound o x .«has_id») (withFound o x .id) x
+  unfolding withFound withId
+  found-changes (some i) x = refl
+  found-changes none x = refl
+
+  -- only has id and id change
+  pub link-changes-ids : (x : Rule) → linkRule s es x ≡ withId (linkRule s es x .«has_id») (linkRule s es x .id) x
+  unfolding linkRule withId
+  link-changes-ids x = by (isNamed x)
+    where
+      by : (t : Bool)
+          → cond t (withFound (idOf es (nameOf s x)) x) x
+          ≡ withId (cond t (withFound (idOf es (nameOf s x)) x) x .«has_id») (cond t (withFound (idOf es (nameOf s x)) x) x .id) x
+      by true = found-changes (idOf es (nameOf s x)) x
+      by false = refl
+
+  -- an unnamed rule keeps them too
+  pub link-keeps-unnamed : (x : Rule) → isNamed x ≡ false → linkRule s es x ≡ x
+  unfolding linkRule
+  link-keeps-unnamed x e = rw e
+
+  -- a named rule whose name is in the map has the map's id
+  pub link-gives-id : (x : Rule) (i : ℕ) → isNamed x ≡ true → idOf es (nameOf s x) ≡ some i → (linkRule s es x .«has_id» ≡ 1) × (linkRule s es x .id ≡ i)
+  unfolding linkRule withFound withId
+  link-gives-id x i e q = (rw (e, q), rw (e, q))
+
+  found-mark : (o : Option ℕ) (x : Rule) → mark (withFound o x .«has_id») ≡ true
+  unfolding withFound withId
+  found-mark (some i) x = refl
+  found-mark none x = refl
+
+  link-mark : (x : Rule) → mark (x .«has_id») ≡ true → mark (linkRule s es x .«has_id») ≡ true
+  unfolding linkRule
+  link-mark x e = by (isNamed x)
+    where
+      by : (t : Bool) → mark (cond t (withFound (idOf es (nameOf s x)) x) x .«has_id») ≡ true
+      by true = found-mark (idOf es (nameOf s x)) x
+      by false = e
+
+-- ---- a sheet
+
+-- the same sheet with other bytes in area 2
+abbrev pub withArea2 : SheetBytes → List ℕ → SheetBytes
+withArea2 b l = sheetBytes (b .source) (b .area1) l (b .area3) (b .area4) (b .area5) (b .counts)
+
+mark-good : (n states entries text has i : ℕ) (x : Rule) → mark has ≡ true → goodRule n states entries text x ≡ true → goodRule n states entries text (withId has i x) ≡ true
+unfolding goodRule withId
+mark-good n states entries text has i x m e = ap rest m ∙ ap rest (sym (le-leb (x .«has_id») 1 (good-rule n states entries text x e .has-id))) ∙ e
+  where
+    rest : Bool → Bool
+    rest marked =
+        marked && mark (x .named) && mark (x .place)
+        && ordered (x .«span_start») (x .«span_end») n
+        && within (x .«name_from») (x .«name_length») n
+        && within (x .«text_from») (x .«text_length») (cond (eqb (x .place) 1) text n)
+        && within (x .«list_from») (x .«list_count») entries
+        && leb (x .operation) 3 && declared states (x .target)
+
+all-map : {A : Type 0} (test : A → Bool) (g : A → A) → ((x : A) → test x ≡ true → test (g x) ≡ true) → (xs : List A) → all test xs ≡ true → all test (map g xs) ≡ true
+unfolding all
+all-map test g f [] e = refl
+all-map test g f (x ∷ xs) e = rw (f x (and-left (test x) (all test xs) e)) (all-map test g f xs (and-right (test x) (all test xs) e))
+
+module _ (s : List ℕ) (es : List Entry) where
+  pub link-good : (n states entries text : ℕ) (x : Rule) → goodRule n states entries text x ≡ true → goodRule n states entries text (linkRule s es x) ≡ true
+  link-good n states entries text x e =
+      ap (goodRule n states entries text) (link-changes-ids s es x)
+      ∙ mark-good n states entries text (linkRule s es x .«has_id») (linkRule s es x .id) x
+      (link-mark s es x (le-leb (x .«has_id») 1 (good-rule n states entries text x e .has-id))) e
+
+  -- contents whose rules are linked
+  abbrev linkedContents : Contents → Contents
+  linkedContents c = record { states = c .states; rules = linkRules s es (c .rules); lists = c .lists; text = c .text; expected = c .expected; faults = c .faults }
+
+  contents-good : (n : ℕ) (c : Contents) → goodContents n c ≡ true → goodContents n (linkedContents c) ≡ true
+  unfolding goodContents linkRules
+  contents-good n c e =
+      let g = good-contents n c e in
+      let rules : all (goodRule n (length (c .states)) (length (c .lists)) (length (c .text))) (linkRules s es (c .rules)) ≡ true =
+      all-map (goodRule n (length (c .states)) (length (c .lists)) (length (c .text))) (linkRule s es) (link-good n (length (c .states)) (length (c .lists)) (length (c .text))) (c .rules) (g .rules) in
+      rw (le-leb 1 (length (c .states)) (g .some-states), le-leb (length (c .states)) mostStates (g .few-states), link-count s es (c .rules), le-leb (length (c .rules)) mostRules (g .few-rules), g .states, rules, g .lists, g .expected)
+
+  module _ (b : SheetBytes) (passed : sheetCheck b ≡ true) where
+    -- area 2 with the linked rules
+    abbrev linkedArea2 : List ℕ
+    linkedArea2 = relaid ruleFormat (b .area2) (linkRules s es (decoded b .rules))
+
+    linked-rules : contents ruleFormat linkedArea2 (count b 2) ≡ linkRules s es (decoded b .rules)
+    unfolding decoded
+    linked-rules = rules-read-back s es (b .area2) (count b 2) linkedArea2 refl
+
+    -- what the sheet holds afterwards
+    pub linked-contents : decoded (withArea2 b linkedArea2) ≡ linkedContents (decoded b)
+    unfolding decoded
+    linked-contents = λ i. record {
+      states = contents stateFormat (b .area1) (count b 1);
+      rules = linked-rules i;
+      lists = contents entryFormat (b .area3) (count b 3);
+      text = contents textFormat (b .area4) (count b 4);
+      expected = contents expectedFormat (b .area5) (count b 5);
+      faults = [];
+    }
+
+    linked-length : length linkedArea2 ≡ length (b .area2)
+    unfolding relaid
+    linked-length =
+        let ys : List Rule = linkRules s es (decoded b .rules) in
+        let size : length ys ≡ count b 2 = link-count s es (decoded b .rules) ∙ rules-count b in
+        let long : count b 2 * ruleWidth ≤ length (b .area2) = checked-long b passed .long2 in
+        omega (arith, length-append (bytes (ruleFormat .write) ys) (drop (length ys * ruleWidth) (b .area2)), bytes-length (ruleFormat .write) ruleWidth (rule-sound .wide) ys, length-drop (length ys * ruleWidth) (b .area2), size, long)
+
+    linked-long : longEnough (withArea2 b linkedArea2) ≡ longEnough b
+    unfolding longEnough
+    linked-long = rw linked-length
+
+    pub linked-passes : sheetCheck (withArea2 b linkedArea2) ≡ true
+    unfolding sheetCheck
+    linked-passes =
+        let long : longEnough b ≡ true = and-left (longEnough b) (goodContents (length (b .source)) (decoded b)) passed in
+        let good : goodContents (length (b .source)) (decoded b) ≡ true = and-right (longEnough b) (goodContents (length (b .source)) (decoded b)) passed in
+        rw (linked-long, long, linked-contents) (contents-good (length (b .source)) (decoded b) good)
+
+-- ---- the call
+
+module _ (b : SheetBytes) (names entries x7 x8 : List ℕ) where
+  abbrev es : List Entry
+  es = entriesOf names entries
+
+  -- area 2 is as it was, or it has the linked rules
+  by-areas : (t u : Bool) (P : List ℕ → Type 0) → P (b .area2) → P (relaid ruleFormat (b .area2) (linkRules (b .source) es (decoded b .rules)))
+      → P ((cond t (cond u (linkAll (Linked (length (unmapped (b .source) es (decoded b .rules))) (length (unused (b .source) es (decoded b .rules)))) (b .source) (decoded b .rules) es (b .area2) x7 x8) (linkLeft (AreaFull 8) (b .area2) x7 x8)) (linkLeft (AreaFull 7) (b .area2) x7 x8)) .area2)
+  unfolding linkAll
+  by-areas true true P p q = q
+  by-areas true false P p q = p
+  by-areas false u P p q = p
+
+  by-checks : (t u : Bool) (P : List ℕ → Type 0) → P (b .area2) → P (linkChecked (b .source) (decoded b .rules) es (b .area2) x7 x8 .area2)
+      → P ((cond t (cond u (linkChecked (b .source) (decoded b .rules) es (b .area2) x7 x8) (linkLeft BrokenMap (b .area2) x7 x8)) (linkLeft BrokenSheet (b .area2) x7 x8)) .area2)
+  by-checks true true P p q = q
+  by-checks true false P p q = p
+  by-checks false u P p q = p
+
+  pub link-area2 : (P : List ℕ → Type 0) → P (b .area2) → P (relaid ruleFormat (b .area2) (linkRules (b .source) es (decoded b .rules))) → P (linkCall b names entries x7 x8 .area2)
+  unfolding linkCall linkChecked
+  link-area2 P p q =
+      by-checks (sheetCheck b) (mapCheck names entries) P p (by-areas (fits (unmapped (b .source) es (decoded b .rules)) x7) (fits (unused (b .source) es (decoded b .rules)) x8) P p q)
+
+  -- a sheet that passes the check still passes after a link, whatever the answer
+  pub link-passes : sheetCheck b ≡ true → sheetCheck (withArea2 b (linkCall b names entries x7 x8 .area2)) ≡ true
+  link-passes passed = link-area2 (λ l. sheetCheck (withArea2 b l) ≡ true) passed (linked-passes (b .source) es b passed)
+
+-- ---- a map that passed its check
+
+below-at : (test : ℕ → Bool) (n k : ℕ) → allBelow test n ≡ true → k < n → test k ≡ true
+unfolding allBelow
+below-at test zero k e h = absurd (omega (arith, h))
+below-at test (suc n) k e h = by (le-or-lt n k) (λ g. below-at test n k (and-left (allBelow test n) (test n) e) g)
+  where
+    by : (n ≤ k) ⊎ (k < n) → (k < n → test k ≡ true) → test k ≡ true
+    by (inl g) earlier =
+        let q : n ≡ k = omega arith in
+        subst (λ (m : ℕ). test m ≡ true) q (and-right (allBelow test n) (test n) e)
+    by (inr g) earlier = earlier g
+
+module _ (es : List Entry) (different : distinct es ≡ true) where
+  -- the id of an entry's name is that entry's
+  pub entry-id : (j : ℕ) → j < length es → idOf es (nth es j .name) ≡ some (nth es j .id)
+  unfolding idOf idAt distinct
+  entry-id j h =
+      let q : findEntry es (nth es j .name) ≡ j = eqb-true (findEntry es (nth es j .name)) j (below-at (λ i. eqb (findEntry es (nth es i .name)) i) (length es) j different h) in
+      rw (q, lt-ltb j (length es) h)
+
+-- ---- a map that holds every rule's name
+
+-- named rule k has the id that the map gives its name
+module _ (s : List ℕ) (es : List Entry) (xs : List Rule) (holds : (k : ℕ) → k < length xs → isNamed (nthRule xs k) ≡ true → (i : ℕ) × (idOf es (nameOf s (nthRule xs k)) ≡ some i)) where
+  pub link-gives-ids : (k : ℕ) → k < length xs → isNamed (nthRule xs k) ≡ true
+      → (nthRule (linkRules s es xs) k .«has_id» ≡ 1) × (idOf es (nameOf s (nthRule xs k)) ≡ some (nthRule (linkRules s es xs) k .id))
+  link-gives-ids k h e =
+      let i = holds k h e in
+      let g = link-gives-id s es (nthRule xs k) (i .0) e (i .1) in
+      (ap (λ (x : Rule). x .«has_id») (link-at s es xs k) ∙ g .0, i .1 ∙ ap some (sym (ap (λ (x : Rule). x .id) (link-at s es xs k) ∙ g .1)))
