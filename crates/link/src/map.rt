@@ -2,7 +2,6 @@
 ghost use mathlib.Core.Path.{_≡_};
 ghost use Prim.Native.Nat.{_<_};
 ghost use lib.Dec.{eqb};
-ghost use lib.ListN.{length};
 ghost use Rattle.text.specs.Walk.{Between};
 ghost use Rattle.text.specs.Range.{part, sameBytes};
 ghost use Rattle.area.specs.Contents.{contents};
@@ -12,8 +11,10 @@ use crate::MapEntry;
 use area::read_field;
 use text::range::same_range;
 
-const MAP_WIDTH: usize = 6;
+// How many bytes an entry has.
+pub const MAP_WIDTH: usize = 6;
 
+// How many entries a map may have.
 const MOST_ENTRIES: usize = 2048;
 
 pub fn read_map_entry(entries: &[u8], k: usize) -> MapEntry

@@ -1,9 +1,9 @@
 -- The hypotheses of demand 3 can be met, and its machine does something: a small file with pushes, pops below the bottom, a replace, skips, and
 -- a refused row in the middle, computed. A definition that is added to the parse, the link or the run is to be listed here.
-use mathlib.Core.Path.{_≡_, refl, sym, ap, _∙_}
-use mathlib.Core.Bool.{Bool, true, false, true≢false}
+use mathlib.Core.Path.{_≡_, refl, sym}
+use mathlib.Core.Bool.{true, true≢false}
 use mathlib.Core.List.{List, [], _∷_}
-use Prim.Native.Nat.{ℕ, zero, suc, _+_, _≤_, _<_}
+use Prim.Native.Nat.{ℕ, zero, suc, _<_}
 use native.Mathlib.Omega.{arith}
 use lib.ListN.{length, replicate}
 use Rattle.text.specs.Class.{isLineEnd, isBlank, isOtherWhitespace, isLetter, isDigit, isHexDigit, isMetaCharacter, isEscapeLetter, isWhitespaceByte, isAsciiWhitespace, isAlwaysKept}
@@ -30,7 +30,7 @@ use Rattle.parse.specs.Parse.{Contents, Caps, caps, Outcome, longFile, unknownF
 use Rattle.sheet_check.specs.SheetCheck.{SheetBytes, decoded, all, goodState, goodRule, goodExpected, goodContents, longEnough, sheetCheck}
 use Rattle.accepted.specs.Accepted.{sheetLeftBy}
 use Rattle.link.specs.declared.LinkAnswer.the-variants.{Linked}
-use Rattle.link.specs.Map.{Entry, nth, mapEntryFields, mapEntryOf, mapEntryAt, entryOf, entriesOf, findEntry, idAt, idOf, allBelow, distinct, nameInside, mapCheck}
+use Rattle.link.specs.Map.{nth, mapEntryFields, mapEntryOf, mapEntryAt, entryOf, entriesOf, findEntry, idAt, idOf, allBelow, distinct, nameInside, mapCheck}
 use Rattle.link.specs.Link.{isNamed, nameOf, isNone, isUnmapped, hasThatName, isUnused, numbers, unmapped, unused, relaid, fits, linkAll, linkChecked, linkCall}
 use Rattle.run.specs.declared.Run.{Run}
 use Rattle.run.specs.declared.Begun.the-variants.{Started}
@@ -38,7 +38,7 @@ use Rattle.run.specs.declared.Step.{Step}
 use Rattle.run.specs.declared.Step.the-variants.{IllFittingRow, Done, Stopped, Skip, Token}
 use Rattle.run.specs.Winner.{findState, listed, live, weight, greatest, earliest}
 use Rattle.run.specs.Run.{StartLeft, goodStart, startCall, goodRow}
-use Rattle.machine.specs.Machine.{Machine, fresh, Answered, stackAfter, movedBy, tokenBy, wins, winner, chooses, machineStep, machineRun}
+use Rattle.machine.specs.Machine.{fresh, Answered, stackAfter, movedBy, tokenBy, wins, winner, chooses, machineStep, machineRun}
 use Rattle.machine.specs.Demand.{linkedSheet, calls, Demand, MapHolds, givenBy, DEMAND}
 use Rattle.machine.proofs.Theorem.{demand}
 
