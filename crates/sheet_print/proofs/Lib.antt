@@ -2,3 +2,4 @@ pub mod Appending
 pub mod Numbers
 pub mod Printing
 pub mod Answering
+pub mod Counting

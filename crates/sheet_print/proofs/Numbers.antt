@@ -5,7 +5,7 @@ use mathlib.Core.List.{List, [], _∷_, _++_}
 use Prim.Native.Nat.{ℕ, zero, suc, _+_, _*_, _-_, _/_, _%_, _≤_, _<_}
 use native.Mathlib.Omega.{arith}
 use lib.Dec.{ltb}
-use borrow.Author.Tests.{lt-ltb, le-ltb}
+use borrow.Author.Tests.{lt-ltb, le-ltb, ltb-true}
 use lib.ListN.{length, getD, List·getD-eq-default}
 use borrow.Author.Needs.{needs}
 use Rattle.text.specs.Whitespace.{byte}
@@ -74,3 +74,41 @@ module _ (l : List ℕ) (at : ℕ) {l0 : List ℕ} {n : ℕ} where
   fields-all j g h p = joined-all (λ (i : ℕ). field (fieldFrom l at i)) {k = j} g h p
 
 pub ruleset fieldwise = (needs, fields-none, fields-next, fields-all)
+
+-- ---- what is printed is the number: its digits spell it, for every number below 100,000
+
+-- the number that the ASCII digits of a text spell, behind the number v
+unfoldable pub valueFrom : ℕ → List ℕ → ℕ
+valueFrom v [] = v
+valueFrom v (d ∷ ds) = valueFrom (10 * v + (d - 48)) ds
+
+value-append : (v : ℕ) (a b : List ℕ) → valueFrom v (a ++ b) ≡ valueFrom (valueFrom v a) b
+unfolding valueFrom
+value-append v [] b = refl
+value-append v (d ∷ ds) b = value-append (10 * v + (d - 48)) ds b
+
+value-digit : (v y w : ℕ) → 10 * v + y ≡ w → valueFrom v ((48 + y) ∷ []) ≡ w
+unfolding valueFrom
+value-digit v y w h = omega arith
+
+-- from x divided by 10 p to x divided by p
+value-step : (x p v w : ℕ) → v ≡ w → (x < p → w ≡ x / p) → 10 * w + x / p % 10 ≡ x / p → valueFrom v (digitAt x p) ≡ x / p
+unfolding digitAt valueFrom
+value-step x p v w q z h = by (ltb x p) refl
+  where
+    by : (b : Bool) → ltb x p ≡ b → valueFrom v (cond b [] ((48 + x / p % 10) ∷ [])) ≡ x / p
+    by true e = q ∙ z (ltb-true x p e)
+    by false e = ap (λ (u : ℕ). valueFrom u ((48 + x / p % 10) ∷ [])) q ∙ value-digit w (x / p % 10) (x / p) h
+
+pub decimal-value : (x : ℕ) → x < 100000 → valueFrom 0 (decimal x) ≡ x
+unfolding decimal tens
+decimal-value x h =
+    let e4 : valueFrom 0 (digitAt x 10000) ≡ x / 10000 = value-step x 10000 0 0 refl (λ g. omega arith) (omega arith) in
+    let e3 : valueFrom (valueFrom 0 (digitAt x 10000)) (digitAt x 1000) ≡ x / 1000 = value-step x 1000 _ (x / 10000) e4 (λ g. omega arith) (omega arith) in
+    let e2 : valueFrom (valueFrom 0 (digitAt x 10000 ++ digitAt x 1000)) (digitAt x 100) ≡ x / 100 =
+    value-step x 100 _ (x / 1000) (value-append 0 (digitAt x 10000) (digitAt x 1000) ∙ e3) (λ g. omega arith) (omega arith) in
+    let e1 : valueFrom (valueFrom 0 (digitAt x 10000 ++ digitAt x 1000 ++ digitAt x 100)) (digitAt x 10) ≡ x / 10 =
+    value-step x 10 _ (x / 100) (value-append 0 (digitAt x 10000 ++ digitAt x 1000) (digitAt x 100) ∙ e2) (λ g. omega arith) (omega arith) in
+    value-append 0 (tens x) ((48 + x % 10) ∷ [])
+    ∙ ap (λ (v : ℕ). valueFrom v ((48 + x % 10) ∷ [])) (value-append 0 (digitAt x 10000 ++ digitAt x 1000 ++ digitAt x 100) (digitAt x 10) ∙ e1)
+    ∙ value-digit (x / 10) (x % 10) x (omega arith)
