@@ -1,6 +1,6 @@
 // What the parse call makes of a file, as lines of text (01, Files to try, the end).
 mod lines;
-mod output;
+pub mod output;
 
 ghost use lib.ListN.{getD};
 ghost use Rattle.sheet_print.specs.Output.{Appends, Written};

@@ -1,0 +1,88 @@
+-- The form of the recorded answers (compare/FORMAT.md). A place past the end is the end, and a byte there counts as 0.
+use Prim.Native.Nat.{ℕ, zero, suc, _+_, _*_, _-_, _≤_, _<_, min}
+use mathlib.Core.Path.{_≡_}
+use mathlib.Core.Bool.{Bool, true}
+use mathlib.Core.List.{List, [], _++_}
+use lib.ListN.{length, drop, getD}
+use Rattle.text.specs.Range.{part}
+use Rattle.area.specs.Bytes.{fieldAt, pad, zeros}
+use Rattle.sheet_print.specs.Output.{Written}
+use Rattle.sheet_print.specs.Lines.{joined}
+use Rattle.replay.specs.declared.record.Source.{Source}
+
+-- a number of four bytes, low byte first
+unfoldable pub numberAt : List ℕ → ℕ → ℕ
+numberAt l at = fieldAt l at + fieldAt l (at + 2) * 65536
+
+-- a number of eight bytes, low byte first
+unfoldable pub longAt : List ℕ → ℕ → ℕ
+longAt l at = numberAt l at + numberAt l (at + 4) * 4294967296
+
+-- the place n bytes on
+unfoldable pub skipTo : List ℕ → ℕ → ℕ → ℕ
+skipTo l at n = min (at + n) (length l)
+
+-- where the bytes that start with their length at a place end
+unfoldable pub bytesEnd : List ℕ → ℕ → ℕ
+bytesEnd l at = skipTo l (skipTo l at 4) (numberAt l at)
+
+-- a place that a skip of n bytes comes to
+pub record Skips (l : List ℕ) (at n r : ℕ) : Type 0 where
+  pub is : r ≡ skipTo l at n
+  pub plain : r ≡ min (at + n) (length l)
+
+-- a place at which the bytes that start with their length at another end
+pub record Ends (l : List ℕ) (at r : ℕ) : Type 0 where
+  pub is : r ≡ bytesEnd l at
+  pub from : min (at + 4) (length l) ≤ r
+  pub to : r ≤ length l
+
+-- the bytes that start with their length at a place
+unfoldable pub bytesAt : List ℕ → ℕ → List ℕ
+bytesAt l at = part l (skipTo l at 4) (bytesEnd l at)
+
+-- an answer true says that the area has the bytes recorded at a place, and zeros behind them
+pub record Holds (area l : List ℕ) (at : ℕ) (r : Bool) : Type 0 where
+  pub told : r ≡ true → area ≡ pad (length area) (bytesAt l at)
+
+-- an answer true says that every byte from a place on is 0
+pub record ZeroAfter (area : List ℕ) (at : ℕ) (r : Bool) : Type 0 where
+  pub told : r ≡ true → drop at area ≡ zeros (length area - at)
+
+-- an answer true says that the counts are the numbers of two bytes at a place
+pub record Counted (counts l : List ℕ) (at : ℕ) (r : Bool) : Type 0 where
+  pub told : r ≡ true → (i : ℕ) → i < length counts → getD counts i 0 ≡ fieldAt l (skipTo l at (2 * i))
+
+-- a text n times
+unfoldable pub repeated : ℕ → List ℕ → List ℕ
+repeated n v = joined (λ _. v) n
+
+-- the length of area k, of those at a place, but no more than there is
+abbrev pub lentAt : List ℕ → ℕ → ℕ → ℕ → ℕ
+lentAt l at k most = min (numberAt l (skipTo l at (4 * k))) most
+
+-- the pieces of a source from a place on: behind them, and their bytes
+unfoldable pub pieceEnd : List ℕ → ℕ → ℕ
+pieceEnd l at = bytesEnd l (skipTo l at 4)
+
+unfoldable pub piecesEnd : List ℕ → ℕ → ℕ → ℕ
+piecesEnd l zero at = at
+piecesEnd l (suc n) at = pieceEnd l (piecesEnd l n at)
+
+unfoldable pub pieces : List ℕ → ℕ → ℕ → List ℕ
+pieces l zero at = []
+pieces l (suc n) at = pieces l n at ++ repeated (numberAt l (piecesEnd l n at)) (bytesAt l (skipTo l (piecesEnd l n at) 4))
+
+-- the source of the record at a place, and where the rest of the record stands
+unfoldable pub sourceAt : List ℕ → ℕ → List ℕ
+sourceAt l at = pieces l (numberAt l at) (skipTo l at 4)
+
+unfoldable pub sourceEnd : List ℕ → ℕ → ℕ
+sourceEnd l at = piecesEnd l (numberAt l at) (skipTo l at 4)
+
+-- the source is read into the buffer e, as far as it has room
+pub record Sourced (l : List ℕ) (at : ℕ) (e : List ℕ) (r : Source) : Type 0 where
+  pub text : Written (sourceAt l at) e (r .length)
+  pub next : r .next ≡ sourceEnd l at
+  pub from : min (at + 4) (length l) ≤ r .next
+  pub to : r .next ≤ length l
