@@ -3,12 +3,13 @@ use Prim.Native.Nat.{ℕ, zero, suc, _+_, _*_, _-_, _≤_, _<_, min}
 use mathlib.Core.Path.{_≡_}
 use mathlib.Core.Bool.{Bool, true}
 use mathlib.Core.List.{List, [], _++_}
-use lib.ListN.{length, drop, getD}
+use lib.ListN.{length, take, drop, getD}
 use Rattle.text.specs.Range.{part}
 use Rattle.area.specs.Bytes.{fieldAt, pad, zeros}
 use Rattle.sheet_print.specs.Output.{Written}
 use Rattle.sheet_print.specs.Lines.{joined}
 use Rattle.replay.specs.declared.record.Source.{Source}
+use Rattle.replay.specs.declared.record.Replayed.{Replayed}
 
 -- a number of four bytes, low byte first
 unfoldable pub numberAt : List ℕ → ℕ → ℕ
@@ -86,3 +87,44 @@ pub record Sourced (l : List ℕ) (at : ℕ) (e : List ℕ) (r : Source) : Type 
   pub next : r .next ≡ sourceEnd l at
   pub from : min (at + 4) (length l) ≤ r .next
   pub to : r .next ≤ length l
+
+-- ---- what an answer true says of what the call left
+
+pub record Told (P : Type 0) (r : Bool) : Type 0 where
+  pub told : r ≡ true → P
+
+-- the front of the area that was lent as area k is the area recorded at a place: its bytes, and zeros behind them
+pub record AreaIs (area l : List ℕ) (lengths k at : ℕ) : Type 0 where
+  pub is : take (lentAt l lengths k (length area)) area ≡ pad (lentAt l lengths k (length area)) (bytesAt l at)
+
+-- three areas recorded one behind the other
+pub record ThreeAre (l : List ℕ) (lengths k at : ℕ) (first second third : List ℕ) : Type 0 where
+  pub one : AreaIs first l lengths k at
+  pub two : AreaIs second l lengths (k + 1) (bytesEnd l at)
+  pub three : AreaIs third l lengths (k + 2) (bytesEnd l (bytesEnd l at))
+
+-- the word and the counts are those recorded behind the lengths
+pub record NumbersAre (l : List ℕ) (lengths word : ℕ) (counts : List ℕ) : Type 0 where
+  pub word-is : word ≡ numberAt l (skipTo l lengths 24)
+  pub counts-are : (i : ℕ) → i < length counts → getD counts i 0 ≡ fieldAt l (skipTo l (skipTo l (skipTo l lengths 24) 4) (2 * i))
+
+-- where the areas stand, behind the word and the counts
+abbrev pub areasAt : List ℕ → ℕ → ℕ
+areasAt l lengths = skipTo l (skipTo l (skipTo l lengths 24) 4) 12
+
+-- where the fourth area stands
+abbrev pub fourthAt : List ℕ → ℕ → ℕ
+fourthAt l at = bytesEnd l (bytesEnd l (bytesEnd l at))
+
+-- all that the call left is what was recorded
+pub record LeftIs (l : List ℕ) (lengths word : ℕ) (counts a1 a2 a3 a4 a5 a6 : List ℕ) : Type 0 where
+  pub numbers : NumbersAre l lengths word counts
+  pub first : ThreeAre l lengths 0 (areasAt l lengths) a1 a2 a3
+  pub second : ThreeAre l lengths 3 (fourthAt l (areasAt l lengths)) a4 a5 a6
+
+-- an answer, and the place behind what it compared
+pub record Compares (P : Type 0) (l : List ℕ) (from next : ℕ) (r : Replayed) : Type 0 where
+  pub equal : Told P (r .equal)
+  pub is : r .next ≡ next
+  pub from-on : from ≤ r .next
+  pub within : r .next ≤ length l

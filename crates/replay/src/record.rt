@@ -4,7 +4,7 @@ ghost use Prim.Native.Nat.{_≤_, _<_};
 ghost use lib.ListN.{length};
 ghost use Rattle.text.specs.Range.{part};
 ghost use Rattle.sheet_print.specs.Output.{Appends};
-ghost use Rattle.replay.specs.Records.{lentAt, repeated, Sourced};
+ghost use Rattle.replay.specs.Records.{lentAt, repeated, Sourced, Told, AreaIs, ThreeAre, NumbersAre, LeftIs, Compares, areasAt, fourthAt};
 use crate::compared::counted;
 use crate::compared::holds;
 use crate::reader::bytes_end;
@@ -113,6 +113,7 @@ fn same_area(answers: &[u8], lengths: usize, k: usize, area: &[u8], at: usize) -
     requires { ⌜ lengths ≤ length (now answers) ⌝ }
     requires { ⌜ k ≤ 5 ⌝ }
     requires { ⌜ at ≤ length (now answers) ⌝ }
+    ensures { λ r. ⌜ Told (AreaIs (now (area .entry)) (now (answers .entry)) lengths k at) r ⌝ }
 {
     let c = lent(answers, lengths, k, area.len());
     holds(&area[0..c], answers, at)
@@ -131,7 +132,7 @@ fn same_three(
     requires { ⌜ lengths ≤ length (now answers) ⌝ }
     requires { ⌜ k ≤ 3 ⌝ }
     requires { ⌜ at ≤ length (now answers) ⌝ }
-    ensures { λ r. ⌜ (at ≤ r .next) × (r .next ≤ length (now (answers .entry))) ⌝ }
+    ensures { λ r. ⌜ Compares (ThreeAre (now (answers .entry)) lengths k at (now (first .entry)) (now (second .entry)) (now (third .entry))) (now (answers .entry)) at (fourthAt (now (answers .entry)) at) r ⌝ }
 {
     let at2 = bytes_end(answers, at);
     let at3 = bytes_end(answers, at2);
@@ -149,7 +150,7 @@ fn same_three(
 fn same_numbers(answers: &[u8], lengths: usize, word: u64, counts: &[u16]) -> Replayed
     requires { ⌜ length (now counts) ≤ 6 ⌝ }
     requires { ⌜ lengths ≤ length (now answers) ⌝ }
-    ensures { λ r. ⌜ (lengths ≤ r .next) × (r .next ≤ length (now (answers .entry))) ⌝ }
+    ensures { λ r. ⌜ Compares (NumbersAre (now (answers .entry)) lengths word (now (counts .entry))) (now (answers .entry)) lengths (areasAt (now (answers .entry)) lengths) r ⌝ }
 {
     let at = skip(answers, lengths, 24);
     let tally = skip(answers, at, 4);
@@ -175,7 +176,7 @@ fn compare(
 ) -> Replayed
     requires { ⌜ length (now counts) ≤ 6 ⌝ }
     requires { ⌜ lengths ≤ length (now answers) ⌝ }
-    ensures { λ r. ⌜ (lengths ≤ r .next) × (r .next ≤ length (now (answers .entry))) ⌝ }
+    ensures { λ r. ⌜ Compares (LeftIs (now (answers .entry)) lengths word (now (counts .entry)) (now (area1 .entry)) (now (area2 .entry)) (now (area3 .entry)) (now (area4 .entry)) (now (area5 .entry)) (now (area6 .entry))) (now (answers .entry)) lengths (fourthAt (now (answers .entry)) (fourthAt (now (answers .entry)) (areasAt (now (answers .entry)) lengths))) r ⌝ }
 {
     let numbers = same_numbers(answers, lengths, word, counts);
     let first = same_three(answers, lengths, 0, numbers.next, area1, area2, area3);
