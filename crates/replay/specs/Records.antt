@@ -6,6 +6,8 @@ use mathlib.Core.List.{List, [], _++_}
 use lib.ListN.{length, take, drop, getD}
 use Rattle.text.specs.Range.{part}
 use Rattle.area.specs.Bytes.{fieldAt, pad, zeros}
+use Rattle.parse.specs.Parse.{caps, parseCall}
+use Rattle.troymantle.specs.Words.{leftInWords, inWords}
 use Rattle.sheet_print.specs.Output.{Written}
 use Rattle.sheet_print.specs.Lines.{joined}
 use Rattle.replay.specs.declared.record.Source.{Source}
@@ -128,3 +130,13 @@ pub record Compares (P : Type 0) (l : List ℕ) (from next : ℕ) (r : Replayed)
   pub is : r .next ≡ next
   pub from-on : from ≤ r .next
   pub within : r .next ≤ length l
+
+-- what a call leaves at the front of the buffer e that was lent as area k
+abbrev pub front : List ℕ → ℕ → ℕ → List ℕ → List ℕ
+front l lengths k e = take (lentAt l lengths k (length e)) e
+
+-- the call was made with as many bytes of each buffer as the record has for the area, and left what the parse call leaves
+pub record Called (src : List ℕ) (flags : ℕ) (verdicts l : List ℕ) (lengths word : ℕ) (counts e1 e2 e3 e4 e5 e6 : List ℕ) : Type 0 where
+  pub six : length counts ≡ 6
+  pub left-is : leftInWords word counts (front l lengths 0 e1) (front l lengths 1 e2) (front l lengths 2 e3) (front l lengths 3 e4) (front l lengths 4 e5) (front l lengths 5 e6)
+      ≡ inWords (parseCall src flags verdicts (caps (lentAt l lengths 0 (length e1)) (lentAt l lengths 1 (length e2)) (lentAt l lengths 2 (length e3)) (lentAt l lengths 3 (length e4)) (lentAt l lengths 4 (length e5)) (lentAt l lengths 5 (length e6))))

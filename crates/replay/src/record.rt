@@ -4,7 +4,7 @@ ghost use Prim.Native.Nat.{_≤_, _<_};
 ghost use lib.ListN.{length};
 ghost use Rattle.text.specs.Range.{part};
 ghost use Rattle.sheet_print.specs.Output.{Appends};
-ghost use Rattle.replay.specs.Records.{lentAt, repeated, Sourced, Told, AreaIs, ThreeAre, NumbersAre, LeftIs, Compares, areasAt, fourthAt};
+ghost use Rattle.replay.specs.Records.{lentAt, repeated, Sourced, Told, AreaIs, ThreeAre, NumbersAre, LeftIs, Compares, Called, areasAt, fourthAt};
 use crate::compared::counted;
 use crate::compared::holds;
 use crate::reader::bytes_end;
@@ -86,7 +86,7 @@ fn call(
     area6: &mut [u8],
 ) -> u64
     requires { ⌜ at ≤ length (now answers) ⌝ }
-    ensures { λ _. ⌜ length (now (counts .exit)) ≡ 6 ⌝ }
+    ensures { λ r. ⌜ Called (now (src .entry)) flags (now (verdicts .entry)) (now (answers .entry)) at r (now (counts .exit)) (now (area1 .exit)) (now (area2 .exit)) (now (area3 .exit)) (now (area4 .exit)) (now (area5 .exit)) (now (area6 .exit)) ⌝ }
 {
     let c1 = lent(answers, at, 0, area1.len());
     let c2 = lent(answers, at, 1, area2.len());
