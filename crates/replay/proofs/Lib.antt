@@ -1,0 +1,5 @@
+pub mod Reading
+pub mod Comparing
+pub mod Pieces
+pub mod Calling
+pub mod Agreeing
