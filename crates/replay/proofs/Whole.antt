@@ -1,16 +1,22 @@
 -- A record that compares as equal agrees with the parse call: what the call left is what was recorded, and it is what the definition says.
-use mathlib.Core.Path.{_≡_, refl, sym, ap, _∙_}
+use mathlib.Core.Path.{_≡_, refl, sym, ap, subst, _∙_}
+use mathlib.Core.Bool.{Bool, true, false}
 use mathlib.Core.List.{List}
-use Prim.Native.Nat.{ℕ, _+_, _*_, _-_, _≤_, _<_}
+use Prim.Native.Nat.{ℕ, _+_, _*_, _-_, _≤_, _<_, min}
+use native.Mathlib.Nat.{sub-zero}
 use native.Mathlib.Omega.{arith}
+use lib.Dec.{leb}
 use lib.ListN.{length, getD, take, drop}
+use lib.Seq.{take-all}
+use borrow.Author.Tests.{leb-true, leb-false}
 use Rattle.text.specs.Range.{part}
 use Rattle.area.specs.Bytes.{fieldAt, pad}
 use Rattle.area.proofs.Contents.{listOf-is}
 use Rattle.parse.specs.Parse.{parseCall}
 use Rattle.troymantle.specs.Words.{leftInWords, inWords}
 use Rattle.replay.specs.declared.record.Replayed.{Replayed}
-use Rattle.replay.specs.Records.{numberAt, longAt, skipTo, bytesEnd, bytesAt, lentAt, Skips, Ends, Told, NumbersAre, LeftIs, Compares, Called, Agrees, areasAt, fourthAt, lengthsAt, countsAt, recorded, recordedCaps, recordEnd}
+use Rattle.replay.specs.declared.record.Source.{Source}
+use Rattle.replay.specs.Records.{numberAt, longAt, skipTo, bytesEnd, bytesAt, lentAt, Skips, Ends, Told, NumbersAre, LeftIs, Compares, Called, Agrees, areasAt, fourthAt, lengthsAt, countsAt, recorded, recordedCaps, recordEnd, sourceAt, sourceEnd, Sourced}
 
 counts-listed : (l : List ℕ) (lengths word : ℕ) (counts : List ℕ) → length counts ≡ 6 → NumbersAre l lengths word counts → countsAt l lengths ≡ counts
 counts-listed l lengths word counts h n = listOf-is _ 0 counts 6 (sym h) (λ k g. sym (n .counts-are k (omega (arith, h))))
@@ -43,3 +49,31 @@ module _ (src l : List ℕ) (at flags v from lengths word : ℕ) (counts e1 e2 e
         from-on = omega (arith, x .from-on, qv .plain, qm .plain, ql .from);
         within = x .within;
       }
+
+-- ---- the source
+
+take-min : (t : List ℕ) (m : ℕ) → take (min (length t) m) t ≡ take m t
+take-min t m = by (leb (length t) m) refl
+  where
+    by : (b : Bool) → leb (length t) m ≡ b → take (min (length t) m) t ≡ take m t
+    by true e =
+        let h : length t ≤ m = leb-true (length t) m e in
+        take-all (min (length t) m) t (omega arith) ∙ sym (take-all m t h)
+    by false e =
+        let h : m < length t = leb-false (length t) m e in
+        let z : min (length t) m ≡ m = omega arith in
+        ap (λ (j : ℕ). take j t) z
+
+pub record-read : (l : List ℕ) (at : ℕ) (e : List ℕ) (s : Source) (r : Replayed) (m1 m2 m3 m4 m5 m6 m : ℕ) → at < length l → length e ≡ m → Sourced l at e s
+    → Compares (Agrees (take (s .length - 0) (drop 0 e)) l (s .next) m1 m2 m3 m4 m5 m6) l (s .next) (recordEnd l (s .next)) r
+    → Compares (Agrees (take m (sourceAt l at)) l (sourceEnd l at) m1 m2 m3 m4 m5 m6) l (at + 1) (recordEnd l (sourceEnd l at)) r
+record-read l at e s r m1 m2 m3 m4 m5 m6 m g h d x =
+    let n : s .length ≡ min (length (sourceAt l at)) m = d .text .count ∙ ap (min (length (sourceAt l at))) h in
+    let zs : take (s .length - 0) e ≡ take m (sourceAt l at) =
+    ap (λ (j : ℕ). take j e) (sub-zero (s .length)) ∙ d .text .is ∙ ap (λ (j : ℕ). take j (sourceAt l at)) n ∙ take-min (sourceAt l at) m in
+    record {
+      equal = record { told = λ t. subst (λ (u : List ℕ). Agrees u l (sourceEnd l at) m1 m2 m3 m4 m5 m6) zs (subst (λ (j : ℕ). Agrees (take (s .length - 0) e) l j m1 m2 m3 m4 m5 m6) (d .next) (x .equal .told t)) };
+      is = x .is ∙ ap (λ (j : ℕ). recordEnd l j) (d .next);
+      from-on = omega (arith, x .from-on, d .from);
+      within = x .within;
+    }
