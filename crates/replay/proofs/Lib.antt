@@ -3,3 +3,4 @@ pub mod Comparing
 pub mod Pieces
 pub mod Calling
 pub mod Agreeing
+pub mod Whole

@@ -6,8 +6,9 @@ use mathlib.Core.List.{List, [], _++_}
 use lib.ListN.{length, take, drop, getD}
 use Rattle.text.specs.Range.{part}
 use Rattle.area.specs.Bytes.{fieldAt, pad, zeros}
-use Rattle.parse.specs.Parse.{caps, parseCall}
-use Rattle.troymantle.specs.Words.{leftInWords, inWords}
+use Rattle.area.specs.Contents.{listOf}
+use Rattle.parse.specs.Parse.{Caps, caps, parseCall}
+use Rattle.troymantle.specs.Words.{LeftInWords, leftInWords, inWords}
 use Rattle.sheet_print.specs.Output.{Written}
 use Rattle.sheet_print.specs.Lines.{joined}
 use Rattle.replay.specs.declared.record.Source.{Source}
@@ -140,3 +141,42 @@ pub record Called (src : List ℕ) (flags : ℕ) (verdicts l : List ℕ) (length
   pub six : length counts ≡ 6
   pub left-is : leftInWords word counts (front l lengths 0 e1) (front l lengths 1 e2) (front l lengths 2 e3) (front l lengths 3 e4) (front l lengths 4 e5) (front l lengths 5 e6)
       ≡ inWords (parseCall src flags verdicts (caps (lentAt l lengths 0 (length e1)) (lentAt l lengths 1 (length e2)) (lentAt l lengths 2 (length e3)) (lentAt l lengths 3 (length e4)) (lentAt l lengths 4 (length e5)) (lentAt l lengths 5 (length e6))))
+
+-- ---- a record as a whole, from the place behind its source on
+
+-- where the lengths of the areas stand, behind the flags and the verdicts
+abbrev pub lengthsAt : List ℕ → ℕ → ℕ
+lengthsAt l at = bytesEnd l (skipTo l at 8)
+
+-- the six counts
+abbrev pub countsAt : List ℕ → ℕ → List ℕ
+countsAt l lengths = listOf (λ i. fieldAt l (skipTo l (skipTo l (skipTo l lengths 24) 4) (2 * i))) 6
+
+-- area k, recorded at a place: its bytes, and zeros behind them
+abbrev pub areaAt : List ℕ → ℕ → ℕ → ℕ → ℕ → List ℕ
+areaAt l lengths k most at = pad (lentAt l lengths k most) (bytesAt l at)
+
+-- all that is recorded, for buffers of m1 to m6 bytes
+abbrev pub recorded : List ℕ → ℕ → ℕ → ℕ → ℕ → ℕ → ℕ → ℕ → LeftInWords
+recorded l lengths m1 m2 m3 m4 m5 m6 =
+    leftInWords (numberAt l (skipTo l lengths 24)) (countsAt l lengths)
+    (areaAt l lengths 0 m1 (areasAt l lengths))
+    (areaAt l lengths 1 m2 (bytesEnd l (areasAt l lengths)))
+    (areaAt l lengths 2 m3 (bytesEnd l (bytesEnd l (areasAt l lengths))))
+    (areaAt l lengths 3 m4 (fourthAt l (areasAt l lengths)))
+    (areaAt l lengths 4 m5 (bytesEnd l (fourthAt l (areasAt l lengths))))
+    (areaAt l lengths 5 m6 (bytesEnd l (bytesEnd l (fourthAt l (areasAt l lengths)))))
+
+-- how many bytes are lent
+abbrev pub recordedCaps : List ℕ → ℕ → ℕ → ℕ → ℕ → ℕ → ℕ → ℕ → Caps
+recordedCaps l lengths m1 m2 m3 m4 m5 m6 =
+    caps (lentAt l lengths 0 m1) (lentAt l lengths 1 m2) (lentAt l lengths 2 m3) (lentAt l lengths 3 m4) (lentAt l lengths 4 m5) (lentAt l lengths 5 m6)
+
+-- what is recorded behind the source src is what the parse call leaves
+pub record Agrees (src l : List ℕ) (at m1 m2 m3 m4 m5 m6 : ℕ) : Type 0 where
+  pub is : recorded l (lengthsAt l at) m1 m2 m3 m4 m5 m6
+      ≡ inWords (parseCall src (longAt l at) (bytesAt l (skipTo l at 8)) (recordedCaps l (lengthsAt l at) m1 m2 m3 m4 m5 m6))
+
+-- where the next record stands
+abbrev pub recordEnd : List ℕ → ℕ → ℕ
+recordEnd l at = fourthAt l (fourthAt l (areasAt l (lengthsAt l at)))

@@ -1,10 +1,10 @@
 // A record: the file and what is lent, then what the call left.
 ghost use mathlib.Core.Path.{_≡_};
-ghost use Prim.Native.Nat.{_≤_, _<_};
-ghost use lib.ListN.{length};
+ghost use Prim.Native.Nat.{_+_, _≤_, _<_};
+ghost use lib.ListN.{length, take};
 ghost use Rattle.text.specs.Range.{part};
 ghost use Rattle.sheet_print.specs.Output.{Appends};
-ghost use Rattle.replay.specs.Records.{lentAt, repeated, Sourced, Told, AreaIs, ThreeAre, NumbersAre, LeftIs, Compares, Called, areasAt, fourthAt};
+ghost use Rattle.replay.specs.Records.{lentAt, repeated, sourceAt, sourceEnd, Sourced, Told, AreaIs, ThreeAre, NumbersAre, LeftIs, Compares, Called, Agrees, recordEnd, areasAt, fourthAt};
 use crate::compared::counted;
 use crate::compared::holds;
 use crate::reader::bytes_end;
@@ -200,7 +200,7 @@ fn replay_in(
     area6: &mut [u8],
 ) -> Replayed
     requires { ⌜ at ≤ length (now answers) ⌝ }
-    ensures { λ r. ⌜ (at ≤ r .next) × (r .next ≤ length (now (answers .entry))) ⌝ }
+    ensures { λ r. ⌜ Compares (Agrees (now (src .entry)) (now (answers .entry)) at (length (now (area1 .entry))) (length (now (area2 .entry))) (length (now (area3 .entry))) (length (now (area4 .entry))) (length (now (area5 .entry))) (length (now (area6 .entry)))) (now (answers .entry)) at (recordEnd (now (answers .entry)) at) r ⌝ }
 {
     let mut counts = [0u16; 6];
     let flags = long(answers, at);
@@ -237,7 +237,7 @@ fn replay_in(
 
 fn replay_rest(answers: &[u8], at: usize, src: &[u8]) -> Replayed
     requires { ⌜ at ≤ length (now answers) ⌝ }
-    ensures { λ r. ⌜ (at ≤ r .next) × (r .next ≤ length (now (answers .entry))) ⌝ }
+    ensures { λ r. ⌜ Compares (Agrees (now (src .entry)) (now (answers .entry)) at 512 65536 65536 65536 65536 65536) (now (answers .entry)) at (recordEnd (now (answers .entry)) at) r ⌝ }
 {
     let mut area1 = [0u8; 512];
     let mut area2 = [0u8; 65536];
@@ -260,7 +260,7 @@ fn replay_rest(answers: &[u8], at: usize, src: &[u8]) -> Replayed
 
 fn replay(answers: &[u8], at: usize) -> Replayed
     requires { ⌜ at < length (now answers) ⌝ }
-    ensures { λ r. ⌜ (at < r .next) × (r .next ≤ length (now (answers .entry))) ⌝ }
+    ensures { λ r. ⌜ Compares (Agrees (take 65536 (sourceAt (now (answers .entry)) at)) (now (answers .entry)) (sourceEnd (now (answers .entry)) at) 512 65536 65536 65536 65536 65536) (now (answers .entry)) (at + 1) (recordEnd (now (answers .entry)) (sourceEnd (now (answers .entry)) at)) r ⌝ }
 {
     let mut src = [0u8; 65536];
     let read = read_source(answers, at, &mut src);
