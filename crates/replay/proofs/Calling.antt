@@ -7,16 +7,16 @@ use native.Mathlib.Omega.{arith}
 use lib.ListN.{length}
 use lib.Seq.{length-take-le, take-at}
 use borrow.Rule.Slice.PartMut.{midOf, putMid, postOf}
-use Rattle.parse.specs.Parse.{Left, Outcome, Caps, caps, long, stray, untext, short, faulty, accepted, outcome, leaves, parseCall}
+use Rattle.parse.specs.Parse.{Left, Outcome, Caps, caps, longFile, unknownFlag, invalidUtf8, areaFull, faulty, accepted, outcome, leaves, parseCall}
 use Rattle.replay.specs.Records.{lentAt, front, Called}
 use Rattle.troymantle.specs.Words.{LeftInWords, leftInWords, inWords}
 
 leaves-six : (k : Caps) (o : Outcome) → length (leaves k o .counts) ≡ 6
 unfolding leaves
 leaves-six k long = refl
-leaves-six k stray = refl
-leaves-six k untext = refl
-leaves-six k (short n) = refl
+leaves-six k unknownFlag = refl
+leaves-six k invalidUtf8 = refl
+leaves-six k (areaFull n) = refl
 leaves-six k (faulty fs) = refl
 leaves-six k (accepted b) = refl
 

@@ -18,8 +18,8 @@ use Rattle.area.specs.Records.{stateAt, ruleAt, faultAt, nthState, nthRule, nth
 use Rattle.area.proofs.Contents.{Sound, state-sound, rule-sound, fault-sound}
 use Rattle.area.proofs.Fields.{bytes-length}
 use Rattle.parse.specs.declared.Answer.{Answer}
-use Rattle.parse.specs.declared.Answer.the-variants.{Accepted, LongFile, StrayFlag, NotText, AreaFull, FaultyFile}
-use Rattle.parse.specs.Parse.{Left, left, leaves, laid, Outcome, Caps, caps, long, stray, untext, short, faulty, accepted, outcome, parseCall}
+use Rattle.parse.specs.declared.Answer.the-variants.{Accepted, LongFile, UnknownFlag, InvalidUtf8, AreaFull, FaultyFile}
+use Rattle.parse.specs.Parse.{Left, left, leaves, laid, Outcome, Caps, caps, longFile, unknownFlag, invalidUtf8, areaFull, faulty, accepted, outcome, parseCall}
 use Rattle.sheet_print.specs.Output.{Appends, Written}
 use Rattle.sheet_print.specs.Lines.{joined, stateLine, ruleLine, faultLine, statesIn, rulesIn, faultsIn, sheetIn, refusedLine, fullLine, answerText, textOf, sheetText, lent}
 use Rattle.sheet_print.proofs.Appending.{appends-first}
@@ -34,17 +34,17 @@ module _ (s : List ℕ) (a : Answer) (states rules : ℕ) (l1 l2 l6 : List ℕ) 
   unfolding answerText
   answer-accepted z p = said Accepted z p
 
-  pub answer-long : a ≡ LongFile → Appends (refusedLine 1) l 0 e r → Written (answerText s a states rules l1 l2 l6) e r
+  pub answer-long-file : a ≡ LongFile → Appends (refusedLine 1) l 0 e r → Written (answerText s a states rules l1 l2 l6) e r
   unfolding answerText
-  answer-long z p = said LongFile z p
+  answer-long-file z p = said LongFile z p
 
-  pub answer-stray : a ≡ StrayFlag → Appends (refusedLine 2) l 0 e r → Written (answerText s a states rules l1 l2 l6) e r
+  pub answer-unknown-flag : a ≡ UnknownFlag → Appends (refusedLine 2) l 0 e r → Written (answerText s a states rules l1 l2 l6) e r
   unfolding answerText
-  answer-stray z p = said StrayFlag z p
+  answer-unknown-flag z p = said UnknownFlag z p
 
-  pub answer-untext : a ≡ NotText → Appends (refusedLine 3) l 0 e r → Written (answerText s a states rules l1 l2 l6) e r
+  pub answer-invalid-utf8 : a ≡ InvalidUtf8 → Appends (refusedLine 3) l 0 e r → Written (answerText s a states rules l1 l2 l6) e r
   unfolding answerText
-  answer-untext z p = said NotText z p
+  answer-invalid-utf8 z p = said InvalidUtf8 z p
 
   pub answer-full : (area : ℕ) → a ≡ AreaFull area → Appends (fullLine area) l 0 e r → Written (answerText s a states rules l1 l2 l6) e r
   unfolding answerText
@@ -54,7 +54,7 @@ module _ (s : List ℕ) (a : Answer) (states rules : ℕ) (l1 l2 l6 : List ℕ) 
   unfolding answerText
   answer-faulty spans z p = said (FaultyFile spans) z p
 
-pub ruleset answers = (needs, answer-accepted, answer-long, answer-stray, answer-untext, answer-full, answer-faulty)
+pub ruleset answers = (needs, answer-accepted, answer-long-file, answer-unknown-flag, answer-invalid-utf8, answer-full, answer-faulty)
 
 -- ---- what the areas hold
 
@@ -108,10 +108,10 @@ record Kept (k : Caps) (y : Left) : Type 0 where
 
 leaves-tells : (s : List ℕ) (k : Caps) (o : Outcome) → Kept k (leaves k o) → tells s (leaves k o) ≡ textOf s o
 unfolding leaves textOf answerText sheetIn
-leaves-tells s k long h = refl
-leaves-tells s k stray h = refl
-leaves-tells s k untext h = refl
-leaves-tells s k (short n) h = refl
+leaves-tells s k longFile h = refl
+leaves-tells s k unknownFlag h = refl
+leaves-tells s k invalidUtf8 h = refl
+leaves-tells s k (areaFull n) h = refl
 leaves-tells s k (faulty fs) h = faults-told s (k .c6) _ (h .six) fs refl
 leaves-tells s k (accepted b) h =
     ap₂ (λ (x y : List ℕ). x ++ y) (states-told s (k .c1) _ (h .one) (b .states) refl) (rules-told s (k .c2) _ (h .two) (b .rules) refl)

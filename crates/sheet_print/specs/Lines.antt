@@ -11,8 +11,8 @@ use Rattle.area.specs.declared.Fault.{Fault}
 use Rattle.area.specs.Bytes.{bytes, fieldFrom}
 use Rattle.area.specs.Records.{ruleFields, faultFields, stateAt, ruleAt, faultAt, nthState, nthRule, nthFault}
 use Rattle.parse.specs.declared.Answer.{Answer}
-use Rattle.parse.specs.declared.Answer.the-variants.{Accepted, LongFile, StrayFlag, NotText, AreaFull, FaultyFile}
-use Rattle.parse.specs.Parse.{Outcome, Caps, caps, long, stray, untext, short, faulty, accepted, outcome}
+use Rattle.parse.specs.declared.Answer.the-variants.{Accepted, LongFile, UnknownFlag, InvalidUtf8, AreaFull, FaultyFile}
+use Rattle.parse.specs.Parse.{Outcome, Caps, caps, longFile, unknownFlag, invalidUtf8, areaFull, faulty, accepted, outcome}
 use Rattle.sheet_print.specs.Output.{field}
 
 -- f 0 up to f (n - 1), one behind the other
@@ -58,9 +58,9 @@ fullLine area = (114 ∷ 101 ∷ 102 ∷ 117 ∷ 115 ∷ 101 ∷ 100 ∷ []) ++ 
 
 -- what is printed of a file s that has an outcome: its states and rules, its faults, or the refusal
 unfoldable pub textOf : List ℕ → Outcome → List ℕ
-textOf s long = refusedLine 1
-textOf s stray = refusedLine 2
-textOf s untext = refusedLine 3
+textOf s longFile = refusedLine 1
+textOf s unknownFlag = refusedLine 2
+textOf s invalidUtf8 = refusedLine 3
 textOf s (short area) = fullLine area
 textOf s (faulty fs) = joined (λ k. faultLine (nthFault fs k)) (length fs)
 textOf s (accepted b) =
@@ -96,7 +96,7 @@ sheetIn s l1 states l2 rules = statesIn s l1 states ++ rulesIn l2 rules
 unfoldable pub answerText : List ℕ → Answer → ℕ → ℕ → List ℕ → List ℕ → List ℕ → List ℕ
 answerText s Accepted states rules l1 l2 l6 = sheetIn s l1 states l2 rules
 answerText s LongFile states rules l1 l2 l6 = refusedLine 1
-answerText s StrayFlag states rules l1 l2 l6 = refusedLine 2
-answerText s NotText states rules l1 l2 l6 = refusedLine 3
+answerText s UnknownFlag states rules l1 l2 l6 = refusedLine 2
+answerText s InvalidUtf8 states rules l1 l2 l6 = refusedLine 3
 answerText s (AreaFull area) states rules l1 l2 l6 = fullLine area
 answerText s (FaultyFile spans) states rules l1 l2 l6 = faultsIn l6 spans

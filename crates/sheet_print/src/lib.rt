@@ -61,8 +61,8 @@ fn put_answer(
     match answer {
         Answer::Accepted => put_sheet(out, 0, src, counts[0], area1, counts[1], area2),
         Answer::LongFile => put_refused(out, 0, 1),
-        Answer::StrayFlag => put_refused(out, 0, 2),
-        Answer::NotText => put_refused(out, 0, 3),
+        Answer::UnknownFlag => put_refused(out, 0, 2),
+        Answer::InvalidUtf8 => put_refused(out, 0, 3),
         Answer::AreaFull(area) => put_full(out, 0, area),
         Answer::FaultyFile(spans) => put_faults(out, 0, area6, spans),
     }
