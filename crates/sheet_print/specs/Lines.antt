@@ -61,7 +61,7 @@ unfoldable pub textOf : List ℕ → Outcome → List ℕ
 textOf s longFile = refusedLine 1
 textOf s unknownFlag = refusedLine 2
 textOf s invalidUtf8 = refusedLine 3
-textOf s (short area) = fullLine area
+textOf s (areaFull area) = fullLine area
 textOf s (faulty fs) = joined (λ k. faultLine (nthFault fs k)) (length fs)
 textOf s (accepted b) =
     joined (λ k. stateLine s k (nthState (b .states) k)) (length (b .states))
