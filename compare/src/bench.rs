@@ -22,7 +22,7 @@ pub fn bench() {
         line(shape.name, shape.source.len(), time_original(&shape), time_ours(&shape));
     }
     let alike = alike_names();
-    line("link: 2,048 rules, 2,048 entries", alike.len(), time_link(&alike), None);
+    line("link: 2,048 rules, 2,048 entries", alike.len(), time_link(&alike), time_our_link(&alike));
     println!("Best of {REPETITIONS} repetitions each, in microseconds, on one core; {}.", original::ENGINE);
 }
 
@@ -147,8 +147,30 @@ fn time_ours(shape: &Shape) -> Option<Duration> {
     Some(time)
 }
 
+fn link_names() -> Vec<String> {
+    (0..MOST_RULES).map(|number| format!("BEGINS_ALIKE_{number:04}")).collect()
+}
+
+#[cfg(not(feature = "ours"))]
+fn time_our_link(_: &str) -> Option<Duration> {
+    None
+}
+
+#[cfg(feature = "ours")]
+fn time_our_link(source: &str) -> Option<Duration> {
+    let call = crate::link::named_call(source, &link_names());
+    let time = best(
+        || (call.areas[1].clone(), call.area_7.clone(), call.area_8.clone()),
+        |(area_2, area_7, area_8)| {
+            let word = crate::side::link_into(&call, area_2, area_7, area_8);
+            assert_eq!(word, 0, "our library does not link every rule and entry");
+        },
+    );
+    Some(time)
+}
+
 fn time_link(source: &str) -> Duration {
-    let names: Vec<String> = (0..MOST_RULES).map(|number| format!("BEGINS_ALIKE_{number:04}")).collect();
+    let names = link_names();
     let map: HashMap<&str, u16> = names.iter().enumerate().map(|(id, name)| (name.as_str(), id as u16)).collect();
     best(
         || Definition::new(source, false, false, &[]).expect("the file has no faults"),

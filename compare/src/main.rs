@@ -4,6 +4,7 @@ mod bench;
 mod case;
 mod files_to_try;
 mod generators;
+mod link;
 mod misreadings;
 mod model;
 mod oracle;
@@ -48,6 +49,10 @@ compare run         compares the answers of many parse calls; stops at the first
     --first I       the number of the first case (0)
     --generator G   one of (mix)
 {}
+compare link        compares the answers of many link calls, and hand-made broken sheets and maps
+    --cases N       how many files and maps (20000)
+    --seed S        (1)
+    --first I       the number of the first case (0)
 compare self-test   checks 01's files to try, and that the cases notice every deliberate misreading of 01
     --cases N       how many cases at most (200000)
     --seed S        (1)
@@ -83,6 +88,10 @@ fn dispatch(arguments: &[String]) -> Result<(), String> {
                 Some(_) => Ok(()),
                 None => self_test::self_test(options.seed, SELF_TEST_CASES, false),
             }
+        }
+        "link" => {
+            let options = Options::read(rest, &["--cases", "--seed", "--first"])?;
+            link::run(options.number("--seed", 1)?, options.number("--first", 0)?, options.number("--cases", 20_000)?)
         }
         "self-test" => {
             let options = Options::read(rest, &["--cases", "--seed"])?;

@@ -23,12 +23,13 @@ impl Side for Misread {
 }
 
 #[cfg(feature = "ours")]
-pub use ours::{Ours, parse_into};
+pub use ours::{Ours, link, link_into, parse_into};
 
 #[cfg(feature = "ours")]
 mod ours {
     use super::Side;
     use crate::case::{AREAS, Answer, Case};
+    use crate::link::{Call, Left};
 
     unsafe extern "C" {
         fn troymantle_parse(
@@ -50,6 +51,30 @@ mod ours {
             area_6: *mut u8,
             area_6_length: usize,
             counts: *mut u16,
+        ) -> u64;
+
+        fn troymantle_link(
+            source: *const u8,
+            source_length: usize,
+            area_1: *const u8,
+            area_1_length: usize,
+            area_2: *mut u8,
+            area_2_length: usize,
+            area_3: *const u8,
+            area_3_length: usize,
+            area_4: *const u8,
+            area_4_length: usize,
+            area_5: *const u8,
+            area_5_length: usize,
+            counts: *const u16,
+            names: *const u8,
+            names_length: usize,
+            entries: *const u8,
+            entries_length: usize,
+            area_7: *mut u8,
+            area_7_length: usize,
+            area_8: *mut u8,
+            area_8_length: usize,
         ) -> u64;
     }
 
@@ -111,14 +136,62 @@ mod ours {
                 &mut bytes[GUARD..end]
             });
             let word = parse_into(&case.source, case.flags, &case.verdicts, &mut areas, &mut counts);
-            let areas = lent.map(|bytes| {
-                let (before, rest) = bytes.split_at(GUARD);
-                let (area, after) = rest.split_at(rest.len() - GUARD);
-                let intact = before.iter().chain(after).all(|byte| *byte == GUARD_BYTE);
-                assert!(intact, "the call wrote outside an area that was lent to it");
-                area.to_vec()
-            });
-            Answer { word, counts, areas }
+            Answer { word, counts, areas: lent.map(unguarded) }
         }
+    }
+
+    /// Area 2 of the call is lent apart, so that the call itself stays as it was.
+    pub fn link_into(call: &Call, area_2: &mut [u8], area_7: &mut [u8], area_8: &mut [u8]) -> u64 {
+        let [one, _, three, four, five] = &call.areas;
+        // SAFETY: every pointer goes with the length of its own slice, and the call reads and writes only there.
+        unsafe {
+            troymantle_link(
+                call.source.as_ptr(),
+                call.source.len(),
+                one.as_ptr(),
+                one.len(),
+                area_2.as_mut_ptr(),
+                area_2.len(),
+                three.as_ptr(),
+                three.len(),
+                four.as_ptr(),
+                four.len(),
+                five.as_ptr(),
+                five.len(),
+                call.counts.as_ptr(),
+                call.names.as_ptr(),
+                call.names.len(),
+                call.entries.as_ptr(),
+                call.entries.len(),
+                area_7.as_mut_ptr(),
+                area_7.len(),
+                area_8.as_mut_ptr(),
+                area_8.len(),
+            )
+        }
+    }
+
+    pub fn link(call: &Call) -> Left {
+        let mut lent = [&call.areas[1], &call.area_7, &call.area_8].map(|area| {
+            let mut bytes = vec![GUARD_BYTE; area.len() + 2 * GUARD];
+            bytes[GUARD..GUARD + area.len()].copy_from_slice(area);
+            bytes
+        });
+        let [two, seven, eight] = lent.each_mut().map(|bytes| {
+            let end = bytes.len() - GUARD;
+            &mut bytes[GUARD..end]
+        });
+        let word = link_into(call, two, seven, eight);
+        let [area_2, area_7, area_8] = lent.map(unguarded);
+        Left { word, area_2, area_7, area_8 }
+    }
+
+    /// The area between its guards, which the call must leave alone.
+    fn unguarded(bytes: Vec<u8>) -> Vec<u8> {
+        let (before, rest) = bytes.split_at(GUARD);
+        let (area, after) = rest.split_at(rest.len() - GUARD);
+        let intact = before.iter().chain(after).all(|byte| *byte == GUARD_BYTE);
+        assert!(intact, "the call wrote outside an area that was lent to it");
+        area.to_vec()
     }
 }

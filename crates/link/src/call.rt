@@ -11,6 +11,7 @@ ghost use Rattle.link.specs.Map.{mostEntries, entryCount, entriesOf};
 ghost use Rattle.link.specs.Link.{unmapped, unused, fits, linkLeft, linkAll, linkChecked, linkCall};
 use crate::LinkAnswer;
 use crate::map::check_map;
+use crate::numbers::NUMBER_WIDTH;
 use crate::numbers::count_unmapped;
 use crate::numbers::count_unused;
 use crate::numbers::write_unlinked;
@@ -19,7 +20,10 @@ use crate::rule_ids::link_rules;
 use area::clear;
 use sheet_check::check::check;
 
-const ENTRY_WIDTH: usize = 2;
+// The numbers of the two areas, for number 4.
+const UNMAPPED_AREA: u16 = 7;
+
+const UNUSED_AREA: u16 = 8;
 
 // Area 8 while the rules are as they were; then the rules; then area 7 from what they have become.
 fn write_all(
@@ -62,12 +66,12 @@ fn link_checked(
     ensures { λ r. ⌜ linkLeft r (now (area2 .exit)) (now (area7 .exit)) (now (area8 .exit)) ≡ linkChecked (now (src .entry)) (contents ruleFormat (now (area2 .entry)) rules) (entriesOf (now (names .entry)) (now (entries .entry))) (now (area2 .entry)) (now (area7 .entry)) (now (area8 .entry)) ⌝ }
 {
     let missing = count_unmapped(src, area2, rules, names, entries);
-    if area7.len() < missing as usize * ENTRY_WIDTH {
-        return LinkAnswer::AreaFull(7);
+    if area7.len() < missing as usize * NUMBER_WIDTH {
+        return LinkAnswer::AreaFull(UNMAPPED_AREA);
     }
     let idle = count_unused(src, area2, rules, names, entries);
-    if area8.len() < idle as usize * ENTRY_WIDTH {
-        return LinkAnswer::AreaFull(8);
+    if area8.len() < idle as usize * NUMBER_WIDTH {
+        return LinkAnswer::AreaFull(UNUSED_AREA);
     }
     write_all(
         src,

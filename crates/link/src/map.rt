@@ -12,8 +12,10 @@ use crate::MapEntry;
 use area::read_field;
 use text::range::same_range;
 
-const MAP_WIDTH: usize = 6;
+// How many bytes an entry has.
+pub const MAP_WIDTH: usize = 6;
 
+// How many entries a map may have.
 const MOST_ENTRIES: usize = 2048;
 
 pub fn read_map_entry(entries: &[u8], k: usize) -> MapEntry

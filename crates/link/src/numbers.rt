@@ -10,22 +10,22 @@ ghost use Rattle.area.specs.Contents.{contents, ruleFormat, entryFormat};
 ghost use Rattle.parse.specs.Parse.{laid};
 ghost use Rattle.link.specs.Map.{mostEntries, entryCount, entriesOf, nth};
 ghost use Rattle.link.specs.Link.{isUnmapped, isUnlinked, hasThatName, isUnused, unlinked, unmapped, unused, fits};
+use crate::map::MAP_WIDTH;
 use crate::map::has_name;
 use crate::rule_ids::entry_of;
 use area::Rule;
 use area::read_rule;
 use area::write_field;
 
-const MAP_WIDTH: usize = 6;
-
-const ENTRY_WIDTH: usize = 2;
+// How many bytes a number has.
+pub const NUMBER_WIDTH: usize = 2;
 
 // Number n of an area.
 fn write_number(into: &mut [u8], n: u16, number: u16)
     requires { ⌜ n * entryWidth + entryWidth ≤ length (now into) ⌝ }
     ensures { λ _. ⌜ now (into .exit) ≡ sets (now (into .entry)) (n * entryWidth) (entryBytes number) ⌝ }
 {
-    write_field(into, n as usize * ENTRY_WIDTH, number);
+    write_field(into, n as usize * NUMBER_WIDTH, number);
 }
 
 // ---- rules

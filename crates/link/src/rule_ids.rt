@@ -7,13 +7,12 @@ ghost use Rattle.area.specs.Records.{ruleWidth, mostRules};
 ghost use Rattle.area.specs.Contents.{contents, ruleFormat};
 ghost use Rattle.link.specs.Map.{entryCount, entriesOf, findEntry};
 ghost use Rattle.link.specs.Link.{nameOf, withId, linkRule, linkRules, relaid};
+use crate::map::MAP_WIDTH;
 use crate::map::find_entry;
 use crate::map::read_map_entry;
 use area::Rule;
 use area::push_rule;
 use area::read_rule;
-
-const MAP_WIDTH: usize = 6;
 
 // The entry with a rule's name, or the number of entries.
 pub fn entry_of(src: &[u8], names: &[u8], entries: &[u8], x: Rule) -> usize

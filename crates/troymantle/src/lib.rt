@@ -6,6 +6,7 @@ ghost use Rattle.troymantle.specs.Words.{inWords, leftInWords};
 use parse::Answer;
 use parse::call::parse;
 
+mod linking;
 mod pattern;
 
 fn word_of(answer: Answer) -> u64

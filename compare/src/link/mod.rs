@@ -1,0 +1,120 @@
+//! `compare link`: the link call against the original's `set_rule_ids_spanned` and against 01's words for what the original
+//! does not have: areas, broken sheets and broken maps.
+
+mod broken;
+mod cases;
+mod model;
+
+use crate::show;
+use cases::Linking;
+use original::Definition;
+use std::time::Instant;
+
+/// What a call takes, and what areas 2, 7 and 8 hold beforehand.
+#[derive(Clone, Debug, PartialEq, Eq)]
+pub struct Call {
+    pub source: Vec<u8>,
+    /// Areas 1 to 5.
+    pub areas: [Vec<u8>; 5],
+    pub counts: [u16; 6],
+    pub names: Vec<u8>,
+    pub entries: Vec<u8>,
+    pub area_7: Vec<u8>,
+    pub area_8: Vec<u8>,
+}
+
+#[derive(Clone, Debug, PartialEq, Eq)]
+pub struct Left {
+    pub word: u64,
+    pub area_2: Vec<u8>,
+    pub area_7: Vec<u8>,
+    pub area_8: Vec<u8>,
+}
+
+pub const BROKEN_SHEET: u64 = 6;
+pub const BROKEN_MAP: u64 = 7;
+pub const AREA_FULL: u64 = 4;
+
+/// The word of a number and its two values.
+pub fn word(number: u64, a: usize, b: usize) -> u64 {
+    number + 65_536 * (a as u64 + 65_536 * b as u64)
+}
+
+pub fn run(seed: u64, first: u64, cases: u64) -> Result<(), String> {
+    let start = Instant::now();
+    let hand_made = broken::check()?;
+    println!("{hand_made} hand-made broken sheets and maps: expected answers.");
+    let mut linked = 0;
+    let mut calls = 0;
+    for index in first..first + cases {
+        let told = |what: String| format!("Link case {index} of seed {seed}: {what}");
+        let Some(linking) = cases::linking(seed, index) else { continue };
+        against_original(&linking).map_err(told)?;
+        linked += 1;
+        for call in cases::calls(&linking, seed, index) {
+            against_model(&call).map_err(told)?;
+            calls += 1;
+        }
+    }
+    let compared = match cfg!(feature = "ours") {
+        true => "Troymantle answered as 01 has it",
+        false => "were made; our library is not linked",
+    };
+    println!(
+        "{} files and maps: the model of 01 and the original link alike; {} calls: {compared} ({:.1} seconds, seed {seed}).",
+        show::number(linked),
+        show::number(calls),
+        start.elapsed().as_secs_f64()
+    );
+    Ok(())
+}
+
+/// The model links as the original does: ids, and both lists of names.
+fn against_original(linking: &Linking) -> Result<(), String> {
+    let mut definition = Definition::new(&linking.source, false, false, &[]).ok_or("the file has faults")?;
+    let entries: Vec<(&str, u16)> = linking.map.iter().map(|(name, id)| (name.as_str(), *id)).collect();
+    let original = definition.link(&entries);
+    let call = linking.call();
+    let left = model::link(&call);
+    let rules: Vec<model::Rule> = model::rules(&left.area_2, call.counts[1] as usize);
+    let ids: Vec<Option<u16>> = rules.iter().map(|rule| (rule.has_id() == 1).then_some(rule.id())).collect();
+    let mut missing: Vec<String> =
+        model::numbers(&left.area_7, (left.word >> 16) as u16).map(|k| name_of(&call, &rules[k])).collect();
+    missing.sort();
+    let mut idle: Vec<String> =
+        model::numbers(&left.area_8, (left.word >> 32) as u16).map(|j| linking.map[j].0.clone()).collect();
+    idle.sort();
+    let model = original::Linked { ids, rules_without_entry: missing, entries_without_rule: idle };
+    if model == original {
+        Ok(())
+    } else {
+        Err(format!("the original has {original:?}\nthe model {model:?}\nof {linking:?}"))
+    }
+}
+
+/// The call of a file with a map of these names, whose ids are their numbers.
+#[cfg(feature = "ours")]
+pub fn named_call(source: &str, names: &[String]) -> Call {
+    let map = names.iter().enumerate().map(|(id, name)| (name.clone(), id as u16)).collect();
+    Linking::new(source.to_string(), map).call()
+}
+
+fn name_of(call: &Call, rule: &model::Rule) -> String {
+    String::from_utf8_lossy(&call.source[rule.name()]).into_owned()
+}
+
+fn against_model(call: &Call) -> Result<(), String> {
+    let expected = model::link(call);
+    let Some(got) = ours(call) else { return Ok(()) };
+    if got == expected { Ok(()) } else { Err(format!("expected {expected:?}\ngot {got:?}\nof {call:?}")) }
+}
+
+#[cfg(feature = "ours")]
+fn ours(call: &Call) -> Option<Left> {
+    Some(crate::side::link(call))
+}
+
+#[cfg(not(feature = "ours"))]
+fn ours(_: &Call) -> Option<Left> {
+    None
+}
