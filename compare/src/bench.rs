@@ -160,7 +160,7 @@ fn time_our_link(_: &str) -> Option<Duration> {
 fn time_our_link(source: &str) -> Option<Duration> {
     let call = crate::link::named_call(source, &link_names());
     let time = best(
-        || (call.areas[1].clone(), call.area_7.clone(), call.area_8.clone()),
+        || (call.sheet.areas[1].clone(), call.area_7.clone(), call.area_8.clone()),
         |(area_2, area_7, area_8)| {
             let word = crate::side::link_into(&call, area_2, area_7, area_8);
             assert_eq!(word, 0, "our library does not link every rule and entry");

@@ -1,6 +1,7 @@
 //! Compares Troymantle with the Rust code that it ports.
 
 mod bench;
+mod broken_sheets;
 mod case;
 mod files_to_try;
 mod generators;
@@ -13,6 +14,7 @@ mod record;
 mod recorded;
 mod run;
 mod self_test;
+mod sheet;
 mod show;
 mod shrink;
 mod side;

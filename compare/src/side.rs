@@ -142,12 +142,12 @@ mod ours {
 
     /// Area 2 of the call is lent apart, so that the call itself stays as it was.
     pub fn link_into(call: &Call, area_2: &mut [u8], area_7: &mut [u8], area_8: &mut [u8]) -> u64 {
-        let [one, _, three, four, five] = &call.areas;
+        let [one, _, three, four, five] = &call.sheet.areas;
         // SAFETY: every pointer goes with the length of its own slice, and the call reads and writes only there.
         unsafe {
             troymantle_link(
-                call.source.as_ptr(),
-                call.source.len(),
+                call.sheet.source.as_ptr(),
+                call.sheet.source.len(),
                 one.as_ptr(),
                 one.len(),
                 area_2.as_mut_ptr(),
@@ -158,7 +158,7 @@ mod ours {
                 four.len(),
                 five.as_ptr(),
                 five.len(),
-                call.counts.as_ptr(),
+                call.sheet.counts.as_ptr(),
                 call.names.as_ptr(),
                 call.names.len(),
                 call.entries.as_ptr(),
@@ -172,7 +172,7 @@ mod ours {
     }
 
     pub fn link(call: &Call) -> Left {
-        let mut lent = [&call.areas[1], &call.area_7, &call.area_8].map(|area| {
+        let mut lent = [&call.sheet.areas[1], &call.area_7, &call.area_8].map(|area| {
             let mut bytes = vec![GUARD_BYTE; area.len() + 2 * GUARD];
             bytes[GUARD..GUARD + area.len()].copy_from_slice(area);
             bytes

@@ -5,6 +5,7 @@ use crate::case::{AREAS, Case};
 use crate::model::{self as parse_model, Reading};
 use crate::oracle;
 use crate::random::Random;
+use crate::sheet::Sheet;
 use std::collections::HashSet;
 
 /// An accepted file and a map of distinct names.
@@ -41,9 +42,7 @@ impl Linking {
             [*from as u16, name.len() as u16, *id].into_iter().flat_map(u16::to_le_bytes)
         });
         Call {
-            source: case.source,
-            areas: [one, two, three, four, five],
-            counts: answer.counts,
+            sheet: Sheet { source: case.source, areas: [one, two, three, four, five], counts: answer.counts },
             names: self.names.clone(),
             entries: entries.collect(),
             area_7: vec![0xa5; 2 * answer.counts[1] as usize + 3],
@@ -189,10 +188,10 @@ pub fn calls(linking: &Linking, seed: u64, index: u64) -> Vec<Call> {
 fn damaged(random: &mut Random, mut call: Call) -> Call {
     for _ in 0..1 + random.below(2) {
         match random.below(10) {
-            0 => call.counts[random.below(6)] = random.pick(&[0, 1, 2, 64, 65, 2_048, 2_049, 65_535]),
-            1 => call.counts[random.below(6)] ^= 1,
+            0 => call.sheet.counts[random.below(6)] = random.pick(&[0, 1, 2, 64, 65, 2_048, 2_049, 65_535]),
+            1 => call.sheet.counts[random.below(6)] ^= 1,
             2 => {
-                let area = &mut call.areas[random.below(5)];
+                let area = &mut call.sheet.areas[random.below(5)];
                 area.truncate(area.len() - random.below(area.len() + 1).min(12));
             }
             3 => call.names.truncate(call.names.len() - random.below(call.names.len() + 1).min(3)),
@@ -201,9 +200,9 @@ fn damaged(random: &mut Random, mut call: Call) -> Call {
             6 => overwrite(random, &mut call.names),
             7 => {
                 let area = random.pick(&[0, 2, 4]);
-                overwrite(random, &mut call.areas[area]);
+                overwrite(random, &mut call.sheet.areas[area]);
             }
-            _ => overwrite(random, &mut call.areas[1]),
+            _ => overwrite(random, &mut call.sheet.areas[1]),
         }
     }
     call
