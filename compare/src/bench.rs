@@ -158,7 +158,8 @@ fn time_our_link(_: &str) -> Option<Duration> {
 
 #[cfg(feature = "ours")]
 fn time_our_link(source: &str) -> Option<Duration> {
-    let call = crate::link::named_call(source, &link_names());
+    let map: Vec<(String, u16)> = link_names().into_iter().zip(0..).collect();
+    let call = crate::link::call(crate::sheet::parsed(source, 0), &map);
     let time = best(
         || (call.sheet.areas[1].clone(), call.area_7.clone(), call.area_8.clone()),
         |(area_2, area_7, area_8)| {

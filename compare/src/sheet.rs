@@ -1,5 +1,8 @@
 //! A sheet as the calls take it, and the sheet check by 01's words.
 
+use crate::case::{AREAS, Answer, Case};
+use crate::model::{self, Reading};
+use crate::oracle;
 use std::ops::Range;
 
 pub const BROKEN_SHEET: u64 = 6;
@@ -54,7 +57,20 @@ pub fn fields<const N: usize>(bytes: &[u8], number: usize) -> [u16; N] {
     std::array::from_fn(|j| field(bytes, number * 2 * N + 2 * j))
 }
 
+/// The sheet of a file with flags 0 and no verdicts, in areas with so many bytes behind the records.
+pub fn parsed(source: &str, spare: usize) -> Sheet {
+    let case = Case { source: source.into(), flags: 0, verdicts: vec![], capacities: [0; AREAS] };
+    let case = Case { capacities: oracle::needs(&case).map(|need| need + spare), ..case };
+    Sheet::new(case.source.clone(), model::answer(&case, Reading::RIGHT))
+}
+
 impl Sheet {
+    /// What a parse of the source left.
+    pub fn new(source: Vec<u8>, answer: Answer) -> Sheet {
+        let [one, two, three, four, five, _] = answer.areas;
+        Sheet { source, areas: [one, two, three, four, five], counts: answer.counts }
+    }
+
     pub fn rules(&self) -> Vec<Rule> {
         (0..self.counts[1] as usize).map(|k| Rule(fields(&self.areas[1], k))).collect()
     }

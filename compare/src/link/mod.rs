@@ -89,11 +89,17 @@ fn against_original(linking: &Linking) -> Result<(), String> {
     }
 }
 
-/// The call of a file with a map of these names, whose ids are their numbers.
-#[cfg(feature = "ours")]
-pub fn named_call(source: &str, names: &[String]) -> Call {
-    let map = names.iter().enumerate().map(|(id, name)| (name.clone(), id as u16)).collect();
-    Linking::new(source.to_string(), map).call()
+/// The call of a sheet with a map whose names stand one behind the other, and areas 7 and 8 with room for all numbers.
+pub fn call(sheet: Sheet, map: &[(String, u16)]) -> Call {
+    let mut names = vec![];
+    let mut entries = vec![];
+    for (name, id) in map {
+        let fields = [names.len() as u16, name.len() as u16, *id];
+        entries.extend(fields.into_iter().flat_map(u16::to_le_bytes));
+        names.extend(name.bytes());
+    }
+    let area_7 = vec![0; 2 * sheet.counts[1] as usize];
+    Call { sheet, names, entries, area_7, area_8: vec![0; 2 * map.len()] }
 }
 
 /// The sheet after the call.
@@ -107,10 +113,13 @@ fn name_of(call: &Call, rule: &Rule) -> String {
     String::from_utf8_lossy(&call.sheet.source[rule.name()]).into_owned()
 }
 
-fn against_model(call: &Call) -> Result<(), String> {
+/// What the call leaves by the model, and by ours too.
+pub fn against_model(call: &Call) -> Result<Left, String> {
     let expected = model::link(call);
-    let Some(got) = ours(call) else { return Ok(()) };
-    if got == expected { Ok(()) } else { Err(format!("expected {expected:?}\ngot {got:?}\nof {call:?}")) }
+    match ours(call) {
+        Some(got) if got != expected => Err(format!("expected {expected:?}\ngot {got:?}\nof {call:?}")),
+        _ => Ok(expected),
+    }
 }
 
 #[cfg(feature = "ours")]
