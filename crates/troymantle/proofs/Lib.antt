@@ -1,3 +1,4 @@
 pub mod Words
 pub mod PatternWords
 pub mod LinkingWords
+pub mod RunningWords

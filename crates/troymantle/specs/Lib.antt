@@ -1,2 +1,3 @@
 pub mod Words
 pub mod LinkWords
+pub mod RunWords

@@ -8,6 +8,7 @@ use parse::call::parse;
 
 mod linking;
 mod pattern;
+mod running;
 
 fn word_of(answer: Answer) -> u64
     ensures { λ r. ⌜ r ≡ wordOf answer ⌝ }

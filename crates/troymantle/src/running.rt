@@ -1,0 +1,76 @@
+// The start call and the step call as C functions (01, The run).
+ghost use mathlib.Core.Path.{_≡_};
+ghost use Rattle.sheet_check.specs.SheetCheck.{sheetBytes};
+ghost use Rattle.run.specs.Run.{runOf, startCall, startWord, stepCall, stepWord};
+ghost use Rattle.troymantle.specs.RunWords.{runInWords, startInWords, stepInWords};
+use run::Begun;
+use run::Step;
+use run::call::start;
+use run::call::step;
+
+fn start_word(answer: Begun) -> u64
+    ensures { λ r. ⌜ r ≡ startWord answer ⌝ }
+{
+    match answer {
+        Begun::Started => 0,
+        Begun::PoorStart => 8,
+    }
+}
+
+fn step_word(answer: Step) -> u64
+    ensures { λ r. ⌜ r ≡ stepWord answer ⌝ }
+{
+    match answer {
+        Step::BrokenSheet => 6,
+        Step::BrokenRun => 9,
+        Step::IllFittingRow => 10,
+        Step::Done => 256,
+        Step::Stopped => 257,
+        Step::Unlinked => 258,
+        Step::Skip => 259,
+        Step::Token(id, from, length) => {
+            260
+                + 65536 * (id as u64)
+                + 4294967296 * (from as u64)
+                + 281474976710656 * (length as u64)
+        }
+    }
+}
+
+// Begins a run over an entry of n bytes. The four numbers are n, position, depth and moves; a refusal changes nothing.
+#[no_mangle]
+pub extern "C" fn troymantle_start(n: u64, run: &mut [u16; 4], stack: &mut [u8]) -> u64
+    ensures { λ r. ⌜ runInWords r (runOf (now (run .exit))) (now (stack .exit)) ≡ startInWords (startCall n (runOf (now (run .entry))) (now (stack .entry))) ⌝ }
+{
+    start_word(start(n, run, stack))
+}
+
+// Moves a run on by a row, one length for each rule. A refusal changes nothing.
+#[no_mangle]
+pub extern "C" fn troymantle_step(
+    src: &[u8],
+    area1: &[u8],
+    area2: &[u8],
+    area3: &[u8],
+    area4: &[u8],
+    area5: &[u8],
+    counts: &[u16; 6],
+    run: &mut [u16; 4],
+    stack: &mut [u8],
+    row: &[u8],
+) -> u64
+    ensures { λ r. ⌜ runInWords r (runOf (now (run .exit))) (now (stack .exit)) ≡ stepInWords (stepCall (sheetBytes (now (src .entry)) (now (area1 .entry)) (now (area2 .entry)) (now (area3 .entry)) (now (area4 .entry)) (now (area5 .entry)) (now (counts .entry))) (runOf (now (run .entry))) (now (stack .entry)) (now (row .entry))) ⌝ }
+{
+    step_word(step(
+        src,
+        area1,
+        area2,
+        area3,
+        area4,
+        area5,
+        counts,
+        run,
+        stack,
+        row,
+    ))
+}
