@@ -1,6 +1,6 @@
 -- Cases 1 to 12 hold by computing: with every definition of the parse unfolded, what becomes of each file is what its row says. A definition that
 -- is added to the parse is to be listed here.
-use mathlib.Core.Path.{_≡_, refl}
+use mathlib.Core.Path.{refl}
 use Rattle.text.specs.Class.{isLineEnd, isBlank, isOtherWhitespace, isLetter, isDigit, isHexDigit, isMetaCharacter, isEscapeLetter, isWhitespaceByte, isAsciiWhitespace, isAlwaysKept}
 use Rattle.text.specs.Range.{part, sameBytes, sameRange, lookaheadIs}
 use Rattle.text.specs.Scan.{trimStart, trimEnd, backslashesBehind, backslashesBefore, keepEscaped, trimEndUnescaped}

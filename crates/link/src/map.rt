@@ -2,7 +2,6 @@
 ghost use mathlib.Core.Path.{_≡_};
 ghost use Prim.Native.Nat.{_<_};
 ghost use lib.Dec.{eqb};
-ghost use lib.ListN.{length};
 ghost use Rattle.text.specs.Walk.{Between};
 ghost use Rattle.text.specs.Range.{part, sameBytes};
 ghost use Rattle.area.specs.Contents.{contents};

@@ -1,22 +1,19 @@
 -- What holds of the machine and its stack's bytes before a call holds after it: a move goes by at least one byte and the stack grows by at most
 -- one id, which is the winner's target or state 0, so that depth and moves never pass the position.
-use mathlib.Core.Path.{_≡_, refl, sym, ap, _∙_}
-use mathlib.Core.Bool.{Bool, true, false, cond, _&&_}
+use mathlib.Core.Path.{_≡_, refl}
+use mathlib.Core.Bool.{Bool, true, false, cond}
 use mathlib.Core.List.{List, [], _∷_, _++_}
 use Prim.Native.Nat.{ℕ, zero, suc, _+_, _*_, _-_, _≤_, _<_}
 use native.Mathlib.Omega.{arith}
 use borrow.Author.Tests.{lt-ltb}
-use lib.Dec.{eqb, ltb}
+use lib.Dec.{eqb}
 use lib.ListN.{length, take, length-append}
 use lib.Seq.{length-take-le}
 use Rattle.text.proofs.Tests.{and-left, and-right}
 use Rattle.area.specs.declared.Rule.{Rule}
 use Rattle.area.specs.Records.{entryWidth}
-use Rattle.area.specs.Contents.{entryFormat}
 use Rattle.sheet_check.specs.SheetCheck.{all, declared}
 use Rattle.accepted.proofs.ByteLists.{all-append}
-use Rattle.link.specs.Link.{relaid}
-use Rattle.run.specs.Run.{stackBytes}
 use Rattle.machine.specs.Machine.{Machine, Given, orInitial, withoutLast, stackAfter, movedBy}
 use Rattle.machine.specs.Demand.{stackAs}
 use Rattle.machine.proofs.Stacks.{laid-again, laid-begins, laid-length}

@@ -8,3 +8,4 @@ pub mod Whole
 pub mod Places
 pub mod Relinking
 pub mod Theorem
+pub mod Example

@@ -1,26 +1,23 @@
 -- What one step of the machine does, by the answer that it gives: it stays, or moves by the winner. The map holds the name of each named rule, so
 -- that a named winner is always a token.
 use mathlib.Core.Path.{_≡_, refl, sym, ap, _∙_}
-use mathlib.Core.Bool.{Bool, true, false, cond, _&&_}
+use mathlib.Core.Bool.{true, false}
 use mathlib.Core.List.{List}
 use mathlib.Core.Logic.{⊎-elim}
-use mathlib.Core.Option.{Option, none, some}
-use Prim.Native.Nat.{ℕ, zero, suc, _+_, _-_, _≤_, _<_}
+use mathlib.Core.Option.{some}
+use Prim.Native.Nat.{ℕ, _+_, _-_, _≤_, _<_}
 use native.Mathlib.Omega.{arith}
-use borrow.Author.Tests.{eqb-false, eqb-true, le-ltb, lt-ltb, lt-leb, le-leb}
-use lib.Dec.{eqb, leb, ltb}
+use borrow.Author.Tests.{eqb-false, le-ltb, lt-ltb, lt-leb}
+use lib.Dec.{eqb, leb}
 use lib.ListN.{length}
 use Rattle.text.proofs.Tests.{by-test, le-or-lt, and-false}
 use Rattle.text.proofs.Ranges.{same-self}
 use Rattle.text.specs.Range.{sameBytes}
-use Rattle.text.specs.Walk.{first}
-use Rattle.area.specs.declared.Rule.{Rule}
 use Rattle.area.specs.Records.{nthRule}
-use Rattle.parse.specs.Parse.{Contents}
 use Rattle.link.specs.Map.{Entry, nth, findEntry, idAt, idOf}
 use Rattle.link.specs.Link.{isNamed, nameOf}
 use Rattle.run.specs.declared.Step.{Step}
-use Rattle.run.specs.declared.Step.the-variants.{IllFittingRow, Done, Stopped, Unlinked, Skip, Token}
+use Rattle.run.specs.declared.Step.the-variants.{IllFittingRow, Done, Stopped, Skip, Token}
 use Rattle.run.specs.Run.{goodRow}
 use Rattle.run.proofs.Places.{first-low}
 use Rattle.machine.specs.Machine.{Machine, Given, Answered, answered, currentState, movedBy, tokenBy, wins, winner, chooses, machineStep}

@@ -4,11 +4,11 @@ use mathlib.Core.Path.{_≡_, refl, sym, ap, ap₂, _∙_}
 use mathlib.Core.Bool.{Bool, true, false, cond}
 use mathlib.Core.List.{List, [], _∷_, _++_, map}
 use mathlib.Core.Option.{Option, none, some}
-use Prim.Native.Nat.{ℕ, zero, suc, _+_, _*_, _-_, _≤_, _<_}
+use Prim.Native.Nat.{ℕ, suc, _+_, _*_, _-_, _≤_}
 use native.Mathlib.Omega.{arith}
 use borrow.Author.Tests.{ne-eqb}
 use lib.Dec.{eqb}
-use lib.ListN.{length, take, getD, length-append, List·getD-map, length-map}
+use lib.ListN.{length, take, length-append, List·getD-map, length-map}
 use lib.Seq.{length-take-le}
 use Rattle.area.specs.declared.State.{State}
 use Rattle.area.specs.declared.Rule.{Rule}
@@ -16,13 +16,12 @@ use Rattle.area.specs.Records.{entryWidth, nthRule, ruleOf}
 use Rattle.area.specs.Contents.{entryFormat}
 use Rattle.link.specs.Map.{Entry, idOf}
 use Rattle.link.specs.Link.{relaid, isNamed, nameOf, withId, withFound, linkRule, linkRules}
-use Rattle.run.specs.declared.Run.{Run}
 use Rattle.run.specs.declared.Step.{Step}
 use Rattle.run.specs.declared.Step.the-variants.{Unlinked, Skip, Token}
 use Rattle.run.specs.Winner.{listed, live, lengthIn, weight}
 use Rattle.run.specs.Run.{Stacked, stacked, popped, operated, putState, moveBy, stepLeft, wonBy}
 use Rattle.machine.specs.Machine.{Machine, Given, orInitial, withoutLast, stackAfter, movedBy, answered, tokenBy, wins}
-use Rattle.machine.specs.Demand.{runAs, stackAs, leftAs}
+use Rattle.machine.specs.Demand.{runAs, leftAs}
 use Rattle.machine.proofs.Stacks.{Begins, laid-again, laid-shorter, laid-push, laid-bottom}
 
 -- ---- operations

@@ -12,7 +12,7 @@ use Rattle.area.specs.Contents.{entryFormat}
 use Rattle.area.proofs.Fields.{bytes-length}
 use Rattle.area.proofs.Records.{entry-wide}
 use Rattle.link.specs.Link.{relaid}
-use Rattle.machine.specs.Machine.{Machine, Answered}
+use Rattle.machine.specs.Machine.{Answered}
 use Rattle.machine.specs.Demand.{leftAll, stacksOf, orElse, lastHeld, Stands, lastStack}
 use Rattle.machine.proofs.Stacks.{laid-read}
 

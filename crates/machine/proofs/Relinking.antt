@@ -1,5 +1,5 @@
 -- An accepted link wrote the linked rules over area 2, so the linked sheet is the sheet with linked rules.
-use mathlib.Core.Path.{_≡_, refl, sym, ap, _∙_}
+use mathlib.Core.Path.{_≡_, refl, ap}
 use mathlib.Core.Bool.{Bool, true, false, cond}
 use mathlib.Core.List.{List}
 use Prim.Native.Nat.{ℕ}

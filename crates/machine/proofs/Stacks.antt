@@ -1,15 +1,11 @@
 -- A stack over the front of its bytes. What is written there is read back, and each operation on the bytes is the one on the list: so bytes over
 -- which the machine's stack is laid stay such bytes.
 use mathlib.Core.Path.{_≡_, refl, sym, ap, ap₂, _∙_}
-use mathlib.Core.Bool.{Bool, true, false, cond}
 use mathlib.Core.List.{List, [], _∷_, _++_, append-nil}
-use mathlib.Core.Logic.{⊎-elim}
-use Prim.Native.Nat.{ℕ, zero, suc, _+_, _*_, _-_, _/_, _%_, _≤_, _<_}
-use native.Mathlib.Nat.{le-refl}
+use Prim.Native.Nat.{ℕ, _+_, _*_, _-_, _/_, _%_, _≤_, _<_}
 use native.Mathlib.Omega.{arith}
-use lib.Dec.{eqb}
-use lib.ListN.{length, getD, take, drop, length-append, length-drop, length-take, take-append-drop}
-use lib.Seq.{sets, sets-eq, take-at, drop-at, take-append-le, take-take, take-append-seam, drop-append-seam, length-take-le, drop-drop}
+use lib.ListN.{length, getD, take, drop, length-append, length-drop, take-append-drop}
+use lib.Seq.{sets-eq, take-at, take-take, length-take-le}
 use Rattle.area.specs.Bytes.{two, bytes, fieldAt, fieldFrom}
 use Rattle.area.specs.Records.{entryAt, entryWidth, entryBytes, entryFields, nthEntry}
 use Rattle.area.specs.Contents.{contents, entryFormat}

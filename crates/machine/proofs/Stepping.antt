@@ -1,21 +1,19 @@
 -- One step call on a run that is as the machine has it: the run passes its check, the current state is the machine's, and the scan's winner is the
 -- machine's, so that the call leaves what the machine does.
-use mathlib.Core.Path.{_≡_, refl, sym, ap, ap₂, _∙_}
-use mathlib.Core.Bool.{Bool, true, false, cond, _&&_}
-use mathlib.Core.List.{List, [], _∷_, _++_}
-use Prim.Native.Nat.{ℕ, zero, suc, _+_, _*_, _-_, _≤_, _<_}
+use mathlib.Core.Path.{_≡_, refl, ap, _∙_}
+use mathlib.Core.Bool.{Bool, true, false, cond}
+use mathlib.Core.List.{List}
+use Prim.Native.Nat.{ℕ, _+_, _-_, _≤_, _<_}
 use native.Mathlib.Omega.{arith}
 use borrow.Author.Tests.{le-leb, eqb-false}
-use lib.Dec.{eqb, leb}
+use lib.Dec.{eqb}
 use lib.ListN.{length}
-use Rattle.area.specs.declared.Rule.{Rule}
-use Rattle.area.specs.Records.{entryAt, entryWidth, nthRule, nthEntry}
+use Rattle.area.specs.Records.{entryAt, nthRule}
 use Rattle.area.specs.Contents.{contents, entryFormat}
 use Rattle.sheet_check.specs.SheetCheck.{all, declared}
 use Rattle.link.specs.Link.{relaid, linkRules}
-use Rattle.run.specs.declared.Run.{Run}
 use Rattle.run.specs.declared.Best.{Best}
-use Rattle.run.specs.declared.Step.the-variants.{BrokenRun, IllFittingRow, Done, Stopped}
+use Rattle.run.specs.declared.Step.the-variants.{IllFittingRow, Done, Stopped}
 use Rattle.run.specs.Winner.{weight, best}
 use Rattle.run.specs.Run.{mostBytes, stackBytes, goodNumbers, goodRun, goodRow, current, StepLeft, choose, stepRow, stepRun}
 use Rattle.machine.specs.Machine.{Machine, Given, Answered, currentState, winner, chooses, machineStep}

@@ -1,36 +1,34 @@
 -- Demand 3 (S8). An accepted parse leaves a sheet that decodes to the file's contents and passes the check; a link keeps it so and gives each
 -- named rule the map's id; an accepted start leaves the machine's first run. So every call is a step of the machine, and `Whole` has the rest.
-use mathlib.Core.Path.{_≡_, refl, sym, ap, subst⁻¹, _∙_}
-use mathlib.Core.Bool.{Bool, true, false, cond, _&&_}
-use mathlib.Core.List.{List, [], _∷_}
+use mathlib.Core.Path.{_≡_, refl, ap, subst⁻¹, _∙_}
+use mathlib.Core.Bool.{Bool, true, false, cond}
+use mathlib.Core.List.{List}
 use mathlib.Core.Logic.{⊎-elim}
-use Prim.Native.Nat.{ℕ, zero, suc, _+_, _*_, _-_, _≤_, _<_}
+use Prim.Native.Nat.{ℕ, _+_, _*_, _-_, _≤_, _<_}
 use native.Mathlib.Omega.{arith}
-use borrow.Author.Tests.{leb-true, le-leb, lt-leb, lt-ltb, le-ltb}
+use borrow.Author.Tests.{leb-true, le-leb, lt-ltb, le-ltb}
 use lib.Dec.{leb, ltb}
 use lib.ListN.{length}
-use Rattle.text.proofs.Tests.{and-left, and-right, by-test, le-or-lt}
-use Rattle.area.specs.Records.{entryWidth, nthRule}
-use Rattle.area.specs.Contents.{entryFormat}
-use Rattle.parse.specs.Parse.{Contents, Caps, outcome, accepted, parseCall}
+use Rattle.text.proofs.Tests.{and-left, and-right, le-or-lt}
+use Rattle.area.specs.Records.{entryWidth}
+use Rattle.parse.specs.Parse.{Contents, parseCall}
 use Rattle.sheet_check.specs.SheetCheck.{SheetBytes, sheetCheck, decoded, all, declared}
 use Rattle.accepted.specs.Accepted.{sheetLeftBy}
 use Rattle.accepted.proofs.Accepting.{accepted-holds}
 use Rattle.accepted.proofs.Decoding.{accepted-decodes, accepted-checks}
 use Rattle.link.specs.declared.LinkAnswer.the-variants.{Linked}
 use Rattle.link.specs.Map.{Entry, entriesOf}
-use Rattle.link.specs.Link.{relaid, linkRules, linkCall}
+use Rattle.link.specs.Link.{linkRules, linkCall}
 use Rattle.run.specs.declared.Run.{Run}
-use Rattle.run.specs.declared.Begun.{Begun}
 use Rattle.run.specs.declared.Begun.the-variants.{Started, PoorStart}
-use Rattle.run.specs.Run.{mostBytes, stackBytes, goodStart, startCall, StartLeft, startLeft, firstRun, putState, startWord, stepCall, stepRun, StepLeft}
-use Rattle.machine.specs.Machine.{Machine, fresh, Given, machineRun}
-use Rattle.machine.specs.Demand.{linkedSheet, calls, runAs, stackAs, leftAll, stacksOf, lastHeld, Stands, lastPosition, lastStack, among, covered, Demand, MapHolds, givenBy, DEMAND}
+use Rattle.run.specs.Run.{mostBytes, stackBytes, goodStart, startCall, StartLeft, startLeft, firstRun, putState, startWord, stepCall, stepRun}
+use Rattle.machine.specs.Machine.{fresh, Given, machineRun}
+use Rattle.machine.specs.Demand.{linkedSheet, calls, runAs, stackAs, among, Demand, givenBy, DEMAND}
 use Rattle.machine.proofs.Stacks.{laid-bottom, laid-begins, laid-length}
 use Rattle.machine.proofs.Relinking.{linked-decodes, linked-checks}
 use Rattle.machine.proofs.Stepping.{Runs}
 use Rattle.machine.proofs.OneStep.{Usable}
-use Rattle.machine.proofs.Whole.{Sheet, calls-as, current-declared, Whole, whole}
+use Rattle.machine.proofs.Whole.{Sheet, calls-as, current-declared, whole}
 use Rattle.machine.proofs.Places.{all-stand}
 
 -- ---- the start

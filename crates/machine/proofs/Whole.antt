@@ -1,24 +1,22 @@
 -- A whole list of calls, by induction on its rows: each call is one step of the machine, and what holds of one step adds up.
 use mathlib.Core.Path.{_≡_, refl, sym, ap, ap₂, _∙_}
-use mathlib.Core.Bool.{Bool, true, false, cond, _&&_}
 use mathlib.Core.List.{List, [], _∷_}
 use mathlib.Core.Logic.{⊎-elim}
-use Prim.Native.Nat.{ℕ, zero, suc, _+_, _*_, _-_, _≤_, _<_}
+use Prim.Native.Nat.{ℕ, _+_, _-_, _≤_, _<_}
 use native.Mathlib.Omega.{arith}
 use borrow.Author.Tests.{le-leb, lt-leb, lt-ltb, le-ltb, ltb-true}
-use lib.Dec.{leb, ltb}
 use lib.ListN.{length}
-use Rattle.text.proofs.Tests.{le-or-lt, and-false}
+use Rattle.text.proofs.Tests.{le-or-lt}
 use Rattle.sheet_check.specs.SheetCheck.{SheetBytes, declared}
 use Rattle.sheet_check.proofs.Checked.{all-at}
 use Rattle.link.specs.Link.{linkRules}
 use Rattle.run.specs.declared.Run.{Run}
 use Rattle.run.specs.Run.{StepLeft, stepCall, stepRun, current}
-use Rattle.machine.specs.Machine.{Machine, Given, Answered, currentState, machineStep, machineRun}
-use Rattle.machine.specs.Demand.{calls, runAs, stackAs, leftAs, leftAll, lastPosition, lastStack, All, Fine, moving, moved, among, covering, covered, Moves, AllMoves}
+use Rattle.machine.specs.Machine.{Machine, Given, currentState, machineStep, machineRun}
+use Rattle.machine.specs.Demand.{calls, runAs, stackAs, leftAs, leftAll, lastPosition, lastStack, All, Fine, moved, among, covering, covered, AllMoves}
 use Rattle.machine.proofs.Stacks.{laid-length}
 use Rattle.machine.proofs.Stepping.{Runs, step-as, current-as}
-use Rattle.machine.proofs.OneStep.{Stepped, Usable, one-step, among-none}
+use Rattle.machine.proofs.OneStep.{Usable, one-step, among-none}
 
 -- ---- bytes that are covered, one range behind the other
 

@@ -1,25 +1,21 @@
 -- The winner of a row is live, its length is the greatest among live rules, and no earlier live rule has it; it is not above the bytes that are left.
 use mathlib.Core.Path.{_≡_, refl, sym, ap, _∙_}
-use mathlib.Core.Bool.{Bool, true, false, cond, _&&_}
+use mathlib.Core.Bool.{Bool, true, false, cond}
 use mathlib.Core.List.{List}
-use mathlib.Core.Logic.{⊎-elim}
-use Prim.Native.Nat.{ℕ, zero, suc, _+_, _*_, _-_, _≤_, _<_}
-use native.Mathlib.Nat.{eq-zero-or-pos}
+use Prim.Native.Nat.{ℕ, _*_, _-_, _≤_, _<_}
 use native.Mathlib.Omega.{arith}
 use borrow.Author.Tests.{leb-true}
 use lib.Dec.{eqb, leb}
 use lib.ListN.{length}
 use Rattle.text.proofs.Tests.{and-right}
-use Rattle.area.specs.Records.{entryAt, entryWidth, nthRule}
+use Rattle.area.specs.Records.{entryWidth, nthRule}
 use Rattle.area.specs.Contents.{contents, entryFormat}
-use Rattle.sheet_check.specs.SheetCheck.{all}
 use Rattle.sheet_check.proofs.Checked.{contents-read, all-at}
 use Rattle.sheet_check.proofs.Judging.{contents-count}
 use Rattle.parse.specs.Parse.{Contents}
-use Rattle.run.specs.declared.Best.{Best}
 use Rattle.run.specs.Winner.{live, lengthIn, weight, greatest, earliest, best}
 use Rattle.run.specs.Run.{goodRow}
-use Rattle.run.proofs.Winning.{below-greatest, greatest-low, earliest-inside, earliest-has, earliest-first}
+use Rattle.run.proofs.Winning.{below-greatest, earliest-has, earliest-first, winner-inside, weights-low}
 use Rattle.machine.specs.Machine.{Machine, Given, currentState, winner}
 use Rattle.machine.specs.Demand.{Wins}
 
@@ -36,18 +32,13 @@ module _ (c : Contents) (state : ℕ) (row : List ℕ) where
   unfolding f weight
   live-weight k e = rw e refl
 
-  some-rules : 0 < greatest f (length (c .rules)) → 0 < length (c .rules)
-  some-rules h =
-      ⊎-elim (λ z. absurd (omega (arith, greatest-low f 0 (length (c .rules)) (λ k g. absurd (omega arith))))) (λ p. p) (eq-zero-or-pos (length (c .rules)))
-
   best-wins : 0 < greatest f (length (c .rules)) → Wins c state row (best f (length (c .rules)))
   unfolding f weight
   best-wins h =
       let n : ℕ = length (c .rules) in
-      let p : 0 < n = some-rules h in
       let j : ℕ = earliest f n in
-      let u = weighs (live (c .states) (c .lists) state (nthRule (c .rules) j)) (lengthIn row j) (greatest f n) (earliest-has f n p) h in
-      let inside : j < n = earliest-inside f n p in
+      let inside : j < n = winner-inside f n (λ z. omega (arith, h, z)) in
+      let u = weighs (live (c .states) (c .lists) state (nthRule (c .rules) j)) (lengthIn row j) (greatest f n) (earliest-has f n (omega (arith, inside))) h in
       record {
         inside = inside;
         is-live = u .0;
@@ -59,16 +50,12 @@ module _ (c : Contents) (state : ℕ) (row : List ℕ) where
   -- a bound of the row's lengths is one of the winner's
   best-low : (left : ℕ) → goodRow (length (c .rules)) left row ≡ true → greatest f (length (c .rules)) ≤ left
   unfolding goodRow f weight
-  best-low left e = greatest-low f left (length (c .rules)) (λ k g. low (live (c .states) (c .lists) state (nthRule (c .rules) k)) (lengthIn row k) (each k g))
+  best-low left e = weights-low (c .states) (c .rules) (c .lists) state row left (length (c .rules)) each
     where
       each : (k : ℕ) → k < length (c .rules) → lengthIn row k ≤ left
       each k g =
           let t = all-at (λ x. leb x left) (contents entryFormat row (length (c .rules))) 0 k (and-right (eqb (length row) (length (c .rules) * entryWidth)) _ e) (omega (arith, contents-count entryFormat row (length (c .rules)))) in
           leb-true (lengthIn row k) left (ap (λ (x : ℕ). leb x left) (sym (contents-read entryFormat row (length (c .rules)) k g)) ∙ t)
-
-      low : (t : Bool) (l : ℕ) → l ≤ left → cond t l 0 ≤ left
-      low true l g = g
-      low false l g = omega arith
 
 module _ (g : Given) (m : Machine) (row : List ℕ) where
   pub winner-wins : 0 < winner g m row .length → Wins (g .contents) (currentState (m .stack)) row (winner g m row)

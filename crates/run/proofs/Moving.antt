@@ -1,16 +1,13 @@
 -- What the winner does: a law for each branch of the operation and of the answer.
-use mathlib.Core.Path.{_≡_, refl, sym, ap, _∙_}
-use mathlib.Core.Bool.{Bool, true, false, cond}
+use mathlib.Core.Path.{_≡_, ap}
 use mathlib.Core.List.{List}
-use Prim.Native.Nat.{ℕ, _+_, _*_, _-_, _≤_, _<_}
+use Prim.Native.Nat.{ℕ, _+_, _-_}
 use borrow.Author.Needs.{needs}
 use borrow.Author.Tests.{eq-eqb, ne-eqb}
-use lib.Dec.{eqb}
 use Rattle.area.specs.declared.Rule.{Rule}
 use Rattle.run.specs.declared.Run.{Run}
-use Rattle.run.specs.declared.Step.{Step}
 use Rattle.run.specs.declared.Step.the-variants.{Unlinked, Skip, Token}
-use Rattle.run.specs.Run.{putState, Stacked, stacked, popped, operated, Moved, moved, moveBy, moveLeft, stepLeft, wonBy}
+use Rattle.run.specs.Run.{putState, Stacked, stacked, popped, operated, moved, moveBy, moveLeft, stepLeft, wonBy}
 
 module _ (x : Rule) (d : ℕ) (s e : List ℕ) where
   pub operated-replace : x .operation ≡ 1 → e ≡ putState s 0 (x .target) → stacked 1 e ≡ operated x d s

@@ -1,30 +1,28 @@
 -- The step call and the start call: a law for each way through, whose premises are what the callees promise and the tests taken. The winner
 -- is one of the rules and its length is at most the bytes left, so that a move stays inside the entry and the stack.
-use mathlib.Core.Path.{_≡_, refl, sym, ap, subst, _∙_}
-use mathlib.Core.Bool.{Bool, true, false, cond, _&&_}
+use mathlib.Core.Path.{_≡_, sym, ap, subst, _∙_}
+use mathlib.Core.Bool.{Bool, true, false}
 use mathlib.Core.List.{List, [], _∷_}
 use Prim.Native.Nat.{ℕ, _+_, _*_, _-_, _≤_, _<_}
 use native.Mathlib.Omega.{arith}
 use borrow.Author.Needs.{needs}
 use borrow.Author.Tests.{le-leb, lt-leb, eq-eqb, ne-eqb}
-use lib.Dec.{eqb, leb}
 use lib.ListN.{length}
 use Rattle.text.proofs.Tests.{and-false}
 use Rattle.area.specs.declared.Rule.{Rule}
-use Rattle.area.specs.Records.{ruleAt, entryAt, entryWidth, ruleWidth, nthRule}
+use Rattle.area.specs.Records.{ruleAt, entryAt, entryWidth, nthRule}
 use Rattle.area.specs.Contents.{contents, stateFormat, ruleFormat, entryFormat}
 use Rattle.sheet_check.specs.SheetCheck.{SheetBytes, count, decoded, sheetCheck}
 use Rattle.sheet_check.proofs.Judging.{contents-count}
-use Rattle.sheet_check.proofs.Checked.{contents-read, checked-long, checked-counts, checked-rule}
+use Rattle.sheet_check.proofs.Checked.{contents-read, checked-long, checked-rule}
 use Rattle.run.specs.declared.Run.{Run}
 use Rattle.run.specs.declared.Best.{Best}
 use Rattle.run.specs.declared.Begun.the-variants.{Started, PoorStart}
-use Rattle.run.specs.declared.Step.{Step}
 use Rattle.run.specs.declared.Step.the-variants.{BrokenSheet, BrokenRun, IllFittingRow, Done, Stopped}
-use Rattle.run.specs.Winner.{live, weight, greatest, earliest, best}
-use Rattle.run.specs.Run.{runOf, mostBytes, stackBytes, putState, startLeft, startCall, goodStart, firstRun, goodRun, goodRow, current, stepLeft, StepLeft, wonBy, choose, stepRow, stepRun, stepCall, Readable}
+use Rattle.run.specs.Winner.{weight, best}
+use Rattle.run.specs.Run.{runOf, mostBytes, stackBytes, putState, startLeft, startCall, goodStart, goodRun, goodRow, current, stepLeft, StepLeft, wonBy, choose, stepRow, stepRun, stepCall, Readable}
 use Rattle.run.proofs.Fitting.{GoodNumbers, run-is, row-length}
-use Rattle.run.proofs.Winning.{winner-inside, greatest-low}
+use Rattle.run.proofs.Winning.{winner-inside, weights-low}
 
 -- ---- the start call
 
@@ -45,11 +43,6 @@ pub ruleset starting = (needs, start-long, start-short, start-good)
 
 -- ---- a row that fits
 
--- a weight is no greater than the length
-weight-low : (t : Bool) (x q : ℕ) → x ≤ q → cond t x 0 ≤ q
-weight-low true x q h = h
-weight-low false x q h = omega arith
-
 module _ (l1 l2 l3 : List ℕ) (states rules entries : ℕ) (row : List ℕ) (state : ℕ) (b : Best)
     (is : b ≡ best (weight (contents stateFormat l1 states) (contents ruleFormat l2 rules) (contents entryFormat l3 entries) state row) rules) where
   -- the winner is a rule
@@ -60,11 +53,9 @@ module _ (l1 l2 l3 : List ℕ) (states rules entries : ℕ) (row : List ℕ) (st
 
   -- its length is at most the bytes left
   pub bytes-low : (left : ℕ) → goodRow rules left row ≡ true → b .length ≤ left
-  unfolding weight
   bytes-low left e =
-      let f : ℕ → ℕ = weight (contents stateFormat l1 states) (contents ruleFormat l2 rules) (contents entryFormat l3 entries) state row in
       subst (λ (j : ℕ). j ≤ left) (sym (ap (λ (y : Best). y .length) is))
-      (greatest-low f left rules (λ k h. weight-low (live (contents stateFormat l1 states) (contents entryFormat l3 entries) state (nthRule (contents ruleFormat l2 rules) k)) (entryAt row k) left (row-length rules left row e k h)))
+      (weights-low (contents stateFormat l1 states) (contents ruleFormat l2 rules) (contents entryFormat l3 entries) state row left rules (row-length rules left row e))
 
 module _ (l1 l2 l3 : List ℕ) (states rules entries : ℕ) (r : Run) (s row : List ℕ) (state : ℕ) (b : Best)
     (top : state ≡ entryAt s (r .depth - 1))
@@ -162,6 +153,5 @@ sheet-readable b t is e =
       long1 = checked-long b passed .long1;
       long2 = checked-long b passed .long2;
       long3 = checked-long b passed .long3;
-      few-rules = checked-counts b passed .2;
       lists = λ k h. checked-rule b passed k h .list-inside;
     }

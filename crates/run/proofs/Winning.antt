@@ -1,18 +1,18 @@
 -- The rule that wins. The search for a state in a list is a walk; a rule is live by the branches of its definition; and the scan of the
 -- rules keeps the greatest weight so far and the first rule that has it, which is what the winner is.
 use mathlib.Core.Path.{_≡_, refl, sym, ap, ap₂, subst, _∙_}
-use mathlib.Core.Bool.{Bool, true, false, cond, _&&_, _||_, or-false}
+use mathlib.Core.Bool.{Bool, true, false, cond}
 use mathlib.Core.List.{List}
 use mathlib.Core.Logic.{_⊎_, inl, inr}
-use Prim.Native.Nat.{ℕ, zero, suc, _+_, _*_, _-_, _≤_, _<_, max}
+use Prim.Native.Nat.{ℕ, zero, suc, _+_, _≤_, _<_, max}
 use native.Mathlib.Numerals.{add-one}
 use native.Mathlib.Omega.{arith}
 use borrow.Author.Needs.{needs}
 use borrow.Author.Tests.{lt-ltb, le-ltb, ltb-true, ltb-false, eq-eqb, ne-eqb, eqb-true, eqb-false}
-use lib.Dec.{eqb, leb, ltb}
+use lib.Dec.{eqb, ltb}
 use lib.ListN.{length}
 use Rattle.text.specs.Walk.{first}
-use Rattle.text.proofs.Tests.{le-or-lt, or-true}
+use Rattle.text.proofs.Tests.{le-or-lt}
 use Rattle.text.proofs.Walks.{first-found, first-again, first-ended, first-to}
 use Rattle.area.specs.declared.State.{State}
 use Rattle.area.specs.declared.Rule.{Rule}
@@ -206,6 +206,17 @@ module _ (f : ℕ → ℕ) where
       by : (t : Bool) → ltb (greatest f n) (f n) ≡ t → cond t (record { length = f n; rule = n }) (best f n) ≡ best f (suc n)
       by true e = best-new n (ltb-true (greatest f n) (f n) e)
       by false e = best-old n (ltb-false (greatest f n) (f n) e)
+
+-- ---- a bound of the lengths is one of the greatest weight
+
+module _ (states : List State) (rules : List Rule) (lists : List ℕ) (state : ℕ) (row : List ℕ) where
+  weight-under : (t : Bool) (x q : ℕ) → x ≤ q → cond t x 0 ≤ q
+  weight-under true x q h = h
+  weight-under false x q h = omega arith
+
+  pub weights-low : (q n : ℕ) → ((k : ℕ) → k < n → lengthIn row k ≤ q) → greatest (weight states rules lists state row) n ≤ q
+  unfolding weight
+  weights-low q n h = greatest-low (weight states rules lists state row) q n (λ k g. weight-under (live states lists state (nthRule rules k)) (lengthIn row k) q (h k g))
 
 -- ---- the scan of the rules
 

@@ -8,9 +8,10 @@ use lib.Seq.{sets}
 use Rattle.area.specs.declared.State.{State}
 use Rattle.area.specs.declared.Rule.{Rule}
 use Rattle.area.specs.Bytes.{two}
-use Rattle.area.specs.Records.{entryAt, nthRule, stateWidth, ruleWidth, entryWidth, mostRules, ruleAt}
+use Rattle.area.specs.Records.{entryAt, nthRule, stateWidth, ruleWidth, entryWidth, ruleAt}
 use Rattle.area.specs.Contents.{contents, entryFormat}
 use Rattle.sheet_check.specs.SheetCheck.{SheetBytes, decoded, sheetCheck, all, declared}
+use Rattle.sheet_check.specs.Pattern.{word}
 use Rattle.run.specs.declared.Run.{Run}
 use Rattle.run.specs.declared.Best.{Best}
 use Rattle.run.specs.declared.Begun.{Begun}
@@ -163,15 +164,11 @@ pub record Readable (area1 area2 area3 : List ℕ) (states rules entries : ℕ) 
   pub long1 : states * stateWidth ≤ length area1
   pub long2 : rules * ruleWidth ≤ length area2
   pub long3 : entries * entryWidth ≤ length area3
-  pub few-rules : rules ≤ mostRules
   pub lists : (k : ℕ) → k < rules → ruleAt area2 k .«list_from» + ruleAt area2 k .«list_count» ≤ entries
 
 -- ---- the answers as words
 
--- four two-byte fields: the number of an answer, and its values (01, Numbers given at the counter)
-abbrev pub word : ℕ → ℕ → ℕ → ℕ → ℕ
-word number a b c = number + 65536 * a + 65536 * 65536 * b + 65536 * 65536 * 65536 * c
-
+-- the number of each answer, and its values (01, Numbers given at the counter)
 unfoldable pub startWord : Begun → ℕ
 startWord Started = word 0 0 0 0
 startWord PoorStart = word 8 0 0 0

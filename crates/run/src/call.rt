@@ -1,7 +1,7 @@
 // The start call and the step call (01, Numbers given at the counter, and The run).
 ghost use mathlib.Core.Path.{_≡_};
 ghost use mathlib.Core.Bool.{true};
-ghost use Prim.Native.Nat.{_-_, _≤_, _<_};
+ghost use Prim.Native.Nat.{_-_, _<_};
 ghost use lib.ListN.{length};
 ghost use Rattle.area.specs.Contents.{contents, stateFormat, ruleFormat, entryFormat};
 ghost use Rattle.sheet_check.specs.SheetCheck.{sheetBytes};
@@ -15,13 +15,12 @@ use crate::fit::good_run;
 use crate::longest::longest;
 use crate::moves::put_state;
 use crate::moves::won_by;
+use area::ENTRY_WIDTH;
 use area::read_entry;
 use area::read_rule;
 use sheet_check::check::check;
 
 const MOST_BYTES: u64 = 4096;
-
-const ENTRY_WIDTH: usize = 2;
 
 // Begins a run over an entry of n bytes.
 pub fn start(n: u64, run: &mut [u16; 4], stack: &mut [u8]) -> Begun

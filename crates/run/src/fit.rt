@@ -3,17 +3,16 @@ ghost use mathlib.Core.Path.{_≡_};
 ghost use Prim.Native.Nat.{_*_, _≤_};
 ghost use lib.Dec.{leb};
 ghost use lib.ListN.{length};
-ghost use Rattle.area.specs.Records.{entryWidth, mostRules};
+ghost use Rattle.area.specs.Records.{entryWidth};
 ghost use Rattle.area.specs.Contents.{contents, entryFormat};
 ghost use Rattle.sheet_check.specs.SheetCheck.{all};
 ghost use Rattle.run.specs.Run.{goodNumbers, goodRun, goodRow};
 use crate::Run;
+use area::ENTRY_WIDTH;
 use area::read_entry;
 use sheet_check::check::good_entries;
 
 const MOST_BYTES: u16 = 4096;
-
-const ENTRY_WIDTH: usize = 2;
 
 // The sums are wider than a field, so that they cannot wrap.
 fn good_numbers(r: Run, bytes: usize) -> bool

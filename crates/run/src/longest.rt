@@ -3,7 +3,6 @@ ghost use mathlib.Core.Path.{_≡_};
 ghost use mathlib.Core.Bool.{cond};
 ghost use Prim.Native.Nat.{_+_, _*_, _≤_, _<_};
 ghost use lib.ListN.{length};
-ghost use Rattle.text.specs.Walk.{Between};
 ghost use Rattle.area.specs.Records.{stateWidth, entryWidth};
 ghost use Rattle.area.specs.Contents.{contents, stateFormat, ruleFormat, entryFormat};
 ghost use Rattle.run.specs.Winner.{findState, live, weight, best, better};

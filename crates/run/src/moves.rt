@@ -7,10 +7,9 @@ ghost use Rattle.run.specs.Run.{putState, stacked, operated, moved, move
 use crate::Run;
 use crate::Step;
 use crate::Stepped;
+use area::ENTRY_WIDTH;
 use area::Rule;
 use area::write_field;
-
-const ENTRY_WIDTH: usize = 2;
 
 // The operations of a rule.
 const REPLACE: u16 = 1;
@@ -33,7 +32,7 @@ fn operate(x: Rule, depth: u16, stack: &mut [u8]) -> u16
 {
     if x.operation == REPLACE {
         put_state(stack, 0, x.target);
-        return 1;
+        return 1; // the target alone
     }
     if x.operation == PUSH {
         put_state(stack, depth, x.target);
@@ -42,7 +41,7 @@ fn operate(x: Rule, depth: u16, stack: &mut [u8]) -> u16
     if x.operation == POP {
         if depth == 1 {
             put_state(stack, 0, 0);
-            return 1;
+            return 1; // state 0 alone
         }
         return depth - 1;
     }

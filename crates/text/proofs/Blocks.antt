@@ -14,11 +14,11 @@ use lib.Dec.{eqb, leb}
 use lib.ListN.{length}
 use Rattle.text.specs.Class.{isLineEnd}
 use Rattle.text.specs.Walk.{any, firstOf, first, Between}
-use Rattle.text.specs.Whitespace.{byte, mayEndLine, isSeparator, lineEndOf, lineEndLen, atLineEnd}
+use Rattle.text.specs.Whitespace.{byte, mayEndLine, lineEndOf, lineEndLen, atLineEnd}
 use Rattle.text.specs.Scan.{findLineEnd, lineEnd}
-use Rattle.text.specs.Utf8.{charAt, charLen, skipChars, utf8, isAscii}
+use Rattle.text.specs.Utf8.{charLen, skipChars, utf8, isAscii}
 use Rattle.text.proofs.Tests.{answer}
-use Rattle.text.proofs.Walks.{first-here, first-over, first-from, first-to, skip-stays, skip-goes}
+use Rattle.text.proofs.Walks.{first-here, first-over, first-from, skip-stays, skip-goes}
 use Rattle.text.proofs.Chars.{char-one, char-fits, char-inside, walking}
 
 -- ---- all of the first n positions

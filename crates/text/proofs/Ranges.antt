@@ -139,7 +139,19 @@ range-inside s a e n q z = omega arith
 pub range-inside-too : (s : List ℕ) (a e n m : ℕ) → m ≡ min (e - a) (length s - a) → n ≡ m → (n ≡ 0 → ⊥) → a + n ≤ length s
 range-inside-too s a e n m q i z = range-inside s a e n (i ∙ q) z
 
-pub ruleset range-calls = (needs, range-unequal, range-empty, range-compared, range-inside, range-inside-too)
+-- ranges that lie in their texts
+module _ (s : List ℕ) (a e : ℕ) (t : List ℕ) (c d : ℕ) (ls : e ≤ length s) (lt : d ≤ length t) where
+  pub inside-unequal : (e - a ≡ d - c → ⊥) → false ≡ sameRange s a e t c d
+  unfolding sameRange
+  inside-unequal h = same-lengths (part s a e) (part t c d) (λ q. h (sym (part-length s a e ls) ∙ q ∙ part-length t c d lt))
+
+  pub inside-compared : (r : Bool) → a ≤ e → c ≤ d → e - a ≡ d - c → r ≡ sameRange s a (a + (e - a)) t c (c + (e - a)) → r ≡ sameRange s a e t c d
+  inside-compared r x y q h =
+      let u : a + (e - a) ≡ e = omega arith in
+      let v : c + (e - a) ≡ d = omega arith in
+      h ∙ ap₂ (λ (i j : ℕ). sameRange s a i t c j) u v
+
+pub ruleset range-calls = (inside-unequal, inside-compared, needs, range-unequal, range-empty, range-compared, range-inside, range-inside-too)
 
 part-whole : (w : List ℕ) → part w 0 (0 + length w) ≡ w
 unfolding part

@@ -1,13 +1,13 @@
 -- Bytes whose class is told without the table, the one that is commonest in a class and those above all of the class; and tests of several
 -- classes at one look into it.
-use mathlib.Core.Path.{_≡_, refl, sym, ap, _∙_}
-use mathlib.Core.Bool.{Bool, true, false, _||_}
+use mathlib.Core.Path.{_≡_, refl, sym}
+use mathlib.Core.Bool.{true, false, _||_}
 use Prim.Native.Nat.{ℕ, _<_}
 use native.Mathlib.Omega.{arith}
 use borrow.Author.Needs.{needs}
 use borrow.Author.Tests.{ne-eqb, eqb-true}
 use lib.Dec.{eqb}
-use Rattle.text.specs.Class.{Classes, has, isLineEnd, isBlank, isOtherWhitespace, isWhitespaceByte, isMetaCharacter, isDigit, isEscapeLetter, isAlwaysKept}
+use Rattle.text.specs.Class.{Classes, has, isLineEnd, isBlank, isOtherWhitespace, isWhitespaceByte, isAlwaysKept}
 use Rattle.text.proofs.Tests.{or-cases}
 
 module _ (b : ℕ) where

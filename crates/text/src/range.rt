@@ -37,9 +37,20 @@ fn part_len(n: usize, a: usize, e: usize) -> usize
     n - a
 }
 
-// Whether the bytes of s from a to e are those of t from c to d: of two texts, of one text lent twice, or of a text and a constant.
-// Lengths are compared first. A range may end past its text, so that records of any content can be compared.
-pub fn same_range(s: &[u8], a: usize, e: usize, t: &[u8], c: usize, d: usize) -> bool
+// The same of ranges that lie in their texts.
+fn same_inside(s: &[u8], a: usize, e: usize, t: &[u8], c: usize, d: usize) -> bool
+    requires { ⌜ ((a ≤ e) × (e ≤ length (now s))) × ((c ≤ d) × (d ≤ length (now t))) ⌝ }
+    ensures { λ r. ⌜ r ≡ sameRange (now (s .entry)) a e (now (t .entry)) c d ⌝ }
+{
+    let n = e - a;
+    if n != d - c {
+        return false;
+    }
+    same_bytes(s, a, t, c, n)
+}
+
+// The same of any ranges, each cut where its text ends.
+fn same_cut(s: &[u8], a: usize, e: usize, t: &[u8], c: usize, d: usize) -> bool
     ensures { λ r. ⌜ r ≡ sameRange (now (s .entry)) a e (now (t .entry)) c d ⌝ }
 {
     let n = part_len(s.len(), a, e);
@@ -50,6 +61,24 @@ pub fn same_range(s: &[u8], a: usize, e: usize, t: &[u8], c: usize, d: usize) ->
         return true;
     }
     same_bytes(s, a, t, c, n)
+}
+
+// Whether the bytes of s from a to e are those of t from c to d: of two texts, of one text lent twice, or of a text and a constant.
+// Lengths are compared first. A range may end past its text, so that records of any content can be compared; most do not, and are told apart
+// soonest.
+pub fn same_range(s: &[u8], a: usize, e: usize, t: &[u8], c: usize, d: usize) -> bool
+    ensures { λ r. ⌜ r ≡ sameRange (now (s .entry)) a e (now (t .entry)) c d ⌝ }
+{
+    if a <= e {
+        if e <= s.len() {
+            if c <= d {
+                if d <= t.len() {
+                    return same_inside(s, a, e, t, c, d);
+                }
+            }
+        }
+    }
+    same_cut(s, a, e, t, c, d)
 }
 
 // Behind the bytes of word, if they stand at i.

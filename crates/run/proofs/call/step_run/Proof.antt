@@ -1,6 +1,5 @@
 -- `run::call::step_run` meets its contract: each test is that of the definition, in its order.
 use mathlib.Core.Path.{sym, _∙_}
-use native.Mathlib.Omega.{arith}
 use borrow.Author.Needs.{needs}
 use Rattle.run.proofs.Fitting.{run-is}
 use Rattle.run.proofs.Stepping.{run-refused, run-done, run-ill, run-row, short-of}

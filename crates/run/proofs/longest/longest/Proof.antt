@@ -1,6 +1,6 @@
 -- `run::longest::longest` meets its contract: what is kept is the best of the rules so far.
-use mathlib.Core.Path.{_≡_, ap, _∙_}
-use Prim.Native.Nat.{ℕ, _≤_, _-_}
+use mathlib.Core.Path.{_≡_}
+use Prim.Native.Nat.{_≤_, _-_}
 use native.Mathlib.Omega.{arith}
 use borrow.Author.Needs.{needs}
 use Rattle.area.specs.Contents.{contents, stateFormat, ruleFormat, entryFormat}

@@ -1,0 +1,5 @@
+pub mod Appending
+pub mod Numbers
+pub mod Printing
+pub mod Answering
+pub mod Counting

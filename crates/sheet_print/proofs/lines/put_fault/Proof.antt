@@ -1,0 +1,16 @@
+-- `sheet_print::lines::put_fault` meets its contract: its parts, one behind the other.
+use Rattle.sheet_print.proofs.Printing.{printing}
+use Rattle.sheet_print.proofs.lines.put_fault.Statement.{statement}
+use Rattle.sheet_print.proofs.lines.put_fault.Tie as tie
+
+pub put-fault-spec : {M : Type 1} → statement M
+put-fault-spec =
+    tie.close
+    (tie.spec
+    (λ c. search printing)
+    (λ c κs. search printing)
+    (λ c. search printing)
+    (λ c κs. search printing)
+    (λ c κs. search printing)
+    (λ c. search printing)
+    (λ c. search printing))

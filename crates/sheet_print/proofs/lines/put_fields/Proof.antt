@@ -1,0 +1,31 @@
+-- `sheet_print::lines::put_fields` meets its contract: the first j fields are appended.
+use Prim.Native.Nat.{_-_, _≤_}
+use Rattle.sheet_print.specs.Output.{Appends}
+use Rattle.sheet_print.specs.Lines.{fieldsAt}
+use Rattle.sheet_print.proofs.Numbers.{fieldwise}
+use Rattle.sheet_print.proofs.lines.put_fields.Statement.{statement}
+use Rattle.sheet_print.proofs.lines.put_fields.Tie as tie
+
+abbrev Inv-loop : tie.InvT-loop
+Inv-loop out₀ n area at m r₀ j₀ out r j = (j ≤ m) × Appends (fieldsAt area at j) out₀ n out r
+
+abbrev μ-loop : tie.MeasureT-loop
+μ-loop out₀ n area at m r₀ j₀ out r j = m - j
+
+pub put-fields-spec : {M : Type 1} → statement M
+put-fields-spec =
+    tie.close
+    (tie.spec
+    Inv-loop
+    μ-loop
+    (λ c. search fieldwise)
+    (λ c. search fieldwise)
+    (λ c. search fieldwise)
+    (λ c. search fieldwise)
+    (λ c κs. search fieldwise)
+    (λ c κs. search fieldwise)
+    (λ c. search fieldwise)
+    (λ c. search fieldwise)
+    (λ c. search fieldwise)
+    (λ c. search fieldwise)
+    (λ c. search fieldwise))

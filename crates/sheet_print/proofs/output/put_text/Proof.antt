@@ -1,0 +1,12 @@
+-- `sheet_print::output::put_text` meets its contract: the whole is a part.
+use Rattle.sheet_print.proofs.Appending.{whole}
+use Rattle.sheet_print.proofs.output.put_text.Statement.{statement}
+use Rattle.sheet_print.proofs.output.put_text.Tie as tie
+
+pub put-text-spec : {M : Type 1} → statement M
+put-text-spec =
+    tie.close
+    (tie.spec
+    (λ c κs. search whole)
+    (λ c. search whole)
+    (λ c. search whole))
