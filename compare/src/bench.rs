@@ -196,7 +196,8 @@ fn time_link(source: &str) -> Duration {
 
 const MOVES: usize = 256;
 
-/// A file whose rules are live in turns of three, with a skip among four of them, and rows of lengths 0 and 1.
+/// A third of the rules has no list, a third is live in S alone, a third in INITIAL and S; one in four is a skip. The rows
+/// have lengths of 0 and 1.
 struct BenchRun {
     source: String,
     names: Vec<String>,

@@ -94,9 +94,9 @@ impl Tally {
     fn report(&self, cases: u64) -> String {
         let answers: Vec<String> =
             self.answers.iter().map(|(number, count)| format!("{number}: {}", show::number(*count))).collect();
-        let whose = if cfg!(feature = "ours") { "Troymantle's answers are" } else { "The model's answers are" };
+        let whose = if cfg!(feature = "ours") { "Troymantle's" } else { "the model's" };
         format!(
-            "{} runs, {} step calls. {whose} those of the original's loop, of the run machine and of the model of the calls; position and state were asked of the original at {} places. At most {} moves and a depth of {}. Answers: {}",
+            "{} runs, {} step calls: {whose} tokens, skips and ends are those of the original's loop, which was asked for its position and state at {} places; every answer, number and stack byte is that of the run machine, or of 01's words where a call was damaged. At most {} moves and a depth of {}. Answers: {}",
             show::number(cases),
             show::number(self.answers.values().sum()),
             show::number(self.stops),
