@@ -121,23 +121,16 @@ impl Machine {
 
     fn operate(&mut self, rule: &Rule) {
         match rule.operation {
-            1 => {
-                if self.has(M::ReplaceKeepsTheRest) {
-                    self.stack.pop();
-                } else {
-                    self.stack.clear();
-                }
+            1 if self.has(M::ReplaceKeepsTheRest) => {
+                self.stack.pop();
                 self.stack.push(rule.target);
             }
-            2 => {
-                if !self.has(M::SameStateIsPushedOnce) || self.current() != rule.target {
-                    self.stack.push(rule.target);
-                }
-            }
+            2 if self.has(M::SameStateIsPushedOnce) && self.current() == rule.target => {}
+            3 if self.has(M::PopNeedsItsTarget) && self.current() != rule.target => {}
+            1 => self.stack = vec![rule.target],
+            2 => self.stack.push(rule.target),
             3 => {
-                if !self.has(M::PopNeedsItsTarget) || self.current() == rule.target {
-                    self.stack.pop();
-                }
+                self.stack.pop();
             }
             _ => {}
         }
