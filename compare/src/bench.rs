@@ -23,11 +23,26 @@ pub fn bench() {
     }
     let alike = alike_names();
     line("link: 2,048 rules, 2,048 entries", alike.len(), time_link(&alike), time_our_link(&alike));
+    step_lines(10);
+    step_lines(MOST_RULES);
     println!("Best of {REPETITIONS} repetitions each, in microseconds, on one core; {}.", original::ENGINE);
 }
 
+/// A move, on average over a run of one byte a move; and of ours, the part that the sheet check takes.
+fn step_lines(rules: usize) {
+    let run = BenchRun::new(rules);
+    let ours = time_our_step(&run);
+    let name = format!("step: {} rules, a move", show::number(rules as u64));
+    line(&name, run.source.len(), time_step(&run), ours.map(|(step, _)| step));
+    if let Some((step, check)) = ours {
+        let microseconds = check.as_secs_f64() * 1e6;
+        let share = 100.0 * check.as_secs_f64() / step.as_secs_f64();
+        println!("    of ours the sheet check, by pattern_test: {microseconds:.3} microseconds, {share:.0} of 100");
+    }
+}
+
 fn line(name: &str, bytes: usize, original: Duration, ours: Option<Duration>) {
-    let microseconds = |time: Duration| format!("{:.1}", time.as_secs_f64() * 1e6);
+    let microseconds = |time: Duration| format!("{:.3}", time.as_secs_f64() * 1e6);
     let (ours_text, ratio) = match ours {
         Some(ours) => (microseconds(ours), format!("{:.1}", original.as_secs_f64() / ours.as_secs_f64())),
         None => ("-".to_string(), "-".to_string()),
@@ -158,9 +173,10 @@ fn time_our_link(_: &str) -> Option<Duration> {
 
 #[cfg(feature = "ours")]
 fn time_our_link(source: &str) -> Option<Duration> {
-    let call = crate::link::named_call(source, &link_names());
+    let map: Vec<(String, u16)> = link_names().into_iter().zip(0..).collect();
+    let call = crate::link::call(crate::sheet::parsed(source, 0), &map);
     let time = best(
-        || (call.areas[1].clone(), call.area_7.clone(), call.area_8.clone()),
+        || (call.sheet.areas[1].clone(), call.area_7.clone(), call.area_8.clone()),
         |(area_2, area_7, area_8)| {
             let word = crate::side::link_into(&call, area_2, area_7, area_8);
             assert_eq!(word, 0, "our library does not link every rule and entry");
@@ -176,4 +192,81 @@ fn time_link(source: &str) -> Duration {
         || Definition::new(source, false, false, &[]).expect("the file has no faults"),
         |definition| definition.link_only(&map),
     )
+}
+
+const MOVES: usize = 256;
+
+/// A third of the rules has no list, a third is live in S alone, a third in INITIAL and S; one in four is a skip. The rows
+/// have lengths of 0 and 1.
+struct BenchRun {
+    source: String,
+    names: Vec<String>,
+    rows: Vec<Vec<usize>>,
+}
+
+impl BenchRun {
+    fn new(rules: usize) -> BenchRun {
+        let mut source = "%s S\n%x T\n%%\n".to_string();
+        let mut names = vec![];
+        for rule in 0..rules {
+            source.push_str(["a ", "<S>a ", "<INITIAL,S>a "][rule % 3]);
+            if rule % 4 == 3 {
+                source.push_str(";\n");
+            } else {
+                let name = format!("N{rule}");
+                source.push_str(&format!("'{name}'\n"));
+                names.push(name);
+            }
+        }
+        let rows = (0..MOVES).map(|at| (0..rules).map(|rule| usize::from((rule + at) % 7 > 3)).collect()).collect();
+        BenchRun { source, names, rows }
+    }
+
+    fn map(&self) -> Vec<(&str, u16)> {
+        self.names.iter().map(String::as_str).zip(0..).collect()
+    }
+}
+
+/// The original's loop finds its lengths in a table; what a regex would take is not in it.
+fn time_step(run: &BenchRun) -> Duration {
+    let mut definition = Definition::new(&run.source, false, false, &[]).expect("the file has no faults");
+    definition.link(&run.map());
+    original::lend_rows(&run.rows);
+    let entry = "a".repeat(MOVES);
+    best(|| (), |()| definition.run_only(&entry)) / MOVES as u32
+}
+
+#[cfg(not(feature = "ours"))]
+fn time_our_step(_: &BenchRun) -> Option<(Duration, Duration)> {
+    None
+}
+
+/// The step, and the sheet check alone.
+#[cfg(feature = "ours")]
+fn time_our_step(run: &BenchRun) -> Option<(Duration, Duration)> {
+    let map: Vec<(String, u16)> = run.map().into_iter().map(|(name, id)| (name.to_string(), id)).collect();
+    let call = crate::link::call(crate::sheet::parsed(&run.source, 0), &map);
+    let left = crate::side::link(&call);
+    let sheet = crate::link::linked(&call.sheet, &left);
+    let rows: Vec<Vec<u8>> =
+        run.rows.iter().map(|row| row.iter().flat_map(|length| (*length as u16).to_le_bytes()).collect()).collect();
+    let before = crate::step::Run { numbers: [0; 4], stack: vec![0; 2 * (MOVES + 1)] };
+    let step = best(
+        || crate::side::start(MOVES as u64, &before).1,
+        |begun| {
+            for row in &rows {
+                crate::side::step_into(&sheet, &mut begun.numbers, &mut begun.stack, row);
+            }
+            assert_eq!(begun.numbers[3] as usize, MOVES, "our library does not move by every row");
+        },
+    );
+    let check = best(
+        || (),
+        |()| {
+            for _ in 0..MOVES {
+                assert_eq!(crate::side::pattern_test(&sheet, 0), 0, "our library finds the sheet broken");
+            }
+        },
+    );
+    Some((step / MOVES as u32, check / MOVES as u32))
 }

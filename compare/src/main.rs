@@ -1,6 +1,7 @@
 //! Compares Troymantle with the Rust code that it ports.
 
 mod bench;
+mod broken_sheets;
 mod case;
 mod files_to_try;
 mod generators;
@@ -13,9 +14,11 @@ mod record;
 mod recorded;
 mod run;
 mod self_test;
+mod sheet;
 mod show;
 mod shrink;
 mod side;
+mod step;
 
 use generators::Generator;
 use side::Side;
@@ -53,6 +56,11 @@ compare link        compares the answers of many link calls, and hand-made broke
     --cases N       how many files and maps (20000)
     --seed S        (1)
     --first I       the number of the first case (0)
+compare step        compares runs with the original's lexer loop and with the run machine of 01, call by call, and
+                    hand-made broken runs and sheets
+    --cases N       how many runs (20000)
+    --seed S        (1)
+    --first I       the number of the first run (0)
 compare self-test   checks 01's files to try, and that the cases notice every deliberate misreading of 01
     --cases N       how many cases at most (200000)
     --seed S        (1)
@@ -92,6 +100,10 @@ fn dispatch(arguments: &[String]) -> Result<(), String> {
         "link" => {
             let options = Options::read(rest, &["--cases", "--seed", "--first"])?;
             link::run(options.number("--seed", 1)?, options.number("--first", 0)?, options.number("--cases", 20_000)?)
+        }
+        "step" => {
+            let options = Options::read(rest, &["--cases", "--seed", "--first"])?;
+            step::run(options.number("--seed", 1)?, options.number("--first", 0)?, options.number("--cases", 20_000)?)
         }
         "self-test" => {
             let options = Options::read(rest, &["--cases", "--seed"])?;

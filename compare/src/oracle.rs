@@ -55,8 +55,12 @@ pub fn needs(case: &Case) -> [usize; AREAS] {
 
 fn parse_original(text: &str, case: &Case) -> Result<Held, Finding> {
     let (comments, posix_escapes) = (case.flags & FLAG_COMMENTS != 0, case.flags & FLAG_POSIX_ESCAPES != 0);
-    panic::catch_unwind(AssertUnwindSafe(|| original::parse(text, comments, posix_escapes, &case.verdicts)))
-        .map_err(|payload| Finding::OriginalPanicked(panic_message(payload)))
+    caught(|| original::parse(text, comments, posix_escapes, &case.verdicts)).map_err(Finding::OriginalPanicked)
+}
+
+/// What the original gives, or the message of its panic.
+pub fn caught<T>(call: impl FnOnce() -> T) -> Result<T, String> {
+    panic::catch_unwind(AssertUnwindSafe(call)).map_err(panic_message)
 }
 
 fn panic_message(payload: Box<dyn Any + Send>) -> String {

@@ -23,13 +23,15 @@ impl Side for Misread {
 }
 
 #[cfg(feature = "ours")]
-pub use ours::{Ours, link, link_into, parse_into};
+pub use ours::{Ours, link, link_into, parse_into, pattern_test, start, step, step_into};
 
 #[cfg(feature = "ours")]
 mod ours {
     use super::Side;
     use crate::case::{AREAS, Answer, Case};
     use crate::link::{Call, Left};
+    use crate::sheet::Sheet;
+    use crate::step::Run;
 
     unsafe extern "C" {
         fn troymantle_parse(
@@ -75,6 +77,46 @@ mod ours {
             area_7_length: usize,
             area_8: *mut u8,
             area_8_length: usize,
+        ) -> u64;
+
+        fn troymantle_pattern_test(
+            source: *const u8,
+            source_length: usize,
+            area_1: *const u8,
+            area_1_length: usize,
+            area_2: *const u8,
+            area_2_length: usize,
+            area_3: *const u8,
+            area_3_length: usize,
+            area_4: *const u8,
+            area_4_length: usize,
+            area_5: *const u8,
+            area_5_length: usize,
+            counts: *const u16,
+            rule: u64,
+        ) -> u64;
+
+        fn troymantle_start(n: u64, run: *mut u16, stack: *mut u8, stack_length: usize) -> u64;
+
+        fn troymantle_step(
+            source: *const u8,
+            source_length: usize,
+            area_1: *const u8,
+            area_1_length: usize,
+            area_2: *const u8,
+            area_2_length: usize,
+            area_3: *const u8,
+            area_3_length: usize,
+            area_4: *const u8,
+            area_4_length: usize,
+            area_5: *const u8,
+            area_5_length: usize,
+            counts: *const u16,
+            run: *mut u16,
+            stack: *mut u8,
+            stack_length: usize,
+            row: *const u8,
+            row_length: usize,
         ) -> u64;
     }
 
@@ -142,12 +184,12 @@ mod ours {
 
     /// Area 2 of the call is lent apart, so that the call itself stays as it was.
     pub fn link_into(call: &Call, area_2: &mut [u8], area_7: &mut [u8], area_8: &mut [u8]) -> u64 {
-        let [one, _, three, four, five] = &call.areas;
+        let [one, _, three, four, five] = &call.sheet.areas;
         // SAFETY: every pointer goes with the length of its own slice, and the call reads and writes only there.
         unsafe {
             troymantle_link(
-                call.source.as_ptr(),
-                call.source.len(),
+                call.sheet.source.as_ptr(),
+                call.sheet.source.len(),
                 one.as_ptr(),
                 one.len(),
                 area_2.as_mut_ptr(),
@@ -158,7 +200,7 @@ mod ours {
                 four.len(),
                 five.as_ptr(),
                 five.len(),
-                call.counts.as_ptr(),
+                call.sheet.counts.as_ptr(),
                 call.names.as_ptr(),
                 call.names.len(),
                 call.entries.as_ptr(),
@@ -172,11 +214,7 @@ mod ours {
     }
 
     pub fn link(call: &Call) -> Left {
-        let mut lent = [&call.areas[1], &call.area_7, &call.area_8].map(|area| {
-            let mut bytes = vec![GUARD_BYTE; area.len() + 2 * GUARD];
-            bytes[GUARD..GUARD + area.len()].copy_from_slice(area);
-            bytes
-        });
+        let mut lent = [&call.sheet.areas[1], &call.area_7, &call.area_8].map(|area| guarded(area));
         let [two, seven, eight] = lent.each_mut().map(|bytes| {
             let end = bytes.len() - GUARD;
             &mut bytes[GUARD..end]
@@ -184,6 +222,79 @@ mod ours {
         let word = link_into(call, two, seven, eight);
         let [area_2, area_7, area_8] = lent.map(unguarded);
         Left { word, area_2, area_7, area_8 }
+    }
+
+    pub fn start(n: u64, run: &Run) -> (u64, Run) {
+        let mut stack = guarded(&run.stack);
+        let mut numbers = run.numbers;
+        // SAFETY: the stack's pointer and length are those of the part between the guards; the numbers are four.
+        let word = unsafe { troymantle_start(n, numbers.as_mut_ptr(), stack[GUARD..].as_mut_ptr(), run.stack.len()) };
+        (word, Run { numbers, stack: unguarded(stack) })
+    }
+
+    pub fn step(sheet: &Sheet, run: &Run, row: &[u8]) -> (u64, Run) {
+        let mut stack = guarded(&run.stack);
+        let mut numbers = run.numbers;
+        let end = stack.len() - GUARD;
+        let word = step_into(sheet, &mut numbers, &mut stack[GUARD..end], row);
+        (word, Run { numbers, stack: unguarded(stack) })
+    }
+
+    pub fn step_into(sheet: &Sheet, numbers: &mut [u16; 4], stack: &mut [u8], row: &[u8]) -> u64 {
+        let [one, two, three, four, five] = &sheet.areas;
+        // SAFETY: every pointer goes with the length of its own slice, and the call reads and writes only there.
+        unsafe {
+            troymantle_step(
+                sheet.source.as_ptr(),
+                sheet.source.len(),
+                one.as_ptr(),
+                one.len(),
+                two.as_ptr(),
+                two.len(),
+                three.as_ptr(),
+                three.len(),
+                four.as_ptr(),
+                four.len(),
+                five.as_ptr(),
+                five.len(),
+                sheet.counts.as_ptr(),
+                numbers.as_mut_ptr(),
+                stack.as_mut_ptr(),
+                stack.len(),
+                row.as_ptr(),
+                row.len(),
+            )
+        }
+    }
+
+    pub fn pattern_test(sheet: &Sheet, rule: u64) -> u64 {
+        let [one, two, three, four, five] = &sheet.areas;
+        // SAFETY: every pointer goes with the length of its own slice, and the call only reads.
+        unsafe {
+            troymantle_pattern_test(
+                sheet.source.as_ptr(),
+                sheet.source.len(),
+                one.as_ptr(),
+                one.len(),
+                two.as_ptr(),
+                two.len(),
+                three.as_ptr(),
+                three.len(),
+                four.as_ptr(),
+                four.len(),
+                five.as_ptr(),
+                five.len(),
+                sheet.counts.as_ptr(),
+                rule,
+            )
+        }
+    }
+
+    /// The bytes between guards.
+    fn guarded(area: &[u8]) -> Vec<u8> {
+        let mut bytes = vec![GUARD_BYTE; area.len() + 2 * GUARD];
+        bytes[GUARD..GUARD + area.len()].copy_from_slice(area);
+        bytes
     }
 
     /// The area between its guards, which the call must leave alone.

@@ -8,7 +8,7 @@ extern crate self as regex_syntax;
 mod engine;
 mod stand_ins;
 
-pub use lexer::definition::{Definition, Lexed, Linked};
+pub use lexer::definition::{Definition, Lexed, Linked, lend_rows};
 pub use span::Span;
 pub use stand_ins::{LexError, Lexeme, LexerTypes, is_meta_character};
 

@@ -2,9 +2,9 @@
 
 use super::Call;
 use crate::case::{AREAS, Case};
-use crate::model::{self as parse_model, Reading};
 use crate::oracle;
 use crate::random::Random;
+use crate::sheet::parsed;
 use std::collections::HashSet;
 
 /// An accepted file and a map of distinct names.
@@ -18,36 +18,18 @@ pub struct Linking {
 }
 
 impl Linking {
-    /// The names one behind the other.
-    #[cfg(feature = "ours")]
-    pub fn new(source: String, map: Vec<(String, u16)>) -> Linking {
-        let mut names = vec![];
-        let mut places = vec![];
-        for (name, _) in &map {
-            places.push(names.len());
-            names.extend(name.bytes());
-        }
-        Linking { source, map, names, places }
-    }
-
     /// With areas that have room for everything, and bytes behind the records.
     pub fn call(&self) -> Call {
-        let case =
-            Case { source: self.source.clone().into_bytes(), flags: 0, verdicts: vec![], capacities: [0; AREAS] };
-        let capacities = oracle::needs(&case).map(|need| need + 5);
-        let answer = parse_model::answer(&Case { capacities, ..case.clone() }, Reading::RIGHT);
-        let [one, two, three, four, five, _] = answer.areas;
+        let sheet = parsed(&self.source, 5);
         let entries = self.map.iter().zip(&self.places).flat_map(|((name, id), from)| {
             [*from as u16, name.len() as u16, *id].into_iter().flat_map(u16::to_le_bytes)
         });
         Call {
-            source: case.source,
-            areas: [one, two, three, four, five],
-            counts: answer.counts,
             names: self.names.clone(),
             entries: entries.collect(),
-            area_7: vec![0xa5; 2 * answer.counts[1] as usize + 3],
+            area_7: vec![0xa5; 2 * sheet.counts[1] as usize + 3],
             area_8: vec![0xa5; 2 * self.map.len() + 3],
+            sheet,
         }
     }
 }
@@ -130,20 +112,14 @@ fn map(random: &mut Random, known: &[String], large: bool) -> Vec<(String, u16)>
             map.push((drawn, random.pick(&[0, 1, 255, 256, 65_535, id])));
         }
     }
-    shuffle(random, &mut map);
+    random.shuffle(&mut map);
     map
-}
-
-fn shuffle<T>(random: &mut Random, items: &mut [T]) {
-    for last in (1..items.len()).rev() {
-        items.swap(last, random.below(last + 1));
-    }
 }
 
 /// The names one behind the other in some order; a name that already stands there may share its bytes.
 fn laid(random: &mut Random, map: &[(String, u16)]) -> (Vec<u8>, Vec<usize>) {
     let mut order: Vec<usize> = (0..map.len()).collect();
-    shuffle(random, &mut order);
+    random.shuffle(&mut order);
     let mut names: Vec<u8> = vec![];
     let mut places = vec![0; map.len()];
     let share = map.len() < 20 && random.percent(50);
@@ -189,10 +165,10 @@ pub fn calls(linking: &Linking, seed: u64, index: u64) -> Vec<Call> {
 fn damaged(random: &mut Random, mut call: Call) -> Call {
     for _ in 0..1 + random.below(2) {
         match random.below(10) {
-            0 => call.counts[random.below(6)] = random.pick(&[0, 1, 2, 64, 65, 2_048, 2_049, 65_535]),
-            1 => call.counts[random.below(6)] ^= 1,
+            0 => call.sheet.counts[random.below(6)] = random.pick(&[0, 1, 2, 64, 65, 2_048, 2_049, 65_535]),
+            1 => call.sheet.counts[random.below(6)] ^= 1,
             2 => {
-                let area = &mut call.areas[random.below(5)];
+                let area = &mut call.sheet.areas[random.below(5)];
                 area.truncate(area.len() - random.below(area.len() + 1).min(12));
             }
             3 => call.names.truncate(call.names.len() - random.below(call.names.len() + 1).min(3)),
@@ -201,9 +177,9 @@ fn damaged(random: &mut Random, mut call: Call) -> Call {
             6 => overwrite(random, &mut call.names),
             7 => {
                 let area = random.pick(&[0, 2, 4]);
-                overwrite(random, &mut call.areas[area]);
+                overwrite(random, &mut call.sheet.areas[area]);
             }
-            _ => overwrite(random, &mut call.areas[1]),
+            _ => overwrite(random, &mut call.sheet.areas[1]),
         }
     }
     call

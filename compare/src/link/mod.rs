@@ -5,6 +5,7 @@ mod broken;
 mod cases;
 mod model;
 
+use crate::sheet::{Rule, Sheet};
 use crate::show;
 use cases::Linking;
 use original::Definition;
@@ -13,10 +14,7 @@ use std::time::Instant;
 /// What a call takes, and what areas 2, 7 and 8 hold beforehand.
 #[derive(Clone, Debug, PartialEq, Eq)]
 pub struct Call {
-    pub source: Vec<u8>,
-    /// Areas 1 to 5.
-    pub areas: [Vec<u8>; 5],
-    pub counts: [u16; 6],
+    pub sheet: Sheet,
     pub names: Vec<u8>,
     pub entries: Vec<u8>,
     pub area_7: Vec<u8>,
@@ -31,7 +29,6 @@ pub struct Left {
     pub area_8: Vec<u8>,
 }
 
-pub const BROKEN_SHEET: u64 = 6;
 pub const BROKEN_MAP: u64 = 7;
 pub const AREA_FULL: u64 = 4;
 
@@ -76,7 +73,7 @@ fn against_original(linking: &Linking) -> Result<(), String> {
     let original = definition.link(&entries);
     let call = linking.call();
     let left = model::link(&call);
-    let rules: Vec<model::Rule> = model::rules(&left.area_2, call.counts[1] as usize);
+    let rules = linked(&call.sheet, &left).rules();
     let ids: Vec<Option<u16>> = rules.iter().map(|rule| (rule.has_id() == 1).then_some(rule.id())).collect();
     let mut missing: Vec<String> =
         model::numbers(&left.area_7, (left.word >> 16) as u16).map(|k| name_of(&call, &rules[k])).collect();
@@ -92,21 +89,37 @@ fn against_original(linking: &Linking) -> Result<(), String> {
     }
 }
 
-/// The call of a file with a map of these names, whose ids are their numbers.
-#[cfg(feature = "ours")]
-pub fn named_call(source: &str, names: &[String]) -> Call {
-    let map = names.iter().enumerate().map(|(id, name)| (name.clone(), id as u16)).collect();
-    Linking::new(source.to_string(), map).call()
+/// The call of a sheet with a map whose names stand one behind the other, and areas 7 and 8 with room for all numbers.
+pub fn call(sheet: Sheet, map: &[(String, u16)]) -> Call {
+    let mut names = vec![];
+    let mut entries = vec![];
+    for (name, id) in map {
+        let fields = [names.len() as u16, name.len() as u16, *id];
+        entries.extend(fields.into_iter().flat_map(u16::to_le_bytes));
+        names.extend(name.bytes());
+    }
+    let area_7 = vec![0; 2 * sheet.counts[1] as usize];
+    Call { sheet, names, entries, area_7, area_8: vec![0; 2 * map.len()] }
 }
 
-fn name_of(call: &Call, rule: &model::Rule) -> String {
-    String::from_utf8_lossy(&call.source[rule.name()]).into_owned()
+/// The sheet after the call.
+pub fn linked(sheet: &Sheet, left: &Left) -> Sheet {
+    let mut sheet = sheet.clone();
+    sheet.areas[1] = left.area_2.clone();
+    sheet
 }
 
-fn against_model(call: &Call) -> Result<(), String> {
+fn name_of(call: &Call, rule: &Rule) -> String {
+    String::from_utf8_lossy(&call.sheet.source[rule.name()]).into_owned()
+}
+
+/// What the call leaves by the model, and by ours too.
+pub fn against_model(call: &Call) -> Result<Left, String> {
     let expected = model::link(call);
-    let Some(got) = ours(call) else { return Ok(()) };
-    if got == expected { Ok(()) } else { Err(format!("expected {expected:?}\ngot {got:?}\nof {call:?}")) }
+    match ours(call) {
+        Some(got) if got != expected => Err(format!("expected {expected:?}\ngot {got:?}\nof {call:?}")),
+        _ => Ok(expected),
+    }
 }
 
 #[cfg(feature = "ours")]

@@ -27,9 +27,10 @@ pub enum Lexed {
         start: usize,
         length: usize,
     },
-    /// No live rule matches: 01's 'stopped'.
+    /// No live rule matches: 01's 'stopped'. The loop tells the current state.
     Stopped {
         at: usize,
+        state: usize,
     },
     /// The winner is named and has no id: 01's 'unlinked'.
     Unlinked {
@@ -62,11 +63,19 @@ impl Definition {
 
     /// The lexer loop over an entry of n bytes. `rows[p]` has the lengths of all rules at position p.
     pub fn run(&self, n: usize, rows: &[Vec<usize>]) -> Vec<Lexed> {
-        let by_bytes_left = [vec![]].into_iter().chain(rows[..n].iter().rev().cloned()).collect();
-        engine::lend_rows(by_bytes_left);
-        let entry = "a".repeat(n);
-        self.definition.lexer(&entry).lexemes.iter().map(lexed).collect()
+        lend_rows(&rows[..n]);
+        self.definition.lexer(&"a".repeat(n)).lexemes.iter().map(lexed).collect()
     }
+
+    /// The lexer loop on rows that were lent before, for the number of its lexemes: what the bench measures.
+    pub fn run_only(&self, entry: &str) -> usize {
+        self.definition.lexer(entry).lexemes.len()
+    }
+}
+
+/// The rows of an entry with that many bytes.
+pub fn lend_rows(rows: &[Vec<usize>]) {
+    engine::lend_rows([vec![]].into_iter().chain(rows.iter().rev().cloned()).collect());
 }
 
 fn sorted<'a>(names: impl Iterator<Item = &'a str>) -> Vec<String> {
@@ -76,10 +85,17 @@ fn sorted<'a>(names: impl Iterator<Item = &'a str>) -> Vec<String> {
 }
 
 fn lexed(answer: &Result<DefaultLexeme<u16>, LRLexError>) -> Lexed {
-    match answer {
-        Ok(lexeme) => Lexed::Token { id: lexeme.tok_id(), start: lexeme.span().start(), length: lexeme.span().len() },
-        Err(error) if error.lexing_state().is_some() => Lexed::Stopped { at: error.span().start() },
-        Err(error) => Lexed::Unlinked { at: error.span().start() },
+    let error = match answer {
+        Ok(lexeme) => {
+            let span = lexeme.span();
+            return Lexed::Token { id: lexeme.tok_id(), start: span.start(), length: span.len() };
+        }
+        Err(error) => error,
+    };
+    let at = error.span().start();
+    match error.lexing_state() {
+        Some(state) => Lexed::Stopped { at, state: state._id },
+        None => Lexed::Unlinked { at },
     }
 }
 
@@ -107,6 +123,6 @@ mod tests {
         let rows = [vec![2, 9, 1], vec![], vec![9, 1, 9], vec![0, 1, 1]];
         let answers = definition.run(4, &rows);
         assert_eq!(answers, [Lexed::Token { id: 5, start: 0, length: 2 }, Lexed::Unlinked { at: 3 }]);
-        assert_eq!(definition.run(1, &[vec![0, 1, 0]]), [Lexed::Stopped { at: 0 }]);
+        assert_eq!(definition.run(1, &[vec![0, 1, 0]]), [Lexed::Stopped { at: 0, state: 0 }]);
     }
 }
