@@ -13,7 +13,7 @@ use Rattle.troymantle.specs.Words.{LeftInWords, leftInWords, inWords}
 
 leaves-six : (k : Caps) (o : Outcome) → length (leaves k o .counts) ≡ 6
 unfolding leaves
-leaves-six k long = refl
+leaves-six k longFile = refl
 leaves-six k unknownFlag = refl
 leaves-six k invalidUtf8 = refl
 leaves-six k (areaFull n) = refl
