@@ -7,16 +7,13 @@ ghost use Rattle.text.specs.Walk.{Between};
 ghost use Rattle.text.specs.Range.{part, sameBytes};
 ghost use Rattle.area.specs.Contents.{contents};
 ghost use Rattle.sheet_check.specs.SheetCheck.{all};
-ghost use Rattle.link.specs.Map.{mapFormat, mapEntryAt, entryCount, entriesOf, nth, findEntry, nameInside, distinct, mapCheck};
+ghost use Rattle.link.specs.Map.{mapFormat, mapEntryAt, entryCount, entriesOf, nth, findEntry, nameInside};
 use crate::MapEntry;
 use area::read_field;
 use text::range::same_range;
 
 // How many bytes an entry has.
 pub const MAP_WIDTH: usize = 6;
-
-// How many entries a map may have.
-const MOST_ENTRIES: usize = 2048;
 
 pub fn read_map_entry(entries: &[u8], k: usize) -> MapEntry
     requires { ⌜ k < entryCount (now entries) ⌝ }
@@ -63,7 +60,7 @@ fn name_inside(n: usize, x: MapEntry) -> bool
     x.name_from as usize + x.name_length as usize <= n
 }
 
-fn names_inside(entries: &[u8], n: usize) -> bool
+pub fn names_inside(entries: &[u8], n: usize) -> bool
     ensures { λ r. ⌜ r ≡ all (nameInside n) (contents mapFormat (now (entries .entry)) (entryCount (now (entries .entry)))) ⌝ }
 {
     let most = entries.len() / MAP_WIDTH;
@@ -77,41 +74,11 @@ fn names_inside(entries: &[u8], n: usize) -> bool
 }
 
 // Whether entry j is the first of its name.
-fn is_first(names: &[u8], entries: &[u8], j: usize) -> bool
+pub fn is_first(names: &[u8], entries: &[u8], j: usize) -> bool
     requires { ⌜ j < entryCount (now entries) ⌝ }
     ensures { λ r. ⌜ r ≡ eqb (findEntry (entriesOf (now (names .entry)) (now (entries .entry))) (nth (entriesOf (now (names .entry)) (now (entries .entry))) j .name)) j ⌝ }
 {
     let x = read_map_entry(entries, j);
     let from = x.name_from as usize;
     find_entry(names, entries, names, from, from + x.name_length as usize) == j
-}
-
-// Whether no two entries have the same name.
-fn are_distinct(names: &[u8], entries: &[u8]) -> bool
-    ensures { λ r. ⌜ r ≡ distinct (entriesOf (now (names .entry)) (now (entries .entry))) ⌝ }
-{
-    let n = entries.len() / MAP_WIDTH;
-    let mut good = true;
-    let mut j = 0;
-    while j < n {
-        good = good & is_first(names, entries, j);
-        j += 1;
-    }
-    good
-}
-
-// The number of entries first, so that names are compared only where it is small.
-pub fn check_map(names: &[u8], entries: &[u8]) -> bool
-    ensures { λ r. ⌜ r ≡ mapCheck (now (names .entry)) (now (entries .entry)) ⌝ }
-{
-    if entries.len() % MAP_WIDTH != 0 {
-        return false;
-    }
-    if entries.len() / MAP_WIDTH > MOST_ENTRIES {
-        return false;
-    }
-    if names_inside(entries, names.len()) {
-        return are_distinct(names, entries);
-    }
-    false
 }
