@@ -70,22 +70,24 @@ module _ (s name : List ℕ) (x : Rule) where
 
 pub ruleset asking-names = (needs, name-unnamed, name-named)
 
+-- a rule has the name
+module _ (s name l : List ℕ) (count k : ℕ) (x : Rule) (is : x ≡ ruleAt l k) (r : Bool) (says : r ≡ hasThatName s name x) where
+  pub unused-found : k < count → r ≡ true → false ≡ isUnused s (contents ruleFormat l count) name
+  unfolding isUnused
+  unused-found h e = by (all (λ y. not (hasThatName s name y)) (contents ruleFormat l count)) refl
+    where
+      here : not (hasThatName s name (nthRule (contents ruleFormat l count) k)) ≡ false
+      here = ap (λ (y : Rule). not (hasThatName s name y)) (contents-read ruleFormat l count k h ∙ sym is) ∙ ap not (sym says ∙ e)
+
+      by : (t : Bool) → all (λ y. not (hasThatName s name y)) (contents ruleFormat l count) ≡ t → false ≡ t
+      by false q = refl
+      by true q = sym here ∙ all-at (λ y. not (hasThatName s name y)) (contents ruleFormat l count) (ruleFormat .blank) k q (omega (arith, contents-count ruleFormat l count))
+
 -- no rule so far has the name
 module _ (s name l : List ℕ) (count k : ℕ) (before : all (λ x. not (hasThatName s name x)) (contents ruleFormat l k) ≡ true) where
   module _ (x : Rule) (is : x ≡ ruleAt l k) (r : Bool) (says : r ≡ hasThatName s name x) where
     pub unused-next : r ≡ false → all (λ y. not (hasThatName s name y)) (contents ruleFormat l (k + 1)) ≡ true
     unused-next e = sym (all-next ruleFormat (λ y. not (hasThatName s name y)) l k true true x (sym before) is (ap not (sym e ∙ says)))
-
-    pub unused-found : k < count → r ≡ true → false ≡ isUnused s (contents ruleFormat l count) name
-    unfolding isUnused
-    unused-found h e = by (all (λ y. not (hasThatName s name y)) (contents ruleFormat l count)) refl
-      where
-        here : not (hasThatName s name (nthRule (contents ruleFormat l count) k)) ≡ false
-        here = ap (λ (y : Rule). not (hasThatName s name y)) (contents-read ruleFormat l count k h ∙ sym is) ∙ ap not (sym says ∙ e)
-
-        by : (t : Bool) → all (λ y. not (hasThatName s name y)) (contents ruleFormat l count) ≡ t → false ≡ t
-        by false q = refl
-        by true q = sym here ∙ all-at (λ y. not (hasThatName s name y)) (contents ruleFormat l count) (ruleFormat .blank) k q (omega (arith, contents-count ruleFormat l count))
 
   pub unused-ended : count ≤ k → k ≤ count → true ≡ isUnused s (contents ruleFormat l count) name
   unfolding isUnused

@@ -3,3 +3,4 @@ pub mod LinkedRules
 pub mod Counting
 pub mod Outcomes
 pub mod LinkLaws
+pub mod Slotting

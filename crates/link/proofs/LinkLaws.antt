@@ -1,16 +1,15 @@
 -- What a link leaves of a sheet: only the marks and ids of named rules change, the sheet passes its check as before, and a named rule whose name
 -- is in the map has the map's id. Each is a law of one rule, carried over the list and then to the bytes.
-use mathlib.Core.Path.{_≡_, refl, sym, ap, subst, _∙_}
+use mathlib.Core.Path.{_≡_, refl, sym, ap, _∙_}
 use mathlib.Core.Bool.{Bool, true, false, cond, _&&_}
 use mathlib.Core.List.{List, [], _∷_, map}
 use mathlib.Core.Option.{Option, none, some}
-use mathlib.Core.Logic.{_⊎_, inl, inr}
-use Prim.Native.Nat.{ℕ, zero, suc, _*_, _≤_, _<_}
+use Prim.Native.Nat.{ℕ, _*_, _≤_, _<_}
 use native.Mathlib.Omega.{arith}
-use borrow.Author.Tests.{le-leb, eqb-true, lt-ltb}
+use borrow.Author.Tests.{le-leb, lt-ltb}
 use lib.Dec.{eqb, leb}
 use lib.ListN.{length, drop, length-append, length-drop}
-use Rattle.text.proofs.Tests.{and-left, and-right, le-or-lt}
+use Rattle.text.proofs.Tests.{and-left, and-right}
 use Rattle.area.specs.declared.Rule.{Rule}
 use Rattle.area.specs.Bytes.{bytes}
 use Rattle.area.specs.Records.{ruleWidth, mostStates, mostRules, nthRule}
@@ -21,8 +20,9 @@ use Rattle.parse.specs.Parse.{Contents}
 use Rattle.sheet_check.specs.SheetCheck.{SheetBytes, sheetBytes, count, decoded, all, mark, ordered, within, declared, goodRule, goodContents, longEnough, sheetCheck}
 use Rattle.sheet_check.proofs.Checked.{good-rule, good-contents, checked-long, rules-count}
 use Rattle.link.specs.declared.LinkAnswer.the-variants.{Linked, BrokenSheet, BrokenMap, AreaFull}
-use Rattle.link.specs.Map.{Entry, entriesOf, nth, findEntry, idAt, idOf, allBelow, distinct, mapCheck}
+use Rattle.link.specs.Map.{Entry, entriesOf, nth, idAt, idOf, distinct, mapCheck}
 use Rattle.link.specs.Link.{isNamed, nameOf, withId, withFound, linkRule, linkRules, linkLeft, relaid, fits, unmapped, unused, linkAll, linkChecked, linkCall}
+use Rattle.link.proofs.Maps.{entry-first}
 use Rattle.link.proofs.Outcomes.{link-count, link-at, rules-read-back}
 
 -- ---- a rule
@@ -181,24 +181,11 @@ module _ (b : SheetBytes) (names entries x7 x8 : List ℕ) where
 
 -- ---- a map that passed its check
 
-below-at : (test : ℕ → Bool) (n k : ℕ) → allBelow test n ≡ true → k < n → test k ≡ true
-unfolding allBelow
-below-at test zero k e h = absurd (omega (arith, h))
-below-at test (suc n) k e h = by (le-or-lt n k) (λ g. below-at test n k (and-left (allBelow test n) (test n) e) g)
-  where
-    by : (n ≤ k) ⊎ (k < n) → (k < n → test k ≡ true) → test k ≡ true
-    by (inl g) earlier =
-        let q : n ≡ k = omega arith in
-        subst (λ (m : ℕ). test m ≡ true) q (and-right (allBelow test n) (test n) e)
-    by (inr g) earlier = earlier g
-
 module _ (es : List Entry) (different : distinct es ≡ true) where
   -- the id of an entry's name is that entry's
   pub entry-id : (j : ℕ) → j < length es → idOf es (nth es j .name) ≡ some (nth es j .id)
-  unfolding idOf idAt distinct
-  entry-id j h =
-      let q : findEntry es (nth es j .name) ≡ j = eqb-true (findEntry es (nth es j .name)) j (below-at (λ i. eqb (findEntry es (nth es i .name)) i) (length es) j different h) in
-      rw (q, lt-ltb j (length es) h)
+  unfolding idOf idAt
+  entry-id j h = rw (entry-first es different j h, lt-ltb j (length es) h)
 
 -- ---- a map that holds every rule's name
 

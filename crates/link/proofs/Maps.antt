@@ -1,19 +1,20 @@
 -- A map read from its bytes: entry j of the list is what entry j of the bytes says. A search keeps that the first entry of the name is the same
 -- from where it stands, and a check that the tests so far are those of the entries so far.
-use mathlib.Core.Path.{_≡_, refl, sym, ap, ap₂, _∙_}
+use mathlib.Core.Path.{_≡_, refl, sym, ap, ap₂, subst, _∙_}
 use mathlib.Core.Bool.{Bool, true, false, _&&_}
 use mathlib.Core.List.{List, []}
-use Prim.Native.Nat.{ℕ, _+_, _*_, _%_, _≤_, _<_}
+use mathlib.Core.Logic.{_⊎_, inl, inr}
+use Prim.Native.Nat.{ℕ, zero, suc, _+_, _*_, _%_, _≤_, _<_}
 use native.Mathlib.Nat.{add-zero}
 use native.Mathlib.Numerals.{add-one}
 use native.Mathlib.Omega.{arith}
 use borrow.Author.Needs.{needs}
-use borrow.Author.Tests.{eq-eqb, ne-eqb, le-leb, lt-leb}
+use borrow.Author.Tests.{eqb-true, eq-eqb, ne-eqb, le-leb, lt-leb}
 use lib.Dec.{eqb}
 use lib.ListN.{length, length-map, List·getD-map}
 use Rattle.text.specs.Walk.{first}
 use Rattle.text.specs.Range.{part, sameBytes, sameRange}
-use Rattle.text.proofs.Tests.{answer}
+use Rattle.text.proofs.Tests.{answer, and-left, and-right, le-or-lt}
 use Rattle.text.proofs.Walks.{first-found, first-again, first-ended}
 use Rattle.area.specs.Bytes.{fieldAt, fieldFrom}
 use Rattle.area.specs.Contents.{contents}
@@ -101,8 +102,6 @@ distinct-read names entries k good h g e =
     let q : k ≡ entryCount entries = omega arith in
     e ∙ ap (allBelow (λ j. eqb (findEntry (entriesOf names entries) (nth (entriesOf names entries) j .name)) j)) (q ∙ sym (entries-count names entries))
 
-pub ruleset comparing-entries = (needs, below-none, below-next, distinct-read)
-
 module _ (names entries : List ℕ) where
   pub map-ragged : (length entries % mapWidth ≡ 0 → ⊥) → false ≡ mapCheck names entries
   unfolding mapCheck
@@ -122,4 +121,20 @@ module _ (names entries : List ℕ) where
       unfolding mapCheck
       map-inside r q z = rw (eq-eqb (length entries % mapWidth) 0 h, le-leb (entryCount entries) mostEntries g, ← is, q) z
 
-pub ruleset checking-map = (needs, map-ragged, map-large, map-outside, map-inside)
+-- ---- names that are distinct
+
+below-at : (test : ℕ → Bool) (n k : ℕ) → allBelow test n ≡ true → k < n → test k ≡ true
+unfolding allBelow
+below-at test zero k e h = absurd (omega (arith, h))
+below-at test (suc n) k e h = by (le-or-lt n k) (λ g. below-at test n k (and-left (allBelow test n) (test n) e) g)
+  where
+    by : (n ≤ k) ⊎ (k < n) → (k < n → test k ≡ true) → test k ≡ true
+    by (inl g) earlier =
+        let q : n ≡ k = omega arith in
+        subst (λ (m : ℕ). test m ≡ true) q (and-right (allBelow test n) (test n) e)
+    by (inr g) earlier = earlier g
+
+-- each entry is the first of its name
+pub entry-first : (es : List Entry) → distinct es ≡ true → (j : ℕ) → j < length es → findEntry es (nth es j .name) ≡ j
+unfolding distinct
+entry-first es different j h = eqb-true (findEntry es (nth es j .name)) j (below-at (λ i. eqb (findEntry es (nth es i .name)) i) (length es) j different h)

@@ -8,9 +8,12 @@ ghost use Rattle.area.specs.Contents.{contents, ruleFormat};
 ghost use Rattle.sheet_check.specs.SheetCheck.{sheetBytes};
 ghost use Rattle.link.specs.declared.LinkAnswer.the-variants.{Linked};
 ghost use Rattle.link.specs.Map.{mostEntries, entryCount, entriesOf};
+ghost use Rattle.link.specs.Index.{EntryIndex, RuleSlots};
 ghost use Rattle.link.specs.Link.{unmapped, unused, fits, linkLeft, linkAll, linkChecked, linkCall};
 use crate::LinkAnswer;
-use crate::map::check_map;
+use crate::index::SLOTS;
+use crate::index::check_map;
+use crate::index::index_rules;
 use crate::numbers::NUMBER_WIDTH;
 use crate::numbers::count_unmapped;
 use crate::numbers::count_unused;
@@ -32,6 +35,8 @@ fn write_all(
     rules: u16,
     names: &[u8],
     entries: &[u8],
+    entry_slots: &[u16],
+    rule_slots: &[u16],
     area7: &mut [u8],
     area8: &mut [u8],
     missing: u16,
@@ -39,13 +44,15 @@ fn write_all(
 ) -> LinkAnswer
     requires { ⌜ (rules ≤ mostRules) × (rules * ruleWidth ≤ length (now area2)) ⌝ }
     requires { ⌜ entryCount (now entries) ≤ mostEntries ⌝ }
+    requires { ⌜ EntryIndex (now names) (now entries) (now «entry_slots») ⌝ }
+    requires { ⌜ RuleSlots (now src) (now area2) rules rules (now «rule_slots») ⌝ }
     requires { ⌜ fits (unmapped (now src) (entriesOf (now names) (now entries)) (contents ruleFormat (now area2) rules)) (now area7) ≡ true ⌝ }
     requires { ⌜ fits (unused (now src) (entriesOf (now names) (now entries)) (contents ruleFormat (now area2) rules)) (now area8) ≡ true ⌝ }
     ensures { λ r. ⌜ linkLeft r (now (area2 .exit)) (now (area7 .exit)) (now (area8 .exit)) ≡ linkAll (Linked missing idle) (now (src .entry)) (contents ruleFormat (now (area2 .entry)) rules) (entriesOf (now (names .entry)) (now (entries .entry))) (now (area2 .entry)) (now (area7 .entry)) (now (area8 .entry)) ⌝ }
 {
     clear(area8);
-    write_unused(src, area2, rules, names, entries, area8);
-    link_rules(src, area2, rules, names, entries);
+    write_unused(src, area2, rules, rule_slots, names, entries, area8);
+    link_rules(src, area2, rules, names, entries, entry_slots);
     clear(area7);
     write_unlinked(area2, rules, area7);
     LinkAnswer::Linked(missing, idle)
@@ -58,18 +65,22 @@ fn link_checked(
     rules: u16,
     names: &[u8],
     entries: &[u8],
+    entry_slots: &[u16],
     area7: &mut [u8],
     area8: &mut [u8],
 ) -> LinkAnswer
+    requires { ⌜ EntryIndex (now names) (now entries) (now «entry_slots») ⌝ }
     requires { ⌜ (rules ≤ mostRules) × (rules * ruleWidth ≤ length (now area2)) ⌝ }
     requires { ⌜ entryCount (now entries) ≤ mostEntries ⌝ }
     ensures { λ r. ⌜ linkLeft r (now (area2 .exit)) (now (area7 .exit)) (now (area8 .exit)) ≡ linkChecked (now (src .entry)) (contents ruleFormat (now (area2 .entry)) rules) (entriesOf (now (names .entry)) (now (entries .entry))) (now (area2 .entry)) (now (area7 .entry)) (now (area8 .entry)) ⌝ }
 {
-    let missing = count_unmapped(src, area2, rules, names, entries);
+    let missing = count_unmapped(src, area2, rules, names, entries, entry_slots);
     if area7.len() < missing as usize * NUMBER_WIDTH {
         return LinkAnswer::AreaFull(UNMAPPED_AREA);
     }
-    let idle = count_unused(src, area2, rules, names, entries);
+    let mut rule_slots = [0; SLOTS];
+    index_rules(src, area2, rules, &mut rule_slots);
+    let idle = count_unused(src, area2, rules, &rule_slots, names, entries);
     if area8.len() < idle as usize * NUMBER_WIDTH {
         return LinkAnswer::AreaFull(UNUSED_AREA);
     }
@@ -79,6 +90,8 @@ fn link_checked(
         rules,
         names,
         entries,
+        entry_slots,
+        &rule_slots,
         area7,
         area8,
         missing,
@@ -105,8 +118,18 @@ pub fn set_rule_ids_spanned(
     if !check(src, area1, area2, area3, area4, area5, counts) {
         return LinkAnswer::BrokenSheet;
     }
-    if !check_map(names, entries) {
+    let mut entry_slots = [0; SLOTS];
+    if !check_map(names, entries, &mut entry_slots) {
         return LinkAnswer::BrokenMap;
     }
-    link_checked(src, area2, counts[1], names, entries, area7, area8)
+    link_checked(
+        src,
+        area2,
+        counts[1],
+        names,
+        entries,
+        &entry_slots,
+        area7,
+        area8,
+    )
 }

@@ -10,6 +10,8 @@ ghost use Rattle.area.specs.Contents.{contents, ruleFormat, entryFormat};
 ghost use Rattle.parse.specs.Parse.{laid};
 ghost use Rattle.link.specs.Map.{mostEntries, entryCount, entriesOf, nth};
 ghost use Rattle.link.specs.Link.{isUnmapped, isUnlinked, hasThatName, isUnused, unlinked, unmapped, unused, fits};
+ghost use Rattle.link.specs.Index.{EntryIndex, RuleSlots};
+use crate::index::is_unused_by;
 use crate::map::MAP_WIDTH;
 use crate::map::has_name;
 use crate::rule_ids::entry_of;
@@ -30,16 +32,25 @@ fn write_number(into: &mut [u8], n: u16, number: u16)
 
 // ---- rules
 
-fn is_unmapped(src: &[u8], names: &[u8], entries: &[u8], x: Rule) -> bool
+fn is_unmapped(src: &[u8], names: &[u8], entries: &[u8], slots: &[u16], x: Rule) -> bool
+    requires { ⌜ EntryIndex (now names) (now entries) (now slots) ⌝ }
     ensures { λ r. ⌜ r ≡ isUnmapped (now (src .entry)) (entriesOf (now (names .entry)) (now (entries .entry))) x ⌝ }
 {
     if x.named != 1 {
         return false;
     }
-    entries.len() / MAP_WIDTH <= entry_of(src, names, entries, x)
+    entries.len() / MAP_WIDTH <= entry_of(src, names, entries, slots, x)
 }
 
-pub fn count_unmapped(src: &[u8], area: &[u8], count: u16, names: &[u8], entries: &[u8]) -> u16
+pub fn count_unmapped(
+    src: &[u8],
+    area: &[u8],
+    count: u16,
+    names: &[u8],
+    entries: &[u8],
+    slots: &[u16],
+) -> u16
+    requires { ⌜ EntryIndex (now names) (now entries) (now slots) ⌝ }
     requires { ⌜ count * ruleWidth ≤ length (now area) ⌝ }
     ensures { λ r. ⌜ r ≡ length (unmapped (now (src .entry)) (entriesOf (now (names .entry)) (now (entries .entry))) (contents ruleFormat (now (area .entry)) count)) ⌝ }
 {
@@ -48,7 +59,7 @@ pub fn count_unmapped(src: &[u8], area: &[u8], count: u16, names: &[u8], entries
     while k < count {
         let x = read_rule(area, k as usize);
         k += 1;
-        if !is_unmapped(src, names, entries, x) {
+        if !is_unmapped(src, names, entries, slots, x) {
             continue;
         }
         n += 1;
@@ -85,7 +96,7 @@ pub fn write_unlinked(area: &[u8], count: u16, into: &mut [u8])
 
 // ---- entries
 
-fn has_that_name(src: &[u8], x: Rule, names: &[u8], entries: &[u8], j: usize) -> bool
+pub fn has_that_name(src: &[u8], x: Rule, names: &[u8], entries: &[u8], j: usize) -> bool
     requires { ⌜ j < entryCount (now entries) ⌝ }
     ensures { λ r. ⌜ r ≡ hasThatName (now (src .entry)) (nth (entriesOf (now (names .entry)) (now (entries .entry))) j .name) x ⌝ }
 {
@@ -96,7 +107,14 @@ fn has_that_name(src: &[u8], x: Rule, names: &[u8], entries: &[u8], j: usize) ->
     has_name(names, entries, j, src, from, from + x.name_length as usize)
 }
 
-fn is_unused(src: &[u8], area: &[u8], count: u16, names: &[u8], entries: &[u8], j: usize) -> bool
+pub fn is_unused(
+    src: &[u8],
+    area: &[u8],
+    count: u16,
+    names: &[u8],
+    entries: &[u8],
+    j: usize,
+) -> bool
     requires { ⌜ count * ruleWidth ≤ length (now area) ⌝ }
     requires { ⌜ j < entryCount (now entries) ⌝ }
     ensures { λ r. ⌜ r ≡ isUnused (now (src .entry)) (contents ruleFormat (now (area .entry)) count) (nth (entriesOf (now (names .entry)) (now (entries .entry))) j .name) ⌝ }
@@ -111,7 +129,15 @@ fn is_unused(src: &[u8], area: &[u8], count: u16, names: &[u8], entries: &[u8], 
     true
 }
 
-pub fn count_unused(src: &[u8], area: &[u8], count: u16, names: &[u8], entries: &[u8]) -> u16
+pub fn count_unused(
+    src: &[u8],
+    area: &[u8],
+    count: u16,
+    slots: &[u16],
+    names: &[u8],
+    entries: &[u8],
+) -> u16
+    requires { ⌜ RuleSlots (now src) (now area) count count (now slots) ⌝ }
     requires { ⌜ count * ruleWidth ≤ length (now area) ⌝ }
     requires { ⌜ entryCount (now entries) ≤ mostEntries ⌝ }
     ensures { λ r. ⌜ r ≡ length (unused (now (src .entry)) (entriesOf (now (names .entry)) (now (entries .entry))) (contents ruleFormat (now (area .entry)) count)) ⌝ }
@@ -122,7 +148,7 @@ pub fn count_unused(src: &[u8], area: &[u8], count: u16, names: &[u8], entries: 
     while j < most {
         let here = j;
         j += 1;
-        if !is_unused(src, area, count, names, entries, here) {
+        if !is_unused_by(src, area, count, slots, names, entries, here) {
             continue;
         }
         n += 1;
@@ -135,10 +161,12 @@ pub fn write_unused(
     src: &[u8],
     area: &[u8],
     count: u16,
+    slots: &[u16],
     names: &[u8],
     entries: &[u8],
     into: &mut [u8],
 )
+    requires { ⌜ RuleSlots (now src) (now area) count count (now slots) ⌝ }
     requires { ⌜ count * ruleWidth ≤ length (now area) ⌝ }
     requires { ⌜ entryCount (now entries) ≤ mostEntries ⌝ }
     requires { ⌜ now into ≡ zeros (length (now into)) ⌝ }
@@ -151,7 +179,7 @@ pub fn write_unused(
     while j < most {
         let here = j;
         j += 1;
-        if !is_unused(src, area, count, names, entries, here) {
+        if !is_unused_by(src, area, count, slots, names, entries, here) {
             continue;
         }
         write_number(into, n, here as u16);

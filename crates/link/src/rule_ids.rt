@@ -7,19 +7,28 @@ ghost use Rattle.area.specs.Records.{ruleWidth, mostRules};
 ghost use Rattle.area.specs.Contents.{contents, ruleFormat};
 ghost use Rattle.link.specs.Map.{entryCount, entriesOf, findEntry};
 ghost use Rattle.link.specs.Link.{nameOf, withId, linkRule, linkRules, relaid};
+ghost use Rattle.link.specs.Index.{EntryIndex};
+use crate::index::find_by;
 use crate::map::MAP_WIDTH;
-use crate::map::find_entry;
 use crate::map::read_map_entry;
 use area::Rule;
 use area::push_rule;
 use area::read_rule;
 
 // The entry with a rule's name, or the number of entries.
-pub fn entry_of(src: &[u8], names: &[u8], entries: &[u8], x: Rule) -> usize
+pub fn entry_of(src: &[u8], names: &[u8], entries: &[u8], slots: &[u16], x: Rule) -> usize
+    requires { ⌜ EntryIndex (now names) (now entries) (now slots) ⌝ }
     ensures { λ r. ⌜ Between 0 (entryCount (now (entries .entry))) (findEntry (entriesOf (now (names .entry)) (now (entries .entry))) (nameOf (now (src .entry)) x)) r ⌝ }
 {
     let from = x.name_from as usize;
-    find_entry(names, entries, src, from, from + x.name_length as usize)
+    find_by(
+        names,
+        entries,
+        slots,
+        src,
+        from,
+        from + x.name_length as usize,
+    )
 }
 
 fn with_id(x: Rule, has: u16, id: u16) -> Rule
@@ -31,13 +40,14 @@ fn with_id(x: Rule, has: u16, id: u16) -> Rule
     y
 }
 
-fn link_rule(src: &[u8], names: &[u8], entries: &[u8], x: Rule) -> Rule
+fn link_rule(src: &[u8], names: &[u8], entries: &[u8], slots: &[u16], x: Rule) -> Rule
+    requires { ⌜ EntryIndex (now names) (now entries) (now slots) ⌝ }
     ensures { λ r. ⌜ r ≡ linkRule (now (src .entry)) (entriesOf (now (names .entry)) (now (entries .entry))) x ⌝ }
 {
     if x.named != 1 {
         return x;
     }
-    let j = entry_of(src, names, entries, x);
+    let j = entry_of(src, names, entries, slots, x);
     if j < entries.len() / MAP_WIDTH {
         let found = read_map_entry(entries, j);
         return with_id(x, 1, found.id);
@@ -46,14 +56,22 @@ fn link_rule(src: &[u8], names: &[u8], entries: &[u8], x: Rule) -> Rule
 }
 
 // Every rule is written back whole, so that an area holds the linked rules.
-pub fn link_rules(src: &[u8], area: &mut [u8], count: u16, names: &[u8], entries: &[u8])
+pub fn link_rules(
+    src: &[u8],
+    area: &mut [u8],
+    count: u16,
+    names: &[u8],
+    entries: &[u8],
+    slots: &[u16],
+)
+    requires { ⌜ EntryIndex (now names) (now entries) (now slots) ⌝ }
     requires { ⌜ (count ≤ mostRules) × (count * ruleWidth ≤ length (now area)) ⌝ }
     ensures { λ _. ⌜ now (area .exit) ≡ relaid ruleFormat (now (area .entry)) (linkRules (now (src .entry)) (entriesOf (now (names .entry)) (now (entries .entry))) (contents ruleFormat (now (area .entry)) count)) ⌝ }
 {
     let mut k = 0;
     while k < count {
         let x = read_rule(area, k as usize);
-        push_rule(area, k, link_rule(src, names, entries, x));
+        push_rule(area, k, link_rule(src, names, entries, slots, x));
         k += 1;
     }
 }

@@ -1,0 +1,29 @@
+-- `link::index::check_map` meets its contract: each test that fails makes it false, and a map that passes has its slots.
+use Rattle.link.proofs.Maps.{map-ragged, map-large, map-outside, map-inside}
+use Rattle.link.proofs.Slotting.{slotting-entries, checked-no, checked-yes}
+use Rattle.link.proofs.index.check_map.Statement.{statement}
+use Rattle.link.proofs.index.check_map.Tie as tie
+
+returns : tie.Need-returns
+returns c = checked-no _ _ _ (map-ragged _ _ (c .if1 .taken))
+
+returns-2 : tie.Need-returns-2
+returns-2 c = checked-no _ _ _ (map-large _ _ (c .before .if1 .left) (c .if2 .taken))
+
+returns-3 : tie.Need-returns-3
+returns-3 c = checked-yes _ _ _ _ (c .before .before .index-entries .ensures) (λ q. map-inside _ _ (c .before .before .before .before .before .before .before .if1 .left) (c .before .before .before .before .before .before .if2 .left) _ (c .before .before .before .before .before .names-inside .ensures) _ (c .before .before .before .before .if3 .taken) q)
+
+returns-4 : tie.Need-returns-4
+returns-4 c = checked-no _ _ _ (map-outside _ _ (c .before .before .before .if1 .left) (c .before .before .if2 .left) _ (c .before .names-inside .ensures) (c .if3 .left))
+
+pub check-map-spec : {M : Type 1} → statement M
+check-map-spec =
+    tie.close
+    (tie.spec
+    returns
+    returns-2
+    (λ c κs. search slotting-entries)
+    (λ c κs. search slotting-entries)
+    (λ c. search slotting-entries)
+    returns-3
+    returns-4)

@@ -1,0 +1,203 @@
+// An index of names, so that a name is mostly compared with one other and not with all. It has a slot for each value that the bytes of a
+// name can give; a slot has the number, counted from 1, of a name that gives it.
+ghost use mathlib.Core.Path.{_≡_};
+ghost use Prim.Native.Nat.{_+_, _*_, _%_, _≤_, _<_, min};
+ghost use lib.Dec.{eqb};
+ghost use lib.ListN.{length, getD, replicate};
+ghost use Rattle.text.specs.Walk.{Between};
+ghost use Rattle.text.specs.Range.{part};
+ghost use Rattle.area.specs.Records.{ruleWidth};
+ghost use Rattle.area.specs.Contents.{contents, ruleFormat};
+ghost use Rattle.link.specs.Map.{mostEntries, entryCount, entriesOf, nth, findEntry};
+ghost use Rattle.link.specs.Link.{nameOf, isUnused};
+ghost use Rattle.link.specs.Index.{slotCount, Slot, EntrySlots, RuleSlots, EntryIndex, EntriesIndexed, MapChecked};
+use crate::map::MAP_WIDTH;
+use crate::map::find_entry;
+use crate::map::has_name;
+use crate::map::is_first;
+use crate::map::names_inside;
+use crate::map::read_map_entry;
+use crate::numbers::has_that_name;
+use crate::numbers::is_unused;
+use area::Rule;
+use area::read_rule;
+
+// How many slots there are.
+pub const SLOTS: usize = 32768;
+
+// How many entries a map may have.
+const MOST_ENTRIES: usize = 2048;
+
+fn smaller(a: usize, b: usize) -> usize
+    ensures { λ r. ⌜ r ≡ min a b ⌝ }
+{
+    if a < b {
+        return a;
+    }
+    b
+}
+
+fn next_slot(h: usize, b: u8) -> usize
+    requires { ⌜ h < slotCount ⌝ }
+    ensures { λ r. ⌜ r ≡ (h * 179 + b) % slotCount ⌝ }
+{
+    (h * 179 + b as usize) % SLOTS
+}
+
+// The slot of the bytes of a text from a to e.
+fn slot_of(text: &[u8], a: usize, e: usize) -> usize
+    ensures { λ r. ⌜ Slot (part (now (text .entry)) a e) r ⌝ }
+{
+    let end = smaller(e, text.len());
+    let mut h = 0;
+    let mut i = a;
+    while i < end {
+        h = next_slot(h, text[i]);
+        i += 1;
+    }
+    h
+}
+
+fn read_slot(slots: &[u16], at: usize) -> u16
+    requires { ⌜ at < length (now slots) ⌝ }
+    ensures { λ r. ⌜ r ≡ getD (now (slots .entry)) at 0 ⌝ }
+{
+    slots[at]
+}
+
+// ---- entries
+
+fn entry_slot(names: &[u8], entries: &[u8], j: usize) -> usize
+    requires { ⌜ j < entryCount (now entries) ⌝ }
+    ensures { λ r. ⌜ Slot (nth (entriesOf (now (names .entry)) (now (entries .entry))) j .name) r ⌝ }
+{
+    let x = read_map_entry(entries, j);
+    let from = x.name_from as usize;
+    slot_of(names, from, from + x.name_length as usize)
+}
+
+// Whether entry j is the first of its name, by the slots of those before it.
+fn is_first_by(names: &[u8], entries: &[u8], slots: &[u16], j: usize) -> bool
+    requires { ⌜ j < entryCount (now entries) ⌝ }
+    requires { ⌜ EntrySlots (now names) (now entries) j (now slots) ⌝ }
+    ensures { λ r. ⌜ r ≡ eqb (findEntry (entriesOf (now (names .entry)) (now (entries .entry))) (nth (entriesOf (now (names .entry)) (now (entries .entry))) j .name)) j ⌝ }
+{
+    let at = entry_slot(names, entries, j);
+    if read_slot(slots, at) == 0 {
+        return true;
+    }
+    is_first(names, entries, j)
+}
+
+// The slots of all entries, and whether no two have the same name.
+fn index_entries(names: &[u8], entries: &[u8], slots: &mut [u16]) -> bool
+    requires { ⌜ entryCount (now entries) ≤ mostEntries ⌝ }
+    requires { ⌜ now slots ≡ replicate slotCount 0 ⌝ }
+    ensures { λ r. ⌜ EntriesIndexed (now (names .entry)) (now (entries .entry)) r (now (slots .exit)) ⌝ }
+{
+    let n = entries.len() / MAP_WIDTH;
+    let mut good = true;
+    let mut j = 0;
+    while j < n {
+        good = good & is_first_by(names, entries, slots, j);
+        let at = entry_slot(names, entries, j);
+        j += 1;
+        slots[at] = j as u16;
+    }
+    good
+}
+
+// The map check, and the slots of a map that passes. The number of entries first, so that few names are compared.
+pub fn check_map(names: &[u8], entries: &[u8], slots: &mut [u16]) -> bool
+    requires { ⌜ now slots ≡ replicate slotCount 0 ⌝ }
+    ensures { λ r. ⌜ MapChecked (now (names .entry)) (now (entries .entry)) r (now (slots .exit)) ⌝ }
+{
+    if entries.len() % MAP_WIDTH != 0 {
+        return false;
+    }
+    if entries.len() / MAP_WIDTH > MOST_ENTRIES {
+        return false;
+    }
+    if names_inside(entries, names.len()) {
+        return index_entries(names, entries, slots);
+    }
+    false
+}
+
+// The entry with the name that stands in a text from a to e, or the number of entries.
+pub fn find_by(
+    names: &[u8],
+    entries: &[u8],
+    slots: &[u16],
+    text: &[u8],
+    a: usize,
+    e: usize,
+) -> usize
+    requires { ⌜ EntryIndex (now names) (now entries) (now slots) ⌝ }
+    ensures { λ r. ⌜ Between 0 (entryCount (now (entries .entry))) (findEntry (entriesOf (now (names .entry)) (now (entries .entry))) (part (now (text .entry)) a e)) r ⌝ }
+{
+    let at = slot_of(text, a, e);
+    let number = read_slot(slots, at) as usize;
+    if number == 0 {
+        return entries.len() / MAP_WIDTH;
+    }
+    let j = number - 1;
+    if has_name(names, entries, j, text, a, e) {
+        return j;
+    }
+    find_entry(names, entries, text, a, e)
+}
+
+// ---- rules
+
+fn rule_slot(src: &[u8], x: Rule) -> usize
+    ensures { λ r. ⌜ Slot (nameOf (now (src .entry)) x) r ⌝ }
+{
+    let from = x.name_from as usize;
+    slot_of(src, from, from + x.name_length as usize)
+}
+
+// The slots of the named rules of an area.
+pub fn index_rules(src: &[u8], area: &[u8], count: u16, slots: &mut [u16])
+    requires { ⌜ count * ruleWidth ≤ length (now area) ⌝ }
+    requires { ⌜ now slots ≡ replicate slotCount 0 ⌝ }
+    ensures { λ _. ⌜ RuleSlots (now (src .entry)) (now (area .entry)) count count (now (slots .exit)) ⌝ }
+{
+    let mut k = 0;
+    while k < count {
+        let x = read_rule(area, k as usize);
+        k += 1;
+        if x.named != 1 {
+            continue;
+        }
+        let at = rule_slot(src, x);
+        slots[at] = k;
+    }
+}
+
+// Whether no rule has the name of entry j.
+pub fn is_unused_by(
+    src: &[u8],
+    area: &[u8],
+    count: u16,
+    slots: &[u16],
+    names: &[u8],
+    entries: &[u8],
+    j: usize,
+) -> bool
+    requires { ⌜ count * ruleWidth ≤ length (now area) ⌝ }
+    requires { ⌜ RuleSlots (now src) (now area) count count (now slots) ⌝ }
+    requires { ⌜ j < entryCount (now entries) ⌝ }
+    ensures { λ r. ⌜ r ≡ isUnused (now (src .entry)) (contents ruleFormat (now (area .entry)) count) (nth (entriesOf (now (names .entry)) (now (entries .entry))) j .name) ⌝ }
+{
+    let at = entry_slot(names, entries, j);
+    let number = read_slot(slots, at);
+    if number == 0 {
+        return true;
+    }
+    let x = read_rule(area, (number - 1) as usize);
+    if has_that_name(src, x, names, entries, j) {
+        return false;
+    }
+    is_unused(src, area, count, names, entries, j)
+}
