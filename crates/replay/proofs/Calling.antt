@@ -7,7 +7,7 @@ use native.Mathlib.Omega.{arith}
 use lib.ListN.{length}
 use lib.Seq.{length-take-le, take-at}
 use borrow.Rule.Slice.PartMut.{midOf, putMid, postOf}
-use Rattle.parse.specs.Parse.{Left, Outcome, Caps, caps, longFile, unknownFlag, invalidUtf8, areaFull, faulty, accepted, outcome, leaves, parseCall}
+use Rattle.parse.specs.Parse.{Outcome, Caps, caps, longFile, unknownFlag, invalidUtf8, areaFull, faulty, accepted, outcome, leaves, parseCall}
 use Rattle.replay.specs.Records.{lentAt, front, Called}
 use Rattle.troymantle.specs.Words.{LeftInWords, leftInWords, inWords}
 

@@ -1,12 +1,12 @@
 -- A comparison that ends with true has seen every byte.
 use mathlib.Core.Path.{_≡_, refl, sym, ap, ap₂, subst, _∙_}
 use mathlib.Core.Bool.{Bool, true, false, false≢true}
-use mathlib.Core.List.{List, [], _∷_, _++_}
-use Prim.Native.Nat.{ℕ, zero, suc, _+_, _*_, _-_, _≤_, _<_, min}
+use mathlib.Core.List.{List, _∷_, _++_}
+use Prim.Native.Nat.{ℕ, suc, _+_, _*_, _-_, _≤_, _<_}
 use native.Mathlib.Omega.{arith}
 use native.Mathlib.Numerals.{add-one}
 use native.Mathlib.Nat.{sub-zero}
-use lib.ListN.{length, getD, take, drop, length-drop, drop-of-length-le, take-append-drop}
+use lib.ListN.{length, getD, take, drop, drop-of-length-le, take-append-drop}
 use lib.Seq.{drop-cons, length-take-le}
 use lib.Dec.{ltb}
 use borrow.Author.Needs.{needs}
@@ -14,7 +14,7 @@ use borrow.Author.Tests.{ltb-true, ltb-false}
 use Rattle.text.specs.Range.{part, sameRange}
 use Rattle.text.proofs.Ranges.{same-equal}
 use Rattle.area.specs.Bytes.{pad, zeros, fieldAt}
-use Rattle.replay.specs.Records.{ZeroAfter, Holds, Counted, Skips, Ends, bytesAt, bytesEnd, skipTo}
+use Rattle.replay.specs.Records.{ZeroAfter, Holds, Counted, Skips, Ends, bytesAt, skipTo}
 
 -- ---- zeros
 

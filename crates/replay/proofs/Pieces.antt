@@ -1,16 +1,14 @@
 -- The pieces of a source, one behind the other.
 use mathlib.Core.Path.{_≡_, refl, sym, ap, subst, _∙_}
-use mathlib.Core.List.{List, [], _∷_, _++_}
-use Prim.Native.Nat.{ℕ, zero, suc, _+_, _*_, _≤_, _<_, min}
+use mathlib.Core.List.{List}
+use Prim.Native.Nat.{ℕ, _+_, _≤_}
 use native.Mathlib.Omega.{arith}
 use native.Mathlib.Numerals.{add-one}
 use lib.ListN.{length}
 use borrow.Author.Needs.{needs}
 use Rattle.text.specs.Range.{part}
-use Rattle.sheet_print.specs.Output.{Appends, Written}
-use Rattle.sheet_print.specs.Lines.{joined}
+use Rattle.sheet_print.specs.Output.{Appends}
 use Rattle.sheet_print.proofs.Appending.{appends-none, appends-then, appends-first, joined-none, joined-next, joined-all}
-use Rattle.replay.specs.declared.record.Source.{Source}
 use Rattle.replay.specs.Records.{repeated, pieces, piecesEnd, pieceEnd, sourceAt, sourceEnd, Sourced, bytesAt, bytesEnd, skipTo, numberAt, Skips, Ends}
 
 -- ---- a text n times

@@ -5,7 +5,6 @@ use Prim.Native.Nat.{ℕ, _+_, _*_, _-_, _≤_, _<_}
 use native.Mathlib.Omega.{arith}
 use lib.ListN.{length}
 use borrow.Author.Needs.{needs}
-use Rattle.text.specs.Whitespace.{byte}
 use Rattle.area.specs.Bytes.{fieldAt}
 use Rattle.sheet_print.proofs.Numbers.{field-made}
 use Rattle.replay.specs.Records.{numberAt, longAt, skipTo, bytesEnd, lentAt, Skips, Ends}

@@ -2,21 +2,20 @@
 use mathlib.Core.Path.{_≡_, refl, sym, ap, subst, _∙_}
 use mathlib.Core.Bool.{Bool, true, false}
 use mathlib.Core.List.{List}
-use Prim.Native.Nat.{ℕ, _+_, _*_, _-_, _≤_, _<_, min}
+use Prim.Native.Nat.{ℕ, _+_, _-_, _≤_, _<_, min}
 use native.Mathlib.Nat.{sub-zero}
 use native.Mathlib.Omega.{arith}
 use lib.Dec.{leb}
-use lib.ListN.{length, getD, take, drop}
+use lib.ListN.{length, take, drop}
 use lib.Seq.{take-all}
 use borrow.Author.Tests.{leb-true, leb-false}
 use Rattle.text.specs.Range.{part}
-use Rattle.area.specs.Bytes.{fieldAt, pad}
 use Rattle.area.proofs.Contents.{listOf-is}
 use Rattle.parse.specs.Parse.{parseCall}
 use Rattle.troymantle.specs.Words.{leftInWords, inWords}
 use Rattle.replay.specs.declared.record.Replayed.{Replayed}
 use Rattle.replay.specs.declared.record.Source.{Source}
-use Rattle.replay.specs.Records.{numberAt, longAt, skipTo, bytesEnd, bytesAt, lentAt, Skips, Ends, Told, NumbersAre, LeftIs, Compares, Called, Agrees, areasAt, fourthAt, lengthsAt, countsAt, recorded, recordedCaps, recordEnd, sourceAt, sourceEnd, Sourced}
+use Rattle.replay.specs.Records.{longAt, skipTo, bytesEnd, bytesAt, Skips, Ends, NumbersAre, LeftIs, Compares, Called, Agrees, areasAt, fourthAt, lengthsAt, countsAt, recorded, recordedCaps, recordEnd, sourceAt, sourceEnd, Sourced}
 
 counts-listed : (l : List ℕ) (lengths word : ℕ) (counts : List ℕ) → length counts ≡ 6 → NumbersAre l lengths word counts → countsAt l lengths ≡ counts
 counts-listed l lengths word counts h n = listOf-is _ 0 counts 6 (sym h) (λ k g. sym (n .counts-are k (omega (arith, h))))

@@ -1,5 +1,4 @@
 // Whether what the call left is what was recorded.
-ghost use mathlib.Core.Path.{_≡_};
 ghost use Prim.Native.Nat.{_≤_};
 ghost use lib.ListN.{length};
 ghost use Rattle.replay.specs.Records.{Holds, ZeroAfter, Counted};

@@ -1,12 +1,11 @@
 -- The lines of each answer; and that an answer, the counts and the areas tell the outcome of the file: an area determines its records, so that
 -- what is printed of the areas' bytes is what is printed of the outcome.
 use mathlib.Core.Path.{_≡_, refl, sym, ap, ap₂, subst, _∙_}
-use mathlib.Core.Bool.{Bool, true, false, cond}
-use mathlib.Core.List.{List, [], _∷_, _++_}
-use Prim.Native.Nat.{ℕ, zero, suc, _+_, _*_, _-_, _≤_, _<_}
+use mathlib.Core.List.{List, [], _++_}
+use Prim.Native.Nat.{ℕ, zero, suc, _+_, _*_, _-_, _<_}
 use native.Mathlib.Nat.{le-refl}
 use native.Mathlib.Omega.{arith}
-use lib.ListN.{length, getD, length-append, length-replicate}
+use lib.ListN.{length, getD, length-append}
 use borrow.Author.Needs.{needs}
 use Rattle.area.specs.declared.State.{State}
 use Rattle.area.specs.declared.Rule.{Rule}
@@ -14,7 +13,7 @@ use Rattle.area.specs.declared.Fault.{Fault}
 use Rattle.area.specs.Areas.{Area}
 use Rattle.area.specs.Bytes.{bytes, pad, zeros}
 use Rattle.area.specs.Contents.{Format, stateFormat, ruleFormat, faultFormat}
-use Rattle.area.specs.Records.{stateAt, ruleAt, faultAt, nthState, nthRule, nthFault}
+use Rattle.area.specs.Records.{nthState, nthRule, nthFault}
 use Rattle.area.proofs.Contents.{Sound, state-sound, rule-sound, fault-sound}
 use Rattle.area.proofs.Fields.{bytes-length}
 use Rattle.parse.specs.declared.Answer.{Answer}

@@ -1,9 +1,8 @@
 -- Appending to the text of a buffer: nothing, a byte, one text behind another, and the loops that append a list of texts or a part of a text.
 -- Where the buffer is full the text goes on without it, so that none of these laws asks for room.
-use mathlib.Core.Path.{_≡_, refl, sym, ap, ap₂, subst, _∙_}
-use mathlib.Core.Bool.{Bool, true, false, cond}
+use mathlib.Core.Path.{_≡_, refl, sym, ap, subst, _∙_}
 use mathlib.Core.List.{List, [], _∷_, _++_, append-assoc, append-nil}
-use Prim.Native.Nat.{ℕ, zero, suc, _+_, _-_, _≤_, _<_, min, max}
+use Prim.Native.Nat.{ℕ, suc, _+_, _-_, _≤_, _<_, max}
 use native.Mathlib.Nat.{sub-zero}
 use native.Mathlib.Omega.{arith}
 use native.Mathlib.Numerals.{add-one}

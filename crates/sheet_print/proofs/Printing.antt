@@ -1,19 +1,14 @@
 -- Each line is its parts one behind the other; a record's fields, read from the area one by one, are the fields of the record.
-use mathlib.Core.Path.{_≡_, refl, sym, ap, ap₂, subst, _∙_}
-use mathlib.Core.Bool.{Bool, true, false, cond}
+use mathlib.Core.Path.{_≡_, refl, sym, ap, subst, _∙_}
 use mathlib.Core.List.{List, [], _∷_, _++_}
-use Prim.Native.Nat.{ℕ, zero, suc, _+_, _*_, _≤_, _<_}
-use lib.Dec.{eqb}
-use lib.ListN.{length}
+use Prim.Native.Nat.{ℕ, zero, suc, _+_, _*_, _≤_}
 use borrow.Author.Needs.{needs}
 use borrow.Author.Tests.{eq-eqb, ne-eqb}
 use Rattle.text.specs.Range.{part}
 use Rattle.area.specs.declared.State.{State}
-use Rattle.area.specs.declared.Rule.{Rule}
-use Rattle.area.specs.declared.Fault.{Fault}
 use Rattle.area.specs.Bytes.{bytes, fieldAt, fieldFrom}
 use Rattle.area.specs.Contents.{listOf}
-use Rattle.area.specs.Records.{stateAt, ruleAt, faultAt, stateOf, ruleOf, faultOf, ruleFields, faultFields}
+use Rattle.area.specs.Records.{stateAt, ruleAt, faultAt, ruleOf, faultOf, ruleFields, faultFields}
 use Rattle.area.proofs.Decode.{state-made}
 use Rattle.area.proofs.Fields.{bytes-append, bytes-single}
 use Rattle.sheet_print.specs.Output.{Appends, field}

@@ -1,5 +1,5 @@
 -- The lines that `sheet` prints of a file (01, Files to try, the end; the words are ASCII).
-use Prim.Native.Nat.{ℕ, zero, suc, _-_}
+use Prim.Native.Nat.{ℕ, zero, suc}
 use mathlib.Core.Bool.{cond}
 use mathlib.Core.List.{List, [], _∷_, _++_}
 use lib.Dec.{eqb}

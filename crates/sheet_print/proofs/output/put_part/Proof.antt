@@ -1,6 +1,5 @@
 -- `sheet_print::output::put_part` meets its contract: the part up to i is appended.
 use Prim.Native.Nat.{_-_, _≤_, max}
-use lib.ListN.{length}
 use Rattle.text.specs.Range.{part}
 use Rattle.sheet_print.specs.Output.{Appends}
 use Rattle.sheet_print.proofs.Appending.{parts}
