@@ -9,6 +9,8 @@ macro_rules! misreadings {
     };
 }
 
+pub(crate) use misreadings;
+
 misreadings! {
     // Numbers
     LongFileAtTheLimit: "65,535 bytes are refused as a long file",

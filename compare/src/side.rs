@@ -240,13 +240,13 @@ mod ours {
         (word, Run { numbers, stack: unguarded(stack) })
     }
 
-    pub fn step_into(sheet: &Sheet, numbers: &mut [u16; 4], stack: &mut [u8], row: &[u8]) -> u64 {
-        let [one, two, three, four, five] = &sheet.areas;
-        // SAFETY: every pointer goes with the length of its own slice, and the call reads and writes only there.
-        unsafe {
-            troymantle_step(
-                sheet.source.as_ptr(),
-                sheet.source.len(),
+    /// A call that takes a sheet first, and then the rest. Every pointer goes with the length of its own slice.
+    macro_rules! with_sheet {
+        ($call:ident, $sheet:ident, $($rest:expr),*) => {{
+            let [one, two, three, four, five] = &$sheet.areas;
+            $call(
+                $sheet.source.as_ptr(),
+                $sheet.source.len(),
                 one.as_ptr(),
                 one.len(),
                 two.as_ptr(),
@@ -257,37 +257,21 @@ mod ours {
                 four.len(),
                 five.as_ptr(),
                 five.len(),
-                sheet.counts.as_ptr(),
-                numbers.as_mut_ptr(),
-                stack.as_mut_ptr(),
-                stack.len(),
-                row.as_ptr(),
-                row.len(),
+                $sheet.counts.as_ptr(),
+                $($rest),*
             )
-        }
+        }};
+    }
+
+    pub fn step_into(sheet: &Sheet, numbers: &mut [u16; 4], stack: &mut [u8], row: &[u8]) -> u64 {
+        let (run, bytes, size) = (numbers.as_mut_ptr(), stack.as_mut_ptr(), stack.len());
+        // SAFETY: the call reads the sheet and the row, and writes the four numbers and the stack alone.
+        unsafe { with_sheet!(troymantle_step, sheet, run, bytes, size, row.as_ptr(), row.len()) }
     }
 
     pub fn pattern_test(sheet: &Sheet, rule: u64) -> u64 {
-        let [one, two, three, four, five] = &sheet.areas;
-        // SAFETY: every pointer goes with the length of its own slice, and the call only reads.
-        unsafe {
-            troymantle_pattern_test(
-                sheet.source.as_ptr(),
-                sheet.source.len(),
-                one.as_ptr(),
-                one.len(),
-                two.as_ptr(),
-                two.len(),
-                three.as_ptr(),
-                three.len(),
-                four.as_ptr(),
-                four.len(),
-                five.as_ptr(),
-                five.len(),
-                sheet.counts.as_ptr(),
-                rule,
-            )
-        }
+        // SAFETY: the call reads the sheet and writes nothing.
+        unsafe { with_sheet!(troymantle_pattern_test, sheet, rule) }
     }
 
     /// The bytes between guards.

@@ -1,13 +1,6 @@
 //! Deliberate misreadings of the run machine. The cases must tell each of them from the right reading.
 
-macro_rules! misreadings {
-    ($($name:ident: $words:literal,)*) => {
-        #[derive(Clone, Copy, Debug, PartialEq, Eq)]
-        pub enum Misreading { $($name,)* }
-
-        pub const ALL: &[(Misreading, &str)] = &[$((Misreading::$name, $words),)*];
-    };
-}
+use crate::misreadings::misreadings;
 
 misreadings! {
     StartsInTheLastState: "the run starts in the state declared last",
