@@ -35,7 +35,7 @@ use Rattle.link.specs.Link.{isNamed, nameOf, isNone, isUnmapped, hasThatName, i
 use Rattle.run.specs.declared.Run.{Run}
 use Rattle.run.specs.declared.Begun.the-variants.{Started}
 use Rattle.run.specs.declared.Step.{Step}
-use Rattle.run.specs.declared.Step.the-variants.{IllFittingRow, Done, Stopped, Skip, Token}
+use Rattle.run.specs.declared.Step.the-variants.{RowMismatch, Done, Stopped, Skip, Token}
 use Rattle.run.specs.Winner.{findState, listed, live, weight, greatest, earliest}
 use Rattle.run.specs.Run.{StartLeft, goodStart, startCall, goodRow}
 use Rattle.machine.specs.Machine.{fresh, Answered, stackAfter, movedBy, tokenBy, wins, winner, chooses, machineStep, machineRun}
@@ -97,7 +97,7 @@ pub record Met (stack : List ℕ) (r : Run) : Type 0 where
   pub run-started : startCall 8 r stack .answer ≡ Started
   pub answers :
       answersOf (machineRun (givenBy lexFile found (entriesOf names-of-map entries-of-map) 8) fresh entry-rows)
-      ≡ Token 300 0 2 ∷ Skip ∷ IllFittingRow ∷ Skip ∷ Token 301 4 1 ∷ Token 302 5 1 ∷ Token 300 6 1 ∷ Stopped ∷ Token 302 7 1 ∷ Done ∷ []
+      ≡ Token 300 0 2 ∷ Skip ∷ RowMismatch ∷ Skip ∷ Token 301 4 1 ∷ Token 302 5 1 ∷ Token 300 6 1 ∷ Stopped ∷ Token 302 7 1 ∷ Done ∷ []
 
 holds-names : MapHolds lexFile found (entriesOf names-of-map entries-of-map)
 unfolding isLineEnd isBlank isOtherWhitespace isLetter isDigit isHexDigit isMetaCharacter isEscapeLetter isWhitespaceByte isAsciiWhitespace isAlwaysKept part sameBytes sameRange lookaheadIs trimStart trimEnd backslashesBehind backslashesBefore keepEscaped trimEndUnescaped charOf charLen utf8 firstOf first lastOf last repeat skip whitespaceOf lineEndOf whitespaceLen lineEndLen room insertAt append stateOf ruleOf expectedOf faultOf nextNumber addFault startsFault isFault findFault faultEnd addSpan addPair repeatAt addRepeat loop comments isComment pastComment pastLine toDeclaration pastRuleLine toRule inSection hasRoutines allBytes isNameByte isStateName isState N.findState hasName findRule posixEscapes hasEscape isCodeLetter isCode isKeptBy isKept pastEscape pastKept pastAllKept isRewritten lastWhole dropLone rewrittenEnd backspace escapeFrom escaped pieceEnd piece pieces unescaped namingAt namingOf declareState nameTo nextName stateNames isQuoted expectedTo nextExpected expectedNames isAlphanumeric declares statesFrom declarationBy declarationTo declarationOf declareAs declaration nextDeclaration endDeclarations declarations operationOf targetAt targetBy targetTo targetOf isNoName isName labelBy labelOf headingAt headingBy headingAfter headingFrom headingOf bodyTo bodyOf R.entryAt entryFrom nextEntry entries refuses recordRule sourceRule listedRule rewrittenRule ruleBody pattern ruleAs rule line nextRule rules routines rulesSection closed judge rulesFrom opening file outcome two bytes pad fieldAt fieldFrom contents listOf stateFields ruleFields entryFields expectedFields faultFields stateAt ruleAt entryAt expectedAt leaves parseCall decoded all goodState goodRule goodExpected goodContents longEnough sheetCheck mapEntryFields mapEntryOf mapEntryAt entryOf entriesOf findEntry idAt idOf allBelow distinct nameInside mapCheck nameOf isNone isUnmapped hasThatName isUnused numbers unmapped unused relaid fits linkAll linkChecked linkCall goodStart startCall findState listed live weight greatest earliest goodRow stackAfter movedBy tokenBy wins winner chooses machineStep machineRun

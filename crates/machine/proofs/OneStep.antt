@@ -17,7 +17,7 @@ use Rattle.area.specs.Records.{nthRule}
 use Rattle.link.specs.Map.{Entry, nth, findEntry, idAt, idOf}
 use Rattle.link.specs.Link.{isNamed, nameOf}
 use Rattle.run.specs.declared.Step.{Step}
-use Rattle.run.specs.declared.Step.the-variants.{IllFittingRow, Done, Stopped, Skip, Token}
+use Rattle.run.specs.declared.Step.the-variants.{RowMismatch, Done, Stopped, Skip, Token}
 use Rattle.run.specs.Run.{goodRow}
 use Rattle.run.proofs.Places.{first-low}
 use Rattle.machine.specs.Machine.{Machine, Given, Answered, answered, currentState, movedBy, tokenBy, wins, winner, chooses, machineStep}
@@ -113,4 +113,4 @@ module _ (g : Given) (usable : Usable g) (m : Machine) (b row : List ℕ) (h : R
       (λ e. by-test (λ o. Stepped g m b row o) (goodRow (length (g .contents .rules)) (g .n - m .position) row) _ _
       (λ fit. by-test (λ o. Stepped g m b row o) (eqb (winner g m row .length) 0) _ _ (λ _. stays Stopped refl tt (λ y. refl) tt)
       (λ d. wins-stepped (omega (arith, eqb-false (winner g m row .length) 0 d)) (omega (arith, winner-low g m row (g .n - m .position) fit, h .inside))))
-      (λ _. stays IllFittingRow refl tt (λ y. refl) tt))
+      (λ _. stays RowMismatch refl tt (λ y. refl) tt))

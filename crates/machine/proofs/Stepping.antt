@@ -13,7 +13,7 @@ use Rattle.area.specs.Contents.{contents, entryFormat}
 use Rattle.sheet_check.specs.SheetCheck.{all, declared}
 use Rattle.link.specs.Link.{relaid, linkRules}
 use Rattle.run.specs.declared.Best.{Best}
-use Rattle.run.specs.declared.Step.the-variants.{IllFittingRow, Done, Stopped}
+use Rattle.run.specs.declared.Step.the-variants.{RowMismatch, Done, Stopped}
 use Rattle.run.specs.Winner.{weight, best}
 use Rattle.run.specs.Run.{mostBytes, stackBytes, goodNumbers, goodRun, goodRow, current, StepLeft, choose, stepRow, stepRun}
 use Rattle.machine.specs.Machine.{Machine, Given, Answered, currentState, winner, chooses, machineStep}
@@ -77,7 +77,7 @@ module _ (g : Given) (m : Machine) (b : List ℕ) (h : Runs g m b) where
       (by-same-test (g .n) b (goodRow (length (g .contents .rules)) (g .n - m .position) row) _ _ _ _
       (λ _. ap (λ (w : Best). choose (linkRules (g .source) (g .map) (g .contents .rules)) w (runAs (g .n) m) b) (winner-as row)
       ∙ chooses-as (winner g m row) (before e))
-      (λ _. still-as (g .n) m b (h .begins) IllFittingRow))))
+      (λ _. still-as (g .n) m b (h .begins) RowMismatch))))
     where
       before : eqb (m .position) (g .n) ≡ false → m .position < g .n
       before e = omega (arith, eqb-false (m .position) (g .n) e, h .inside)

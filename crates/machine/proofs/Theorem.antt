@@ -20,7 +20,7 @@ use Rattle.link.specs.declared.LinkAnswer.the-variants.{Linked}
 use Rattle.link.specs.Map.{Entry, entriesOf}
 use Rattle.link.specs.Link.{linkRules, linkCall}
 use Rattle.run.specs.declared.Run.{Run}
-use Rattle.run.specs.declared.Begun.the-variants.{Started, PoorStart}
+use Rattle.run.specs.declared.Begun.the-variants.{Started, StartRefused}
 use Rattle.run.specs.Run.{mostBytes, stackBytes, goodStart, startCall, StartLeft, startLeft, firstRun, putState, startWord, stepCall, stepRun}
 use Rattle.machine.specs.Machine.{fresh, Given, machineRun}
 use Rattle.machine.specs.Demand.{linkedSheet, calls, runAs, stackAs, among, Demand, givenBy, DEMAND}
@@ -38,7 +38,7 @@ module _ (n : ℕ) (r : Run) (stack : List ℕ) (started : startCall n r stack .
   unfolding startCall startWord
   start-good = go (goodStart n stack) started
     where
-      go : (t : Bool) → cond t (startLeft Started (firstRun n) (putState stack 0 0)) (startLeft PoorStart r stack) .answer ≡ Started → t ≡ true
+      go : (t : Bool) → cond t (startLeft Started (firstRun n) (putState stack 0 0)) (startLeft StartRefused r stack) .answer ≡ Started → t ≡ true
       go true e = refl
       go false e = absurd (omega (arith, ap startWord e))
 

@@ -20,7 +20,7 @@ use Rattle.run.specs.declared.Run.{Run}
 use Rattle.run.specs.declared.Best.{Best}
 use Rattle.run.specs.declared.Begun.the-variants.{Started}
 use Rattle.run.specs.declared.Step.{Step}
-use Rattle.run.specs.declared.Step.the-variants.{BrokenSheet, BrokenRun, IllFittingRow, Done, Stopped, Unlinked, Skip, Token}
+use Rattle.run.specs.declared.Step.the-variants.{BrokenSheet, BrokenRun, RowMismatch, Done, Stopped, Unlinked, Skip, Token}
 use Rattle.run.specs.Winner.{live, lengthIn}
 use Rattle.run.specs.Run.{StartLeft, startCall, StepLeft, stepLeft, stepCall, current}
 use Rattle.machine.specs.Machine.{Machine, fresh, Given, Answered, currentState, winner, machineStep, machineRun}
@@ -95,7 +95,7 @@ All P (x ∷ xs) = P x × All P xs
 abbrev pub Fine : Step → Type 0
 Fine BrokenSheet = ⊥
 Fine BrokenRun = ⊥
-Fine IllFittingRow = Unit {0}
+Fine RowMismatch = Unit {0}
 Fine Done = Unit {0}
 Fine Stopped = Unit {0}
 Fine Unlinked = ⊥
@@ -106,7 +106,7 @@ Fine (Token id start bytes) = Unit {0}
 abbrev pub moving : Step → ℕ
 moving BrokenSheet = 0
 moving BrokenRun = 0
-moving IllFittingRow = 0
+moving RowMismatch = 0
 moving Done = 0
 moving Stopped = 0
 moving Unlinked = 0
@@ -126,7 +126,7 @@ among x start bytes = cond (leb start x && ltb x (start + bytes)) 1 0
 abbrev pub covering : ℕ → ℕ → ℕ → Step → ℕ
 covering x p q BrokenSheet = 0
 covering x p q BrokenRun = 0
-covering x p q IllFittingRow = 0
+covering x p q RowMismatch = 0
 covering x p q Done = 0
 covering x p q Stopped = 0
 covering x p q Unlinked = 0
@@ -152,7 +152,7 @@ pub record Wins (c : Contents) (state : ℕ) (row : List ℕ) (b : Best) : Type 
 abbrev pub IdOf : Given → Rule → Step → Type 0
 IdOf g x BrokenSheet = Unit {0}
 IdOf g x BrokenRun = Unit {0}
-IdOf g x IllFittingRow = Unit {0}
+IdOf g x RowMismatch = Unit {0}
 IdOf g x Done = Unit {0}
 IdOf g x Stopped = Unit {0}
 IdOf g x Unlinked = Unit {0}

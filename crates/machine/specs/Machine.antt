@@ -12,7 +12,7 @@ use Rattle.link.specs.Map.{Entry, idOf}
 use Rattle.link.specs.Link.{isNamed, nameOf}
 use Rattle.run.specs.declared.Best.{Best}
 use Rattle.run.specs.declared.Step.{Step}
-use Rattle.run.specs.declared.Step.the-variants.{IllFittingRow, Done, Stopped, Unlinked, Skip, Token}
+use Rattle.run.specs.declared.Step.the-variants.{RowMismatch, Done, Stopped, Unlinked, Skip, Token}
 use Rattle.run.specs.Winner.{weight, best}
 use Rattle.run.specs.Run.{goodRow}
 
@@ -89,7 +89,7 @@ unfoldable pub machineStep : Given → Machine → List ℕ → Answered
 machineStep g m row =
     cond (eqb (m .position) (g .n))
     (answered Done m)
-    (cond (goodRow (length (g .contents .rules)) (g .n - m .position) row) (chooses g (winner g m row) m) (answered IllFittingRow m))
+    (cond (goodRow (length (g .contents .rules)) (g .n - m .position) row) (chooses g (winner g m row) m) (answered RowMismatch m))
 
 -- the rows in turn
 unfoldable pub machineRun : Given → Machine → List (List ℕ) → List Answered

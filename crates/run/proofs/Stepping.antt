@@ -17,8 +17,8 @@ use Rattle.sheet_check.proofs.Judging.{contents-count}
 use Rattle.sheet_check.proofs.Checked.{contents-read, checked-long, checked-rule}
 use Rattle.run.specs.declared.Run.{Run}
 use Rattle.run.specs.declared.Best.{Best}
-use Rattle.run.specs.declared.Begun.the-variants.{Started, PoorStart}
-use Rattle.run.specs.declared.Step.the-variants.{BrokenSheet, BrokenRun, IllFittingRow, Done, Stopped}
+use Rattle.run.specs.declared.Begun.the-variants.{Started, StartRefused}
+use Rattle.run.specs.declared.Step.the-variants.{BrokenSheet, BrokenRun, RowMismatch, Done, Stopped}
 use Rattle.run.specs.Winner.{weight, best}
 use Rattle.run.specs.Run.{runOf, mostBytes, stackBytes, putState, startLeft, startCall, goodStart, goodRun, goodRow, current, stepLeft, StepLeft, wonBy, choose, stepRow, stepRun, stepCall, Readable}
 use Rattle.run.proofs.Fitting.{GoodNumbers, run-is, row-length}
@@ -27,11 +27,11 @@ use Rattle.run.proofs.Winning.{winner-inside, weights-low}
 -- ---- the start call
 
 module _ (n : ℕ) (r : Run) (s : List ℕ) where
-  pub start-long : mostBytes < n → startLeft PoorStart r s ≡ startCall n r s
+  pub start-long : mostBytes < n → startLeft StartRefused r s ≡ startCall n r s
   unfolding startCall goodStart
   start-long h = rw (lt-leb n mostBytes h)
 
-  pub start-short : length s < stackBytes n → startLeft PoorStart r s ≡ startCall n r s
+  pub start-short : length s < stackBytes n → startLeft StartRefused r s ≡ startCall n r s
   unfolding startCall goodStart
   start-short h = rw (lt-leb (stackBytes n) (length s) h, and-false)
 
@@ -124,7 +124,7 @@ module _ (l1 l2 l3 : List ℕ) (states rules entries : ℕ) (r : Run) (s row : L
     rowed : goodRow (length (contents ruleFormat l2 rules)) (r .n - r .position) row ≡ u
     rowed = ap (λ (m : ℕ). goodRow m (r .n - r .position) row) (contents-count ruleFormat l2 rules) ∙ sym fits
 
-    pub run-ill : u ≡ false → stepLeft IllFittingRow r s ≡ stepRun (contents stateFormat l1 states) (contents ruleFormat l2 rules) (contents entryFormat l3 entries) r s row
+    pub run-ill : u ≡ false → stepLeft RowMismatch r s ≡ stepRun (contents stateFormat l1 states) (contents ruleFormat l2 rules) (contents entryFormat l3 entries) r s row
     unfolding stepRun
     run-ill g = rw (ran, e, ne-eqb (r .position) (r .n) h, rowed, g)
 

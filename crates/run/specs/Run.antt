@@ -15,9 +15,9 @@ use Rattle.sheet_check.specs.Pattern.{word}
 use Rattle.run.specs.declared.Run.{Run}
 use Rattle.run.specs.declared.Best.{Best}
 use Rattle.run.specs.declared.Begun.{Begun}
-use Rattle.run.specs.declared.Begun.the-variants.{Started, PoorStart}
+use Rattle.run.specs.declared.Begun.the-variants.{Started, StartRefused}
 use Rattle.run.specs.declared.Step.{Step}
-use Rattle.run.specs.declared.Step.the-variants.{BrokenSheet, BrokenRun, IllFittingRow, Done, Stopped, Unlinked, Skip, Token}
+use Rattle.run.specs.declared.Step.the-variants.{BrokenSheet, BrokenRun, RowMismatch, Done, Stopped, Unlinked, Skip, Token}
 use Rattle.run.specs.Winner.{weight, best}
 
 -- ---- the run
@@ -59,7 +59,7 @@ goodStart n s = leb n mostBytes && leb (stackBytes n) (length s)
 
 -- accepted, only the first entry of the stack is changed; refused, nothing is
 unfoldable pub startCall : ℕ → Run → List ℕ → StartLeft
-startCall n r s = cond (goodStart n s) (startLeft Started (firstRun n) (putState s 0 0)) (startLeft PoorStart r s)
+startCall n r s = cond (goodStart n s) (startLeft Started (firstRun n) (putState s 0 0)) (startLeft StartRefused r s)
 
 -- ---- the tests of the step call
 
@@ -150,7 +150,7 @@ stepRun states rules lists r s row =
     cond (goodRun (length states) r s)
     (cond (eqb (r .position) (r .n))
     (stepLeft Done r s)
-    (cond (goodRow (length rules) (r .n - r .position) row) (stepRow states rules lists r s row) (stepLeft IllFittingRow r s)))
+    (cond (goodRow (length rules) (r .n - r .position) row) (stepRow states rules lists r s row) (stepLeft RowMismatch r s)))
     (stepLeft BrokenRun r s)
 
 -- 6 first of all
@@ -171,12 +171,12 @@ pub record Readable (area1 area2 area3 : List ℕ) (states rules entries : ℕ) 
 -- the number of each answer, and its values (01, Numbers given at the counter)
 unfoldable pub startWord : Begun → ℕ
 startWord Started = word 0 0 0 0
-startWord PoorStart = word 8 0 0 0
+startWord StartRefused = word 8 0 0 0
 
 unfoldable pub stepWord : Step → ℕ
 stepWord BrokenSheet = word 6 0 0 0
 stepWord BrokenRun = word 9 0 0 0
-stepWord IllFittingRow = word 10 0 0 0
+stepWord RowMismatch = word 10 0 0 0
 stepWord Done = word 256 0 0 0
 stepWord Stopped = word 257 0 0 0
 stepWord Unlinked = word 258 0 0 0

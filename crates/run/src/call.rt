@@ -27,10 +27,10 @@ pub fn start(n: u64, run: &mut [u16; 4], stack: &mut [u8]) -> Begun
     ensures { λ a. ⌜ startLeft a (runOf (now (run .exit))) (now (stack .exit)) ≡ startCall n (runOf (now (run .entry))) (now (stack .entry)) ⌝ }
 {
     if n > MOST_BYTES {
-        return Begun::PoorStart;
+        return Begun::StartRefused;
     }
     if stack.len() < ENTRY_WIDTH * (n as usize + 1) {
-        return Begun::PoorStart;
+        return Begun::StartRefused;
     }
     put_state(stack, 0, 0);
     *run = [n as u16, 0, 1, 0];
@@ -93,7 +93,7 @@ fn step_run(
             return step_row(area1, area2, area3, states, rules, entries, r, stack, row);
         }
         return Stepped {
-            answer: Step::IllFittingRow,
+            answer: Step::RowMismatch,
             run: r,
         };
     }

@@ -21,14 +21,14 @@ pub struct Best {
 // The answers of the start call: accepted, or refused by number 8 of 01.
 pub enum Begun {
     Started,
-    PoorStart,
+    StartRefused,
 }
 
 // The answers of the step call. A token has its id, start and length.
 pub enum Step {
     BrokenSheet,
     BrokenRun,
-    IllFittingRow,
+    RowMismatch,
     Done,
     Stopped,
     Unlinked,

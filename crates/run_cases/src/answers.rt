@@ -56,7 +56,7 @@ pub fn say_link(answer: LinkAnswer) {
 pub fn say_start(answer: Begun) {
     match answer {
         Begun::Started => say(b" started"),
-        Begun::PoorStart => say_refused(8),
+        Begun::StartRefused => say_refused(8),
     }
 }
 
@@ -64,7 +64,7 @@ pub fn say_step(answer: Step) {
     match answer {
         Step::BrokenSheet => say_refused(6),
         Step::BrokenRun => say_refused(9),
-        Step::IllFittingRow => say_refused(10),
+        Step::RowMismatch => say_refused(10),
         Step::Done => say(b" done"),
         Step::Stopped => say(b" stopped"),
         Step::Unlinked => say(b" unlinked"),

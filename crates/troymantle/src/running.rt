@@ -13,7 +13,7 @@ fn start_word(answer: Begun) -> u64
 {
     match answer {
         Begun::Started => 0,
-        Begun::PoorStart => 8,
+        Begun::StartRefused => 8,
     }
 }
 
@@ -23,7 +23,7 @@ fn step_word(answer: Step) -> u64
     match answer {
         Step::BrokenSheet => 6,
         Step::BrokenRun => 9,
-        Step::IllFittingRow => 10,
+        Step::RowMismatch => 10,
         Step::Done => 256,
         Step::Stopped => 257,
         Step::Unlinked => 258,
