@@ -10,8 +10,8 @@ pub const SOURCE_LIMIT: usize = 65_535;
 
 pub const ACCEPTED: u64 = 0;
 pub const LONG_FILE: u64 = 1;
-pub const STRAY_FLAG: u64 = 2;
-pub const NOT_TEXT: u64 = 3;
+pub const UNKNOWN_FLAG: u64 = 2;
+pub const INVALID_UTF8: u64 = 3;
 pub const AREA_FULL: u64 = 4;
 pub const FAULTY_FILE: u64 = 5;
 
@@ -46,7 +46,7 @@ impl Answer {
     }
 }
 
-/// The word of a number and the value that goes along with it.
+/// The word of a number and the value that goes along with it, which may be such a word itself.
 pub fn word(number: u64, value: usize) -> u64 {
     number + 65_536 * value as u64
 }

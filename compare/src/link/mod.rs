@@ -5,6 +5,7 @@ mod broken;
 mod cases;
 mod model;
 
+use crate::case;
 use crate::sheet::{Rule, Sheet};
 use crate::show;
 use cases::Linking;
@@ -34,7 +35,7 @@ pub const AREA_FULL: u64 = 4;
 
 /// The word of a number and its two values.
 pub fn word(number: u64, a: usize, b: usize) -> u64 {
-    number + 65_536 * (a as u64 + 65_536 * b as u64)
+    case::word(number, case::word(a as u64, b) as usize)
 }
 
 pub fn run(seed: u64, first: u64, cases: u64) -> Result<(), String> {

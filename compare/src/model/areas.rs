@@ -2,8 +2,8 @@
 
 use super::{Kind, Reading, Rule, Span, State, Write, walk};
 use crate::case::{
-    ACCEPTED, AREA_FULL, AREAS, Answer, Case, FAULTY_FILE, LONG_FILE, NOT_TEXT, RECORD_LIMITS, RECORD_SIZES,
-    SOURCE_LIMIT, STRAY_FLAG, word,
+    ACCEPTED, AREA_FULL, AREAS, Answer, Case, FAULTY_FILE, LONG_FILE, INVALID_UTF8, RECORD_LIMITS, RECORD_SIZES,
+    SOURCE_LIMIT, UNKNOWN_FLAG, word,
 };
 use crate::misreadings::Misreading as M;
 use std::borrow::Cow;
@@ -57,8 +57,8 @@ fn refusal(case: &Case, reading: Reading) -> Result<Cow<'_, str>, u64> {
     let text = text_of(&case.source, reading);
     let mut tests = [
         (case.source.len() > limit, LONG_FILE),
-        (flags > 3 && !reading.has(M::FlagsMasked), STRAY_FLAG),
-        (text.is_none(), NOT_TEXT),
+        (flags > 3 && !reading.has(M::FlagsMasked), UNKNOWN_FLAG),
+        (text.is_none(), INVALID_UTF8),
     ];
     if reading.has(M::StrayFlagBeforeLongFile) {
         tests.swap(0, 1);
@@ -69,7 +69,7 @@ fn refusal(case: &Case, reading: Reading) -> Result<Cow<'_, str>, u64> {
     match (tests.iter().find(|(holds, _)| *holds), text) {
         (Some((_, number)), _) => Err(*number),
         (None, Some(text)) => Ok(text),
-        (None, None) => Err(NOT_TEXT),
+        (None, None) => Err(INVALID_UTF8),
     }
 }
 

@@ -1,6 +1,6 @@
 //! Starts and steps at every edge of 01's conditions, with the answers that 01 gives them.
 
-use super::{BROKEN_RUN, DONE, ILL_FITTING_ROW, POOR_START, Run, SKIP, STOPPED, UNLINKED, start, step, token};
+use super::{BROKEN_RUN, DONE, ROW_MISMATCH, START_REFUSED, Run, SKIP, STOPPED, UNLINKED, start, step, token};
 use crate::broken_sheets::{self, cut, records, set};
 use crate::sheet::{BROKEN_SHEET, Sheet};
 
@@ -13,19 +13,19 @@ pub fn check() -> Result<usize, String> {
 fn starts() -> Result<usize, String> {
     let tried: &[(u64, usize, u64)] = &[
         (0, 2, 0),
-        (0, 1, POOR_START),
-        (0, 0, POOR_START),
+        (0, 1, START_REFUSED),
+        (0, 0, START_REFUSED),
         (1, 4, 0),
-        (1, 3, POOR_START),
+        (1, 3, START_REFUSED),
         (4_096, 8_194, 0),
-        (4_096, 8_193, POOR_START),
-        (4_097, 8_196, POOR_START),
-        (4_097, 100_000, POOR_START),
-        (65_536, 200_000, POOR_START),
-        (1 << 32, 100, POOR_START),
-        (1 << 63, 100, POOR_START),
-        ((1 << 63) - 1, 100, POOR_START),
-        (u64::MAX, 100, POOR_START),
+        (4_096, 8_193, START_REFUSED),
+        (4_097, 8_196, START_REFUSED),
+        (4_097, 100_000, START_REFUSED),
+        (65_536, 200_000, START_REFUSED),
+        (1 << 32, 100, START_REFUSED),
+        (1 << 63, 100, START_REFUSED),
+        ((1 << 63) - 1, 100, START_REFUSED),
+        (u64::MAX, 100, START_REFUSED),
     ];
     for (n, bytes, number) in tried {
         let before = Run { numbers: [9, 99, 0, 65_535], stack: vec![0xa5; *bytes] };
@@ -142,7 +142,7 @@ fn rows() -> Result<usize, String> {
         ("a length whose sum with the position passes 65,535", row(&[65_533, 0])),
     ];
     for (what, row) in refused {
-        expect(what, step(&good_sheet(), &good(), row)?, (ILL_FITTING_ROW, good()))?;
+        expect(what, step(&good_sheet(), &good(), row)?, (ROW_MISMATCH, good()))?;
     }
     let mut after = good();
     after.numbers[1] = 10;
@@ -157,7 +157,7 @@ fn rows() -> Result<usize, String> {
     let mut empty = good_sheet();
     empty.counts[1] = 0;
     expect("no rules", step(&empty, &good(), &[])?, (STOPPED, good()))?;
-    expect("no rules and a row", step(&empty, &good(), &row(&[0]))?, (ILL_FITTING_ROW, good()))?;
+    expect("no rules and a row", step(&empty, &good(), &row(&[0]))?, (ROW_MISMATCH, good()))?;
     Ok(refused.len() + 7)
 }
 

@@ -1,7 +1,7 @@
 //! The run machine of 01: it is given the file, the map and the rows, and reads neither sheet nor run.
 
 use super::misreadings::Misreading as M;
-use super::{DONE, ILL_FITTING_ROW, Run, SKIP, STOPPED, UNLINKED, token};
+use super::{DONE, ROW_MISMATCH, Run, SKIP, STOPPED, UNLINKED, token};
 use crate::model::Records;
 
 #[derive(Clone)]
@@ -50,7 +50,7 @@ impl Machine {
         let lengths: Vec<usize> =
             row.chunks_exact(2).map(|bytes| u16::from_le_bytes([bytes[0], bytes[1]]) as usize).collect();
         if !self.fits(row.len(), &lengths) {
-            return ILL_FITTING_ROW;
+            return ROW_MISMATCH;
         }
         if self.position == self.n {
             return DONE;

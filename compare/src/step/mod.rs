@@ -7,7 +7,7 @@ mod machine;
 mod misreadings;
 mod model;
 
-use crate::case::{ACCEPTED, FLAG_COMMENTS, FLAG_POSIX_ESCAPES};
+use crate::case::{ACCEPTED, FLAG_COMMENTS, FLAG_POSIX_ESCAPES, word};
 use crate::link;
 use crate::model::{self as parse_model, Reading};
 use crate::oracle;
@@ -44,9 +44,9 @@ impl Run {
     }
 }
 
-const POOR_START: u64 = 8;
+const START_REFUSED: u64 = 8;
 const BROKEN_RUN: u64 = 9;
-const ILL_FITTING_ROW: u64 = 10;
+const ROW_MISMATCH: u64 = 10;
 const DONE: u64 = 256;
 const STOPPED: u64 = 257;
 const UNLINKED: u64 = 258;
@@ -55,7 +55,7 @@ const TOKEN: u64 = 260;
 
 /// The word of a token.
 fn token(id: u16, start: u16, length: u16) -> u64 {
-    TOKEN + 65_536 * (id as u64 + 65_536 * (start as u64 + 65_536 * length as u64))
+    word(TOKEN, word(id as u64, word(start as u64, length as usize) as usize) as usize)
 }
 
 pub fn run(seed: u64, first: u64, cases: u64) -> Result<(), String> {

@@ -1,11 +1,11 @@
 //! The start call and the step call by 01's words, on the bytes that they take.
 
-use super::{BROKEN_RUN, DONE, ILL_FITTING_ROW, POOR_START, Run, SKIP, STOPPED, UNLINKED, token};
+use super::{BROKEN_RUN, DONE, ROW_MISMATCH, START_REFUSED, Run, SKIP, STOPPED, UNLINKED, token};
 use crate::sheet::{BROKEN_SHEET, Rule, Sheet, field, fields};
 
 pub fn start(n: u64, run: &Run) -> (u64, Run) {
     if n > 4_096 || (run.stack.len() as u64) < 2 * (n + 1) {
-        return (POOR_START, run.clone());
+        return (START_REFUSED, run.clone());
     }
     let mut stack = run.stack.clone();
     stack[..2].fill(0);
@@ -27,7 +27,7 @@ pub fn step(sheet: &Sheet, run: &Run, row: &[u8]) -> (u64, Run) {
     let rules = sheet.rules();
     let lengths: Vec<u16> = row.chunks_exact(2).map(|bytes| field(bytes, 0)).collect();
     if row.len() != 2 * rules.len() || lengths.iter().any(|length| *length > n - position) {
-        return unchanged(ILL_FITTING_ROW);
+        return unchanged(ROW_MISMATCH);
     }
     let state = run.current();
     let mut winner: Option<(&Rule, u16)> = None;

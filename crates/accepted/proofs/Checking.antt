@@ -15,7 +15,8 @@ use Rattle.area.specs.declared.Expected.{Expected}
 use Rattle.area.specs.Records.{stateOf, ruleOf, expectedOf, nthRule}
 use Rattle.parse.specs.Parse.{Contents, Caps, outcome, accepted}
 use Rattle.sheet_check.specs.SheetCheck.{all, declared, goodState, goodRule, goodExpected, goodContents}
-use Rattle.accepted.specs.Accepted.{StateHolds, ExpectedHolds, EntryHolds, RuleHolds, ContentsHold, ContentsFit, nameOf, isByte}
+use Rattle.names.specs.Names.{nameOf}
+use Rattle.accepted.specs.Accepted.{StateHolds, ExpectedHolds, EntryHolds, RuleHolds, ContentsHold, ContentsFit, isByte}
 use Rattle.accepted.proofs.Elements.{all-pass}
 use Rattle.accepted.proofs.Accepting.{accepted-holds}
 

@@ -23,7 +23,7 @@ use Rattle.area.specs.declared.State.{State}
 use Rattle.area.specs.declared.Rule.{Rule}
 use Rattle.area.specs.Records.{nthRule}
 use Rattle.fault.specs.Faults.{UnknownStartState, InvalidStartState}
-use Rattle.names.specs.Names.{findState, hasName, findRule}
+use Rattle.names.specs.Names.{findState, hasName, findRule, nameOf}
 use Rattle.rules.specs.declared.Target.{Target}
 use Rattle.rules.specs.declared.Target.the-variants.{To, Wrong}
 use Rattle.rules.specs.declared.Label.{Label}
@@ -34,7 +34,6 @@ use Rattle.rules.specs.declared.Heading.the-variants.{Faulty, Repeated, Fresh}
 use Rattle.rules.specs.Heading.{operationOf, targetAt, targetBy, targetTo, targetOf, labelOf, headUnnamed, headNamed, headingAt, headingBy, headingAfter, headingFrom, headingOf}
 use Rattle.rules.proofs.Targets.{target-from, target-to}
 use Rattle.rules.proofs.Heads.{name-long, last-inside}
-use Rattle.accepted.specs.Accepted.{nameOf}
 
 -- ---- a search that finds nothing
 
@@ -58,7 +57,7 @@ pub record Unused (s : List ℕ) (rs : List Rule) (named from len : ℕ) : Type 
 
 -- a rule that has not the name has other bytes
 other-name : (s : List ℕ) (a e : ℕ) (x : Rule) → hasName s a e x ≡ false → x .named ≡ 1 → nameOf s x ≡ part s a e → ⊥
-unfolding hasName sameRange
+unfolding hasName sameRange nameOf
 other-name s a e x h n q = true≢false (sym same ∙ h)
   where
     same : eqb (x .named) 1 && sameBytes (part s a e) (nameOf s x) ≡ true

@@ -23,7 +23,7 @@ use Rattle.area.specs.Records.{nthRule, ruleOf}
 use Rattle.area.specs.Contents.{append, ruleFormat, entryFormat, textFormat}
 use Rattle.fault.specs.Step.{Out, go, bad, full, onto, written}
 use Rattle.fault.specs.Faults.{addFault, addRepeat, UnknownStartState, DuplicateName, RegexError, RoutinesNotSupported, VerbatimNotSupported}
-use Rattle.names.specs.Names.{findState}
+use Rattle.names.specs.Names.{findState, nameOf}
 use Rattle.escape.specs.Escape.{unescaped}
 use Rattle.section.specs.Section.{toRule, inSection, hasRoutines}
 use Rattle.rules.specs.declared.Head.{Head}
@@ -54,6 +54,7 @@ module _ (s : List ℕ) (rs : List Rule) (x : Rule) where
   newest = getD-append-seam rs x [] (ruleOf (λ _. 0))
 
   differ-more : NamesDiffer s rs → Unused s rs (x .named) (x .«name_from») (x .«name_length») → NamesDiffer s (rs ++ (x ∷ []))
+  unfolding nameOf
   differ-more d u = record {
     differ = λ i j h l. place-cases x rs j l (λ g. rw (earlier i (omega arith), earlier j g) (d .differ i j h g)) (λ q. rw (earlier i (omega arith), q, newest) (u .unused i (omega arith)));
   }

@@ -6,7 +6,7 @@ use mathlib.Core.Bool.{Bool, true, cond}
 use mathlib.Core.List.{List, []}
 use lib.Dec.{eqb, ltb}
 use lib.ListN.{length, getD}
-use Rattle.text.specs.Range.{part}
+use Rattle.names.specs.Names.{nameOf}
 use Rattle.area.specs.declared.State.{State}
 use Rattle.area.specs.declared.Rule.{Rule}
 use Rattle.area.specs.declared.Expected.{Expected}
@@ -61,10 +61,6 @@ pub record RuleHolds (n states entries rewritten j : ℕ) (x : Rule) : Type 0 wh
   pub list : x .«list_from» + x .«list_count» ≤ entries
   pub operation : x .operation ≤ 3
   pub target : x .target < states
-
--- the bytes of a rule's name
-abbrev pub nameOf : List ℕ → Rule → List ℕ
-nameOf s x = part s (x .«name_from») (x .«name_from» + x .«name_length»)
 
 -- of two rules that are named, the later has another name (01, Rules: a repeated name drops the rule)
 pub record NamesDiffer (s : List ℕ) (rs : List Rule) : Type 0 where

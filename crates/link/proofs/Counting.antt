@@ -27,7 +27,8 @@ use Rattle.sheet_check.specs.SheetCheck.{all}
 use Rattle.sheet_check.proofs.Judging.{contents-count, all-none, all-next, all-read}
 use Rattle.sheet_check.proofs.Checked.{contents-read, all-at}
 use Rattle.link.specs.Map.{entryCount, Entry, entriesOf, nth, findEntry, idAt, idOf}
-use Rattle.link.specs.Link.{nameOf, numbers, isNone, isUnmapped, isUnlinked, hasThatName, isUnused, unmapped, unlinked, unused, fits}
+use Rattle.names.specs.Names.{nameOf}
+use Rattle.link.specs.Link.{numbers, isNone, isUnmapped, isUnlinked, hasThatName, isUnused, unmapped, unlinked, unused, fits}
 use Rattle.link.proofs.Maps.{entries-count}
 
 -- ---- what is asked of a rule, and of an entry

@@ -21,7 +21,8 @@ use Rattle.sheet_check.specs.SheetCheck.{SheetBytes, sheetBytes, count, decoded
 use Rattle.sheet_check.proofs.Checked.{good-rule, good-contents, checked-long, rules-count}
 use Rattle.link.specs.declared.LinkAnswer.the-variants.{Linked, BrokenSheet, BrokenMap, AreaFull}
 use Rattle.link.specs.Map.{Entry, entriesOf, nth, idAt, idOf, distinct, mapCheck}
-use Rattle.link.specs.Link.{isNamed, nameOf, withId, withFound, linkRule, linkRules, linkLeft, relaid, fits, unmapped, unused, linkAll, linkChecked, linkCall}
+use Rattle.names.specs.Names.{nameOf}
+use Rattle.link.specs.Link.{isNamed, withId, withFound, linkRule, linkRules, linkLeft, relaid, fits, unmapped, unused, linkAll, linkChecked, linkCall}
 use Rattle.link.proofs.Maps.{entry-first}
 use Rattle.link.proofs.Outcomes.{link-count, link-at, rules-read-back}
 

@@ -26,7 +26,8 @@ use Rattle.area.proofs.Contents.{Sound, rule-sound}
 use Rattle.sheet_check.proofs.Judging.{contents-count}
 use Rattle.link.specs.declared.MapEntry.{MapEntry}
 use Rattle.link.specs.Map.{mapEntryAt, entryCount, Entry, entryOf, entriesOf, nth, findEntry, idAt, idOf}
-use Rattle.link.specs.Link.{nameOf, withId, withFound, linkRule, linkRules, relaid}
+use Rattle.names.specs.Names.{nameOf}
+use Rattle.link.specs.Link.{withId, withFound, linkRule, linkRules, relaid}
 use Rattle.link.proofs.Maps.{entries-count, entries-at}
 
 -- ---- a rule

@@ -25,7 +25,8 @@ use Rattle.sheet_check.proofs.Checked.{checked-long, checked-counts}
 use Rattle.link.specs.declared.LinkAnswer.{LinkAnswer}
 use Rattle.link.specs.declared.LinkAnswer.the-variants.{Linked, BrokenSheet, BrokenMap, AreaFull}
 use Rattle.link.specs.Map.{mapWidth, mostEntries, mapFormat, entryCount, Entry, entriesOf, idOf, nameInside, distinct, mapCheck}
-use Rattle.link.specs.Link.{isNamed, nameOf, withId, withFound, linkRule, linkRules, numbers, isNone, isUnmapped, isUnlinked, unmapped, unlinked, unused, LinkLeft, linkLeft, relaid, fits, linkAll, linkChecked, linkCall}
+use Rattle.names.specs.Names.{nameOf}
+use Rattle.link.specs.Link.{isNamed, withId, withFound, linkRule, linkRules, numbers, isNone, isUnmapped, isUnlinked, unmapped, unlinked, unused, LinkLeft, linkLeft, relaid, fits, linkAll, linkChecked, linkCall}
 use Rattle.link.proofs.LinkedRules.{Local, rule-local}
 
 -- ---- records laid over the front of an area are read back

@@ -26,7 +26,8 @@ use Rattle.sheet_check.proofs.Judging.{contents-count}
 use Rattle.sheet_check.proofs.Checked.{contents-read}
 use Rattle.link.specs.declared.MapEntry.{MapEntry}
 use Rattle.link.specs.Map.{mapEntryAt, entryCount, Entry, entriesOf, nth, findEntry, allBelow, distinct, mapCheck}
-use Rattle.link.specs.Link.{isNamed, nameOf, hasThatName, isUnused}
+use Rattle.names.specs.Names.{nameOf}
+use Rattle.link.specs.Link.{isNamed, hasThatName, isUnused}
 use Rattle.link.specs.Index.{slotCount, slotFrom, slotOf, Slot, Slots, EntrySlots, RuleSlots, EntryIndex, EntriesIndexed, MapChecked}
 use Rattle.link.proofs.Maps.{entries-count, name-at, has, entry-missing, entry-first, distinct-read}
 

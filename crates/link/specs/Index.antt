@@ -8,8 +8,10 @@ use lib.ListN.{length, getD}
 use Rattle.area.specs.Records.{nthRule}
 use Rattle.area.specs.Contents.{contents, ruleFormat}
 use Rattle.link.specs.Map.{entryCount, entriesOf, nth, distinct, mapCheck}
-use Rattle.link.specs.Link.{isNamed, nameOf}
+use Rattle.names.specs.Names.{nameOf}
+use Rattle.link.specs.Link.{isNamed}
 
+-- how many slots there are
 abbrev pub slotCount : ℕ
 slotCount = 32768
 
@@ -22,6 +24,7 @@ slotFrom h (x ∷ xs) = slotFrom ((h * 179 + x) % slotCount) xs
 unfoldable pub slotOf : List ℕ → ℕ
 slotOf name = slotFrom 0 name
 
+-- r is the slot of the name, and one of the slots
 pub record Slot (name : List ℕ) (r : ℕ) : Type 0 where
   pub is : r ≡ slotOf name
   pub small : r < slotCount

@@ -5,12 +5,13 @@ use mathlib.Core.List.{List, [], _∷_, _++_, map}
 use mathlib.Core.Option.{Option, none, some}
 use lib.Dec.{eqb, leb}
 use lib.ListN.{length, drop}
-use Rattle.text.specs.Range.{part, sameBytes}
+use Rattle.text.specs.Range.{sameBytes}
 use Rattle.area.specs.declared.Rule.{Rule}
 use Rattle.area.specs.Bytes.{bytes}
 use Rattle.area.specs.Records.{entryWidth, nthRule}
 use Rattle.area.specs.Contents.{Format, ruleFormat, entryFormat}
-use Rattle.parse.specs.Parse.{laid}
+use Rattle.names.specs.Names.{nameOf}
+use Rattle.parse.specs.Parse.{laid, word}
 use Rattle.sheet_check.specs.SheetCheck.{SheetBytes, decoded, sheetCheck, all}
 use Rattle.link.specs.declared.LinkAnswer.{LinkAnswer}
 use Rattle.link.specs.declared.LinkAnswer.the-variants.{Linked, BrokenSheet, BrokenMap, AreaFull}
@@ -20,10 +21,6 @@ use Rattle.link.specs.Map.{Entry, entriesOf, nth, idOf, mapCheck}
 
 abbrev pub isNamed : Rule → Bool
 isNamed x = eqb (x .named) 1
-
--- the bytes of a rule's name
-unfoldable pub nameOf : List ℕ → Rule → List ℕ
-nameOf s x = part s (x .«name_from») (x .«name_from» + x .«name_length»)
 
 -- the same rule with another mark and id
 unfoldable pub withId : ℕ → ℕ → Rule → Rule
@@ -138,12 +135,9 @@ linkCall b names entries x7 x8 =
     (linkLeft BrokenMap (b .area2) x7 x8))
     (linkLeft BrokenSheet (b .area2) x7 x8)
 
--- the number and the values of each answer, as one word of two-byte fields (01, Numbers given at the counter)
-abbrev pub word : ℕ → ℕ → ℕ → ℕ
-word number a b = number + 65536 * a + 4294967296 * b
-
+-- the number and the values of each answer, as one word (01, Numbers given at the counter)
 unfoldable pub wordOf : LinkAnswer → ℕ
-wordOf (Linked a b) = word 0 a b
-wordOf BrokenSheet = word 6 0 0
-wordOf BrokenMap = word 7 0 0
-wordOf (AreaFull n) = word 4 n 0
+wordOf (Linked a b) = word 0 a b 0
+wordOf BrokenSheet = word 6 0 0 0
+wordOf BrokenMap = word 7 0 0 0
+wordOf (AreaFull n) = word 4 n 0 0

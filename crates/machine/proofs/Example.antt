@@ -20,7 +20,7 @@ use Rattle.fault.specs.Faults.{nextNumber, addFault, startsFault, isFault, find
 use Rattle.fault.specs.Step.{loop}
 use Rattle.section.specs.Section.{comments, isComment, pastComment, pastLine, toDeclaration, pastRuleLine, toRule, inSection, hasRoutines}
 use Rattle.names.specs.Names as N
-use Rattle.names.specs.Names.{allBytes, isNameByte, isStateName, isState, hasName, findRule}
+use Rattle.names.specs.Names.{allBytes, isNameByte, isStateName, isState, hasName, findRule, nameOf}
 use Rattle.escape.specs.Escape.{posixEscapes, hasEscape, isCodeLetter, isCode, isKeptBy, isKept, pastEscape, pastKept, pastAllKept, isRewritten, lastWhole, dropLone, rewrittenEnd, backspace, escapeFrom, escaped, pieceEnd, piece, pieces, unescaped}
 use Rattle.declarations.specs.Declarations.{namingAt, namingOf, declareState, nameTo, nextName, stateNames, isQuoted, expectedTo, nextExpected, expectedNames, isAlphanumeric, declares, statesFrom, declarationBy, declarationTo, declarationOf, declareAs, declaration, nextDeclaration, endDeclarations, declarations}
 use Rattle.rules.specs.Heading.{operationOf, targetAt, targetBy, targetTo, targetOf, isNoName, isName, labelBy, labelOf, headingAt, headingBy, headingAfter, headingFrom, headingOf, bodyTo, bodyOf}
@@ -31,7 +31,7 @@ use Rattle.sheet_check.specs.SheetCheck.{SheetBytes, decoded, all, goodState, g
 use Rattle.accepted.specs.Accepted.{sheetLeftBy}
 use Rattle.link.specs.declared.LinkAnswer.the-variants.{Linked}
 use Rattle.link.specs.Map.{nth, mapEntryFields, mapEntryOf, mapEntryAt, entryOf, entriesOf, findEntry, idAt, idOf, allBelow, distinct, nameInside, mapCheck}
-use Rattle.link.specs.Link.{isNamed, nameOf, isNone, isUnmapped, hasThatName, isUnused, numbers, unmapped, unused, relaid, fits, linkAll, linkChecked, linkCall}
+use Rattle.link.specs.Link.{isNamed, isNone, isUnmapped, hasThatName, isUnused, numbers, unmapped, unused, relaid, fits, linkAll, linkChecked, linkCall}
 use Rattle.run.specs.declared.Run.{Run}
 use Rattle.run.specs.declared.Begun.the-variants.{Started}
 use Rattle.run.specs.declared.Step.{Step}

@@ -15,7 +15,8 @@ use Rattle.text.proofs.Ranges.{same-self}
 use Rattle.text.specs.Range.{sameBytes}
 use Rattle.area.specs.Records.{nthRule}
 use Rattle.link.specs.Map.{Entry, nth, findEntry, idAt, idOf}
-use Rattle.link.specs.Link.{isNamed, nameOf}
+use Rattle.names.specs.Names.{nameOf}
+use Rattle.link.specs.Link.{isNamed}
 use Rattle.run.specs.declared.Step.{Step}
 use Rattle.run.specs.declared.Step.the-variants.{RowMismatch, Done, Stopped, Skip, Token}
 use Rattle.run.specs.Run.{goodRow}

@@ -8,14 +8,17 @@ use Prim.Native.Nat.{ℕ, suc, _+_, _*_, _-_, _≤_}
 use native.Mathlib.Omega.{arith}
 use borrow.Author.Tests.{ne-eqb}
 use lib.Dec.{eqb}
-use lib.ListN.{length, take, length-append, List·getD-map, length-map}
+use lib.ListN.{length, take, length-append}
 use lib.Seq.{length-take-le}
 use Rattle.area.specs.declared.State.{State}
 use Rattle.area.specs.declared.Rule.{Rule}
-use Rattle.area.specs.Records.{entryWidth, nthRule, ruleOf}
+use Rattle.area.specs.Records.{entryWidth, nthRule}
 use Rattle.area.specs.Contents.{entryFormat}
 use Rattle.link.specs.Map.{Entry, idOf}
-use Rattle.link.specs.Link.{relaid, isNamed, nameOf, withId, withFound, linkRule, linkRules}
+use Rattle.names.specs.Names.{nameOf}
+use Rattle.link.specs.Link.{relaid, isNamed, withId, withFound, linkRule, linkRules}
+use Rattle.link.proofs.LinkLaws.{link-changes-ids}
+use Rattle.link.proofs.Outcomes.{link-at}
 use Rattle.run.specs.declared.Step.{Step}
 use Rattle.run.specs.declared.Step.the-variants.{Unlinked, Skip, Token}
 use Rattle.run.specs.Winner.{listed, live, lengthIn, weight}
@@ -63,34 +66,15 @@ operated-as x st b h l w = go (eqb (x .operation) 1) (eqb (x .operation) 2) (eqb
 -- ---- a rule that is linked
 
 module _ (s : List ℕ) (es : List Entry) where
-  -- another mark and id, and nothing else
-  linked-with : (x : Rule) → (has : ℕ) × (i : ℕ) × (linkRule s es x ≡ withId has i x)
-  unfolding linkRule withFound withId
-  linked-with x = go (isNamed x) (idOf es (nameOf s x))
-    where
-      go : (t : Bool) (o : Option ℕ) → (has : ℕ) × (i : ℕ) × (cond t (withFound o x) x ≡ withId has i x)
-      go true (some v) = (1, v, refl)
-      go true none = (0, 0, refl)
-      go false o = (x .«has_id», x .id, refl)
-
-  pub linked-nth : (xs : List Rule) (k : ℕ) → nthRule (linkRules s es xs) k ≡ linkRule s es (nthRule xs k)
-  unfolding linkRules linkRule ruleOf
-  linked-nth xs k = List·getD-map (linkRule s es) xs k (ruleOf (λ _. 0))
-
   linked-live : (states : List State) (lists : List ℕ) (state : ℕ) (x : Rule) → live states lists state (linkRule s es x) ≡ live states lists state x
   unfolding live listed withId
-  linked-live states lists state x = ap (live states lists state) (linked-with x .2)
+  linked-live states lists state x = ap (live states lists state) (link-changes-ids s es x)
 
   pub linked-weight : (states : List State) (xs : List Rule) (lists : List ℕ) (state : ℕ) (row : List ℕ)
       → weight states (linkRules s es xs) lists state row ≡ weight states xs lists state row
   unfolding weight
   linked-weight states xs lists state row =
-      λ i k. cond ((ap (live states lists state) (linked-nth xs k) ∙ linked-live states lists state (nthRule xs k)) i) (lengthIn row k) 0
-
-  -- rule k of the linked rules has the same place in the list
-  pub linked-count : (xs : List Rule) → length (linkRules s es xs) ≡ length xs
-  unfolding linkRules
-  linked-count xs = length-map xs (linkRule s es)
+      λ i k. cond ((ap (live states lists state) (link-at s es xs k) ∙ linked-live states lists state (nthRule xs k)) i) (lengthIn row k) 0
 
 -- ---- a call that does not move, and a winner
 

@@ -12,6 +12,7 @@ use Rattle.area.specs.Records.{entryAt, nthRule}
 use Rattle.area.specs.Contents.{contents, entryFormat}
 use Rattle.sheet_check.specs.SheetCheck.{all, declared}
 use Rattle.link.specs.Link.{relaid, linkRules}
+use Rattle.link.proofs.Outcomes.{link-count, link-at}
 use Rattle.run.specs.declared.Best.{Best}
 use Rattle.run.specs.declared.Step.the-variants.{RowMismatch, Done, Stopped}
 use Rattle.run.specs.Winner.{weight, best}
@@ -19,7 +20,7 @@ use Rattle.run.specs.Run.{mostBytes, stackBytes, goodNumbers, goodRun, goodRow,
 use Rattle.machine.specs.Machine.{Machine, Given, Answered, currentState, winner, chooses, machineStep}
 use Rattle.machine.specs.Demand.{runAs, leftAs}
 use Rattle.machine.proofs.Stacks.{Begins, laid-again, laid-read, laid-contents}
-use Rattle.machine.proofs.Operations.{linked-weight, linked-nth, linked-count, still-as, won-as}
+use Rattle.machine.proofs.Operations.{linked-weight, still-as, won-as}
 
 -- a test that call and machine share
 by-same-test : (n : ℕ) (b : List ℕ) (t : Bool) (x y : StepLeft) (p q : Answered) → (t ≡ true → x ≡ leftAs n b p) → (t ≡ false → y ≡ leftAs n b q)
@@ -63,7 +64,7 @@ module _ (g : Given) (m : Machine) (b : List ℕ) (h : Runs g m b) where
   unfolding choose chooses
   chooses-as w l =
       by-same-test (g .n) b (eqb (w .length) 0) _ _ _ _ (λ _. still-as (g .n) m b (h .begins) Stopped)
-      (λ _. rw (linked-nth (g .source) (g .map) (g .contents .rules) (w .rule))
+      (λ _. rw (link-at (g .source) (g .map) (g .contents .rules) (w .rule))
       (won-as (g .n) m b (h .begins) (h .some) (omega (arith, h .depth, h .long)) g (nthRule (g .contents .rules) (w .rule)) (w .length)))
 
   pub step-as : (row : List ℕ)
@@ -73,7 +74,7 @@ module _ (g : Given) (m : Machine) (b : List ℕ) (h : Runs g m b) where
   step-as row =
       rw run-good
       (by-same-test (g .n) b (eqb (m .position) (g .n)) _ _ _ _ (λ _. still-as (g .n) m b (h .begins) Done)
-      (λ e. rw (linked-count (g .source) (g .map) (g .contents .rules))
+      (λ e. rw (link-count (g .source) (g .map) (g .contents .rules))
       (by-same-test (g .n) b (goodRow (length (g .contents .rules)) (g .n - m .position) row) _ _ _ _
       (λ _. ap (λ (w : Best). choose (linkRules (g .source) (g .map) (g .contents .rules)) w (runAs (g .n) m) b) (winner-as row)
       ∙ chooses-as (winner g m row) (before e))

@@ -15,7 +15,8 @@ use Rattle.sheet_check.specs.SheetCheck.{SheetBytes, sheetBytes}
 use Rattle.accepted.specs.Accepted.{sheetLeftBy}
 use Rattle.link.specs.declared.LinkAnswer.the-variants.{Linked}
 use Rattle.link.specs.Map.{Entry, entriesOf, nth, idOf}
-use Rattle.link.specs.Link.{LinkLeft, linkCall, relaid, isNamed, nameOf}
+use Rattle.names.specs.Names.{nameOf}
+use Rattle.link.specs.Link.{LinkLeft, linkCall, relaid, isNamed}
 use Rattle.run.specs.declared.Run.{Run}
 use Rattle.run.specs.declared.Best.{Best}
 use Rattle.run.specs.declared.Begun.the-variants.{Started}

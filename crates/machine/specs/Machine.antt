@@ -9,7 +9,8 @@ use Rattle.area.specs.declared.Rule.{Rule}
 use Rattle.area.specs.Records.{nthRule, nthEntry}
 use Rattle.parse.specs.Parse.{Contents}
 use Rattle.link.specs.Map.{Entry, idOf}
-use Rattle.link.specs.Link.{isNamed, nameOf}
+use Rattle.names.specs.Names.{nameOf}
+use Rattle.link.specs.Link.{isNamed}
 use Rattle.run.specs.declared.Best.{Best}
 use Rattle.run.specs.declared.Step.{Step}
 use Rattle.run.specs.declared.Step.the-variants.{RowMismatch, Done, Stopped, Unlinked, Skip, Token}

@@ -7,7 +7,7 @@ use lib.ListN.{length}
 use Rattle.text.specs.Class.{among, isLetter, isDigit}
 use Rattle.text.specs.Walk.{first}
 use Rattle.text.specs.Whitespace.{byte}
-use Rattle.text.specs.Range.{sameRange}
+use Rattle.text.specs.Range.{part, sameRange}
 use Rattle.area.specs.declared.State.{State}
 use Rattle.area.specs.declared.Rule.{Rule}
 use Rattle.area.specs.Records.{nthState, nthRule}
@@ -35,6 +35,10 @@ isState s a e xs j = cond (eqb j 0) (sameRange s a e initial 0 7) (sameRange s a
 -- the state of that name; the number of states where there is none (01, Declarations and Rules)
 unfoldable pub findState : List ℕ → ℕ → ℕ → List State → ℕ
 findState s a e xs = first (isState s a e xs) 0 (length xs)
+
+-- the bytes of a rule's name, in the source s (01, Areas, 2)
+unfoldable pub nameOf : List ℕ → Rule → List ℕ
+nameOf s x = part s (x .«name_from») (x .«name_from» + x .«name_length»)
 
 -- the rule x has the name from a to e: an unnamed rule has none (01, Rules)
 unfoldable pub hasName : List ℕ → ℕ → ℕ → Rule → Bool

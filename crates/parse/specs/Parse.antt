@@ -161,14 +161,15 @@ leaves k (accepted b) = sheetLeft b k
 unfoldable pub parseCall : List ℕ → ℕ → List ℕ → Caps → Left
 parseCall s flags verdicts k = leaves k (outcome s flags verdicts k)
 
--- the number and the value of each answer, as one word of two-byte fields
-abbrev pub word : ℕ → ℕ → ℕ
-word number a = number + 65536 * a
+-- four two-byte fields as one word: the number of an answer, and its values
+abbrev pub word : ℕ → ℕ → ℕ → ℕ → ℕ
+word number a b c = number + 65536 * a + 65536 * 65536 * b + 65536 * 65536 * 65536 * c
 
+-- the number and the value of each answer
 unfoldable pub wordOf : Answer → ℕ
-wordOf Accepted = word 0 0
-wordOf LongFile = word 1 0
-wordOf UnknownFlag = word 2 0
-wordOf InvalidUtf8 = word 3 0
-wordOf (AreaFull n) = word 4 n
-wordOf (FaultyFile n) = word 5 n
+wordOf Accepted = word 0 0 0 0
+wordOf LongFile = word 1 0 0 0
+wordOf UnknownFlag = word 2 0 0 0
+wordOf InvalidUtf8 = word 3 0 0 0
+wordOf (AreaFull n) = word 4 n 0 0
+wordOf (FaultyFile n) = word 5 n 0 0

@@ -1,11 +1,12 @@
 -- The pattern of a rule, as a part of the source or of the rewritten text (01, Areas, 4).
-use Prim.Native.Nat.{ℕ, _+_, _*_}
+use Prim.Native.Nat.{ℕ, _+_}
 use mathlib.Core.Bool.{Bool, cond, _&&_}
 use mathlib.Core.List.{List, []}
 use lib.Dec.{eqb, ltb}
 use lib.ListN.{length, take, drop}
 use Rattle.area.specs.declared.Rule.{Rule}
 use Rattle.area.specs.Records.{nthRule}
+use Rattle.parse.specs.Parse.{word}
 use Rattle.sheet_check.specs.declared.Located.{Located}
 use Rattle.sheet_check.specs.declared.Located.the-variants.{Part, BrokenSheet}
 use Rattle.sheet_check.specs.SheetCheck.{SheetBytes, decoded, sheetCheck}
@@ -52,10 +53,6 @@ patternCall s t b k = handed (startOf s t (patternPart b k)) (patternText b k)
 unfoldable pub numberOf : Located → ℕ
 numberOf (Part place from len) = 0
 numberOf BrokenSheet = 6
-
--- four two-byte fields as one word
-abbrev pub word : ℕ → ℕ → ℕ → ℕ → ℕ
-word number a b c = number + 65536 * a + 65536 * 65536 * b + 65536 * 65536 * 65536 * c
 
 -- the number and the values of each answer, as one word
 unfoldable pub wordOf : Located → ℕ

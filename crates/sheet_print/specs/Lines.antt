@@ -89,6 +89,7 @@ rulesIn l2 count = joined (λ k. ruleLine k (ruleAt l2 k)) count
 unfoldable pub faultsIn : List ℕ → ℕ → List ℕ
 faultsIn l6 count = joined (λ k. faultLine (faultAt l6 k)) count
 
+-- the states, then the rules
 unfoldable pub sheetIn : List ℕ → List ℕ → ℕ → List ℕ → ℕ → List ℕ
 sheetIn s l1 states l2 rules = statesIn s l1 states ++ rulesIn l2 rules
 

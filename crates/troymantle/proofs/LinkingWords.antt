@@ -2,17 +2,21 @@
 use mathlib.Core.Path.{_≡_, sym, ap, _∙_}
 use mathlib.Core.List.{List}
 use Prim.Native.Nat.{ℕ, _+_, _*_}
-use native.Mathlib.Nat.{zero-add, add-zero}
+use native.Mathlib.Omega.{arith}
 use borrow.Author.Needs.{needs}
+use Rattle.parse.specs.Parse.{word}
 use Rattle.link.specs.declared.LinkAnswer.{LinkAnswer}
 use Rattle.link.specs.declared.LinkAnswer.the-variants.{Linked, BrokenSheet, BrokenMap, AreaFull}
 use Rattle.link.specs.Link.{LinkLeft, linkLeft, wordOf}
+use Rattle.troymantle.proofs.Words.{one-value}
 use Rattle.troymantle.specs.LinkWords.{linkInWords, inLinkWords}
 
 module _ (a : LinkAnswer) where
   pub word-linked : (missing idle : ℕ) → a ≡ Linked missing idle → 65536 * missing + 4294967296 * idle ≡ wordOf a
   unfolding wordOf
-  word-linked missing idle z = ap (λ (x : ℕ). x + 4294967296 * idle) (sym (zero-add (65536 * missing))) ∙ ap wordOf (sym z)
+  word-linked missing idle z =
+      let q : 65536 * missing + 4294967296 * idle ≡ word 0 missing idle 0 = omega arith in
+      q ∙ ap wordOf (sym z)
 
   pub word-sheet : a ≡ BrokenSheet → 6 ≡ wordOf a
   unfolding wordOf
@@ -24,7 +28,7 @@ module _ (a : LinkAnswer) where
 
   pub word-area : (n : ℕ) → a ≡ AreaFull n → 4 + 65536 * n ≡ wordOf a
   unfolding wordOf
-  word-area n z = sym (add-zero (4 + 65536 * n)) ∙ ap wordOf (sym z)
+  word-area n z = one-value 4 n ∙ ap wordOf (sym z)
 
 pub word-link-left : (a : LinkAnswer) (r : ℕ) → r ≡ wordOf a → (x2 x7 x8 : List ℕ) (y : LinkLeft) → linkLeft a x2 x7 x8 ≡ y → linkInWords r x2 x7 x8 ≡ inLinkWords y
 word-link-left a r w x2 x7 x8 y e = ap (λ (k : ℕ). linkInWords k x2 x7 x8) w ∙ ap inLinkWords e

@@ -1,7 +1,8 @@
 -- `troymantle::word_of` meets its contract: each return is the word of the answer that the branch is taken for.
-use mathlib.Core.Path.{sym, ap}
+use mathlib.Core.Path.{sym, ap, _∙_}
 use borrow.Author.Needs.{needs}
 use Rattle.parse.specs.Parse.{wordOf}
+use Rattle.troymantle.proofs.Words.{one-value}
 use Rattle.troymantle.proofs.word_of.Statement.{statement}
 use Rattle.troymantle.proofs.word_of.Tie as tie
 
@@ -26,5 +27,5 @@ word-of-spec =
     (λ c. ap wordOf (sym (c .enum-told2 .given .1)))
     (λ c. ap wordOf (sym (c .enum-told3 .given .1)))
     (λ c. ap wordOf (sym (c .enum-told4 .given .1)))
-    (λ c. ap wordOf (sym (c .before .answer .given .1)))
-    (λ c. ap wordOf (sym (c .before .answer2 .given .1))))
+    (λ c. one-value 4 _ ∙ ap wordOf (sym (c .before .answer .given .1)))
+    (λ c. one-value 5 _ ∙ ap wordOf (sym (c .before .answer2 .given .1))))

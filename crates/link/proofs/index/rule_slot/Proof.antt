@@ -1,5 +1,5 @@
 -- `link::index::rule_slot` meets its contract: the range is the rule's name.
-use Rattle.link.specs.Link.{nameOf}
+use Rattle.names.specs.Names.{nameOf}
 use Rattle.link.proofs.Slotting.{slotting}
 use Rattle.link.proofs.index.rule_slot.Statement.{statement}
 use Rattle.link.proofs.index.rule_slot.Tie as tie

@@ -1,5 +1,5 @@
 -- `link::rule_ids::entry_of` meets its contract: the range that is looked for is the rule's name.
-use Rattle.link.specs.Link.{nameOf}
+use Rattle.names.specs.Names.{nameOf}
 use Rattle.link.proofs.LinkedRules.{linking-rule}
 use Rattle.link.proofs.rule_ids.entry_of.Statement.{statement}
 use Rattle.link.proofs.rule_ids.entry_of.Tie as tie
