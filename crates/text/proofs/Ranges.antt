@@ -1,4 +1,5 @@
--- Equal ranges: the comparison says equality of lists, and a loop that has compared the bytes behind the first k leaves the comparison of those k.
+-- Equal ranges: the comparison says equality of lists, and a loop that has compared the first k bytes goes on to the next by comparing these
+-- two alone.
 use mathlib.Core.Path.{_≡_, refl, sym, ap, ap₂, _∙_}
 use mathlib.Core.Bool.{Bool, true, false, _&&_, cond, false≢true, and-true, and-false, and-assoc}
 use mathlib.Core.List.{List, [], _∷_, _++_}
@@ -37,7 +38,7 @@ same-lengths xs ys d = go (sameBytes xs ys) refl
     go true e = absurd (d (ap length (same-equal xs ys e)))
     go false e = refl
 
--- of lists of one length the last bytes can be compared first
+-- of lists of one length the last bytes are compared by themselves
 same-last : (xs ys : List ℕ) (x y : ℕ) → length xs ≡ length ys → sameBytes (xs ++ (x ∷ [])) (ys ++ (y ∷ [])) ≡ sameBytes xs ys && eqb x y
 unfolding sameBytes
 same-last [] [] x y q = and-true (eqb x y)
@@ -61,37 +62,48 @@ part-none s a e h =
     let z : e - a ≡ 0 = omega arith in
     rw z
 
-pub part-last : (s : List ℕ) (a k : ℕ) → 0 < k → a + k ≤ length s → part s a (a + k) ≡ part s a (a + (k - 1)) ++ (byte s (a + (k - 1)) ∷ [])
+part-last : (s : List ℕ) (a k : ℕ) → a + k < length s → part s a (a + (k + 1)) ≡ part s a (a + k) ++ (byte s (a + k) ∷ [])
 unfolding part
-part-last s a k p l =
-    let q : a + k - a ≡ suc (k - 1) = omega arith in
-    let z : a + (k - 1) - a ≡ k - 1 = omega arith in
-    let g : k - 1 < length (drop a s) = omega (arith, length-drop a s) in
-    rw (q, z, take-suc (drop a s) (k - 1) 0 g, getD-drop a s (k - 1) 0)
+part-last s a k l =
+    let q : a + (k + 1) - a ≡ suc k = omega arith in
+    let z : a + k - a ≡ k = omega arith in
+    let g : k < length (drop a s) = omega (arith, length-drop a s) in
+    rw (q, z, take-suc (drop a s) k 0 g, getD-drop a s k 0)
 
--- ---- the loop has compared all but the first k of n bytes
+-- ---- the loop has compared the first k of n bytes
 
-module _ (s : List ℕ) (a : ℕ) (t : List ℕ) (c n k : ℕ) (before : sameRange s a (a + n) t c (c + n) ≡ sameRange s a (a + k) t c (c + k)) where
-  module _ (few : k ≤ n) (fs : a + n ≤ length s) (ft : c + n ≤ length t) (some : 0 < k) where
-    step : sameRange s a (a + k) t c (c + k) ≡ sameRange s a (a + (k - 1)) t c (c + (k - 1)) && eqb (byte s (a + (k - 1))) (byte t (c + (k - 1)))
-    unfolding sameRange
-    step =
-        let ls = part-length s a (a + (k - 1)) (omega arith) in
-        let lt = part-length t c (c + (k - 1)) (omega arith) in
-        rw (part-last s a k some (omega arith), part-last t c k some (omega arith))
-        (same-last (part s a (a + (k - 1))) (part t c (c + (k - 1))) (byte s (a + (k - 1))) (byte t (c + (k - 1))) (omega arith))
-
-    pub range-differs : (byte s (a + (k - 1)) ≡ byte t (c + (k - 1)) → ⊥) → false ≡ sameRange s a (a + n) t c (c + n)
-    range-differs d = sym (before ∙ step ∙ rw (ne-eqb (byte s (a + (k - 1))) (byte t (c + (k - 1))) d, and-false))
-
-    pub range-again : byte s (a + (k - 1)) ≡ byte t (c + (k - 1)) → sameRange s a (a + n) t c (c + n) ≡ sameRange s a (a + (k - 1)) t c (c + (k - 1))
-    range-again e = before ∙ step ∙ rw (eq-eqb (byte s (a + (k - 1))) (byte t (c + (k - 1))) e, and-true)
-
-  pub range-ended : k ≤ 0 → true ≡ sameRange s a (a + n) t c (c + n)
+module _ (s : List ℕ) (a : ℕ) (t : List ℕ) (c : ℕ) where
+  pub range-none : true ≡ sameRange s a (a + 0) t c (c + 0)
   unfolding sameRange sameBytes
-  range-ended h = sym (before ∙ rw (part-none s a (a + k) (omega arith), part-none t c (c + k) (omega arith)))
+  range-none = rw (part-none s a (a + 0) (omega arith), part-none t c (c + 0) (omega arith))
 
-pub ruleset comparing = (needs, range-differs, range-again, range-ended)
+  -- one byte more
+  range-more :
+      (k : ℕ)
+      → a + k < length s
+      → c + k < length t
+      → sameRange s a (a + k) t c (c + k) && eqb (byte s (a + k)) (byte t (c + k)) ≡ sameRange s a (a + (k + 1)) t c (c + (k + 1))
+  unfolding sameRange
+  range-more k h l =
+      let ls = part-length s a (a + k) (omega arith) in
+      let lt = part-length t c (c + k) (omega arith) in
+      rw (part-last s a k h, part-last t c k l)
+      (sym (same-last (part s a (a + k)) (part t c (c + k)) (byte s (a + k)) (byte t (c + k)) (omega arith)))
+
+  module _ (n k : ℕ) (same : Bool) (before : same ≡ sameRange s a (a + k) t c (c + k)) where
+    pub range-again :
+        a + n ≤ length s
+        → c + n ≤ length t
+        → k < n
+        → same && eqb (byte s (a + k)) (byte t (c + k)) ≡ sameRange s a (a + (k + 1)) t c (c + (k + 1))
+    range-again fs ft h = rw before (range-more k (omega arith) (omega arith))
+
+    pub range-ended : n ≤ k → k ≤ n → same ≡ sameRange s a (a + n) t c (c + n)
+    range-ended h l =
+        let q : k ≡ n = omega arith in
+        before ∙ ap (λ (m : ℕ). sameRange s a (a + m) t c (c + m)) q
+
+pub ruleset comparing = (needs, range-none, range-again, range-ended)
 
 -- ---- the calls over it
 
@@ -145,13 +157,26 @@ module _ (s : List ℕ) (a e : ℕ) (t : List ℕ) (c d : ℕ) (ls : e ≤ lengt
   unfolding sameRange
   inside-unequal h = same-lengths (part s a e) (part t c d) (λ q. h (sym (part-length s a e ls) ∙ q ∙ part-length t c d lt))
 
+  -- the last bytes differ
+  pub inside-differs : 0 < e - a → e - a ≡ d - c → (byte s (e - 1) ≡ byte t (d - 1) → ⊥) → false ≡ sameRange s a e t c d
+  inside-differs p q h =
+      let k = e - a - 1 in
+      let u : a + (k + 1) ≡ e = omega arith in
+      let v : c + (k + 1) ≡ d = omega arith in
+      let x : a + k ≡ e - 1 = omega arith in
+      let y : c + k ≡ d - 1 = omega arith in
+      sym
+      (ap₂ (λ (i j : ℕ). sameRange s a i t c j) (sym u) (sym v)
+      ∙ sym (range-more s a t c k (omega arith) (omega arith))
+      ∙ rw (x, y, ne-eqb (byte s (e - 1)) (byte t (d - 1)) h, and-false))
+
   pub inside-compared : (r : Bool) → a ≤ e → c ≤ d → e - a ≡ d - c → r ≡ sameRange s a (a + (e - a)) t c (c + (e - a)) → r ≡ sameRange s a e t c d
   inside-compared r x y q h =
       let u : a + (e - a) ≡ e = omega arith in
       let v : c + (e - a) ≡ d = omega arith in
       h ∙ ap₂ (λ (i j : ℕ). sameRange s a i t c j) u v
 
-pub ruleset range-calls = (inside-unequal, inside-compared, needs, range-unequal, range-empty, range-compared, range-inside, range-inside-too)
+pub ruleset range-calls = (inside-unequal, inside-differs, inside-compared, needs, range-unequal, range-empty, range-compared, range-inside, range-inside-too)
 
 part-whole : (w : List ℕ) → part w 0 (0 + length w) ≡ w
 unfolding part

@@ -5,20 +5,19 @@ ghost use lib.ListN.{length};
 ghost use Rattle.text.specs.Range.{sameRange, lookaheadIs};
 use crate::Found;
 
-// Whether the n bytes of s from a on are those of t from c on. From the end, since names that begin alike differ at their ends.
+// Whether the n bytes of s from a on are those of t from c on. It looks at every byte whatever it finds, so that the compiler can take many at
+// once.
 fn same_bytes(s: &[u8], a: usize, t: &[u8], c: usize, n: usize) -> bool
     requires { ⌜ (a + n ≤ length (now s)) × (c + n ≤ length (now t)) ⌝ }
     ensures { λ r. ⌜ r ≡ sameRange (now (s .entry)) a (a + n) (now (t .entry)) c (c + n) ⌝ }
 {
-    let mut k = n;
-    while 0 < k {
-        let j = k - 1;
-        if s[a + j] != t[c + j] {
-            return false;
-        }
-        k = j;
+    let mut same = true;
+    let mut j = 0;
+    while j < n {
+        same = same & (s[a + j] == t[c + j]);
+        j += 1;
     }
-    true
+    same
 }
 
 // How many bytes stand from a to before e in a text of n bytes.
@@ -37,7 +36,7 @@ fn part_len(n: usize, a: usize, e: usize) -> usize
     n - a
 }
 
-// The same of ranges that lie in their texts.
+// The same of ranges that lie in their texts. Their last bytes are asked first, since names that begin alike differ at their ends.
 fn same_inside(s: &[u8], a: usize, e: usize, t: &[u8], c: usize, d: usize) -> bool
     requires { ⌜ ((a ≤ e) × (e ≤ length (now s))) × ((c ≤ d) × (d ≤ length (now t))) ⌝ }
     ensures { λ r. ⌜ r ≡ sameRange (now (s .entry)) a e (now (t .entry)) c d ⌝ }
@@ -45,6 +44,11 @@ fn same_inside(s: &[u8], a: usize, e: usize, t: &[u8], c: usize, d: usize) -> bo
     let n = e - a;
     if n != d - c {
         return false;
+    }
+    if 0 < n {
+        if s[e - 1] != t[d - 1] {
+            return false;
+        }
     }
     same_bytes(s, a, t, c, n)
 }
