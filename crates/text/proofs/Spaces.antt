@@ -16,6 +16,7 @@ use Rattle.text.specs.Walk.{skip}
 use Rattle.text.specs.Whitespace.{byte, isNextLine, isMark, isSeparator, whitespaceOf, lineEndOf, whitespaceLen, lineEndLen, Width}
 use Rattle.text.proofs.Tests.{by-test, answer, and-left, and-false, or-true}
 use Rattle.text.proofs.Walks.{skip-ended, skip-again}
+use Rattle.text.proofs.Settled.{line-feed-ends, none-ends-above, none-white-above}
 
 -- ---- the branches
 
@@ -56,6 +57,17 @@ module _ (a b c : ℕ) where
   pub end-ascii : a < 0x80 → lineEndOf a 0 0 ≡ lineEndOf a b c
   unfolding lineEndOf
   end-ascii h = simp (ne-eqb a 0xe2 (omega arith))
+
+-- a byte by itself that is measured without its classes
+module _ (a : ℕ) where
+  pub white-above : 0x20 < a → 0 ≡ whitespaceOf a 0 0
+  white-above h = white-none a 0 0 (sym (none-white-above a h)) (and-false (eqb a 0xc2)) (simp (and-false (eqb a 0xe2)))
+
+  pub end-above : 0x0d < a → 0 ≡ lineEndOf a 0 0
+  end-above h = end-none a 0 0 (sym (none-ends-above a h)) (and-false (eqb a 0xe2))
+
+  pub end-line-feed : a ≡ 0x0a → 1 ≡ lineEndOf a 0 0
+  end-line-feed e = end-one a 0 0 (sym (line-feed-ends a e))
 
 -- ---- a line end is a whitespace character
 
@@ -153,7 +165,7 @@ module _ (s : List ℕ) (i n a : ℕ) (ea : a ≡ byte s i) (l : a < 0x80) (h : 
   end-ascii-width e =
       end-width s i n a (byte s (i + 1)) (byte s (i + 2)) ea refl refl h (e ∙ end-ascii a (byte s (i + 1)) (byte s (i + 2)) l)
 
-pub ruleset measuring = (needs, answer, white-one, white-two, white-three, white-none, white-width, white-ascii-width, end-one, end-three, end-none, end-width, end-ascii-width)
+pub ruleset measuring = (needs, answer, white-one, white-two, white-three, white-none, white-above, white-width, white-ascii-width, end-one, end-three, end-none, end-above, end-line-feed, end-width, end-ascii-width)
 
 -- ---- the loops that skip: the walk began at i and stands at k, where n bytes of whitespace, or of a line end, stand
 

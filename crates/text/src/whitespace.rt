@@ -43,24 +43,35 @@ fn line_end_of(a: u8, b: u8, c: u8) -> usize
     0
 }
 
-// How many bytes the whitespace character has that starts at i, or 0. An ASCII byte is settled without its two neighbours.
+// How many bytes the whitespace character has that starts at i, or 0. An ASCII byte is settled without its two neighbours, and above the
+// space, where ASCII has no whitespace, without its classes.
 pub fn whitespace_len(s: &[u8], i: usize) -> usize
     requires { ⌜ i ≤ length (now s) ⌝ }
     ensures { λ r. ⌜ Width (now (s .entry)) i (whitespaceLen (now (s .entry)) i) r ⌝ }
 {
     let a = byte_at(s, i);
     if a < 0x80 {
+        if 0x20 < a {
+            return 0;
+        }
         return whitespace_of(a, 0, 0);
     }
     whitespace_of(a, byte_at(s, i + 1), byte_at(s, i + 2))
 }
 
+// The same of a line end: ASCII has none above the carriage return, and the line feed is the commonest.
 pub fn line_end_len(s: &[u8], i: usize) -> usize
     requires { ⌜ i ≤ length (now s) ⌝ }
     ensures { λ r. ⌜ Width (now (s .entry)) i (lineEndLen (now (s .entry)) i) r ⌝ }
 {
     let a = byte_at(s, i);
     if a < 0x80 {
+        if 0x0d < a {
+            return 0;
+        }
+        if a == 0x0a {
+            return 1;
+        }
         return line_end_of(a, 0, 0);
     }
     line_end_of(a, byte_at(s, i + 1), byte_at(s, i + 2))
