@@ -1,5 +1,5 @@
--- Lines that are skipped. Each way to skip goes forward, and not past the end of the text; so repeating it comes to rest, and the loop that
--- repeats it comes to rest at the same place from wherever it stands.
+-- Lines that are skipped. Each way to skip goes forward, and not past the end of the text; so repeating it comes to rest. The loops stand where
+-- nothing is left to skip, so that from there a step only passes a line, and repeating comes to rest at the same place.
 use mathlib.Core.Path.{_≡_, refl, sym, ap, _∙_}
 use mathlib.Core.Bool.{Bool, true, false, cond, not, false≢true}
 use mathlib.Core.List.{List}
@@ -8,26 +8,38 @@ use Prim.Native.Nat.{ℕ, _+_, _-_, _%_, _≤_, _<_, max}
 use native.Mathlib.Nat.{eq-zero-or-pos}
 use native.Mathlib.Omega.{arith}
 use borrow.Author.Needs.{needs}
-use borrow.Author.Tests.{eq-eqb, ne-eqb, eqb-false}
+use borrow.Author.Tests.{eq-eqb, ne-eqb, eqb-true, eqb-false}
 use lib.Dec.{eqb}
-use lib.ListN.{length, length-take, length-drop}
+use lib.ListN.{length, drop, length-take, length-drop}
+use lib.Seq.{getD-take, getD-drop}
 use Rattle.text.specs.Walk.{repeat, skip, Between}
-use Rattle.text.specs.Whitespace.{whitespaceLen, lineEndLen, atLineEnd}
+use Rattle.text.specs.Class.{isLineEnd}
+use Rattle.text.specs.Whitespace.{byte, lineEndOf, whitespaceLen, lineEndLen, atLineEnd}
 use Rattle.text.specs.Range.{part, sameBytes, lookaheadIs}
 use Rattle.text.specs.Scan.{lineEnd, skipWhitespace, skipLineEnds}
 use Rattle.text.specs.declared.Found.{Found}
 use Rattle.text.specs.declared.Found.the-variants.{At, Nothing}
-use Rattle.text.proofs.Tests.{le-or-lt, and-false}
-use Rattle.text.proofs.Walks.{first-next, first-from, first-to, repeat-stop, repeat-go, repeat-stays, skip-stays, skip-stops, skip-from, skip-to}
-use Rattle.text.proofs.Spaces.{white-inside, end-inside}
+use Rattle.text.proofs.Tests.{le-or-lt, and-right, and-false, by-test}
+use Rattle.text.proofs.Walks.{first-here, first-next, first-from, first-to, repeat-stop, repeat-go, repeat-stays, skip-stays, skip-stops, skip-from, skip-to}
+use Rattle.text.proofs.Spaces.{byte-inside, white-inside, end-inside}
 use Rattle.text.proofs.Ranges.{ahead-short, same-equal}
 use Rattle.section.specs.Section.{comments, found, percents, slashes, isComment, pastComment, pastLine, toDeclaration, pastRuleLine, toRule, inSection, hasRoutines}
 
--- ---- a word that stands at i ends within the text
+-- ---- a word that stands at i: its bytes, and that it ends within the text
+
+word-stands : (s w : List ℕ) (i : ℕ) → found (lookaheadIs s w i) ≡ true → part s i (i + length w) ≡ w
+unfolding lookaheadIs
+word-stands s w i =
+    by-test (λ f. found f ≡ true → part s i (i + length w) ≡ w) (sameBytes (part s i (i + length w)) w) (At (i + length w)) Nothing
+    (λ e _. same-equal (part s i (i + length w)) w e)
+    (λ _ z. absurd (false≢true z))
 
 part-short : (s : List ℕ) (i n : ℕ) → length (part s i (i + n)) ≡ n → i + n ≤ max i (length s)
 unfolding part
 part-short s i n e = omega (arith, simp (length-take, length-drop) at e)
+
+word-within : (s w : List ℕ) (i : ℕ) → found (lookaheadIs s w i) ≡ true → i + length w ≤ max i (length s)
+word-within s w i e = part-short s i (length w) (ap length (word-stands s w i e))
 
 nothing-at : (j : ℕ) → Nothing ≡ At j → ⊥
 nothing-at j z =
@@ -36,11 +48,8 @@ nothing-at j z =
 
 pub ahead-within : (s w : List ℕ) (i j : ℕ) → lookaheadIs s w i ≡ At j → (i + length w ≡ j) × (i + length w ≤ max i (length s))
 unfolding lookaheadIs
-ahead-within s w i j e = by (sameBytes (part s i (i + length w)) w) refl e
-  where
-    by : (t : Bool) → sameBytes (part s i (i + length w)) w ≡ t → cond t (At (i + length w)) Nothing ≡ At j → (i + length w ≡ j) × (i + length w ≤ max i (length s))
-    by true q z = (cc, part-short s i (length w) (ap length (same-equal (part s i (i + length w)) w q)))
-    by false q z = absurd (nothing-at j z)
+ahead-within s w i j e =
+    (by-test (λ f. f ≡ At j → i + length w ≡ j) (sameBytes (part s i (i + length w)) w) (At (i + length w)) Nothing (λ _ z. cc) (λ _ z. absurd (nothing-at j z)) e, word-within s w i (ap found e))
 
 -- ---- the tests
 
@@ -53,23 +62,7 @@ module _ (s : List ℕ) (flags i : ℕ) where
   unfolding isComment comments
   comment-off o = rw (ne-eqb (flags % 2) 1 o)
 
-  pub comment-passed : (r : Bool) (e : ℕ) → r ≡ isComment s flags i → r ≡ true → Between i (length s) (lineEnd s i) e → Between i (length s) (pastComment s flags i) e
-  unfolding pastComment
-  comment-passed r e q t b = record { is = rw (← q, t) (b .is); from = b .from; to = b .to }
-
-  pub no-comment : (r : Bool) → r ≡ isComment s flags i → r ≡ false → i ≤ length s → Between i (length s) (pastComment s flags i) i
-  unfolding pastComment
-  no-comment r q t l = record { is = rw (← q, t); from = omega arith; to = l }
-
-  pub line-passed : (j r : ℕ) → Between i (length s) (skipWhitespace s i) j → Between j (length s) (pastComment s flags j) r → Between i (length s) (pastLine s flags i) r
-  unfolding pastLine
-  line-passed j r b c = record { is = c .is ∙ ap (pastComment s flags) (b .is); from = omega (arith, b .from, c .from); to = c .to }
-
-  pub rule-line-passed : (j r : ℕ) → Between i (length s) (skipLineEnds s i) j → Between j (length s) (pastComment s flags j) r → Between i (length s) (pastRuleLine s flags i) r
-  unfolding pastRuleLine
-  rule-line-passed j r b c = record { is = c .is ∙ ap (pastComment s flags) (b .is); from = omega (arith, b .from, c .from); to = c .to }
-
-pub ruleset passing = (needs, comment-on, comment-off, comment-passed, no-comment, line-passed, rule-line-passed)
+pub ruleset asking = (needs, comment-on, comment-off)
 
 module _ (s : List ℕ) (i : ℕ) where
   pub section-ended : i ≡ length s → false ≡ inSection s i
@@ -94,6 +87,50 @@ module _ (s : List ℕ) (i : ℕ) where
       routines-by k b = rw (← e, q, ahead-within s percents i j (sym e ∙ q) .0, ← b .is)
 
 pub ruleset testing = (needs, section-ended, section-by, no-routines, percents-end, routines-by)
+
+-- ---- the end of a line that starts with two slashes
+
+part-byte : (s : List ℕ) (i e j : ℕ) → j < e - i → byte (part s i e) j ≡ byte s (i + j)
+unfolding part
+part-byte s i e j h = getD-take (e - i) (drop i s) j 0 h ∙ getD-drop i s j 0
+
+no-end-at-slash : (s : List ℕ) (k : ℕ) → byte s k ≡ 0x2f → atLineEnd s k ≡ false
+unfolding lineEndLen lineEndOf isLineEnd
+no-end-at-slash s k e = rw e refl
+
+end-at-line-feed : (s : List ℕ) (k : ℕ) → byte s k ≡ 0x0a → atLineEnd s k ≡ true
+unfolding lineEndLen lineEndOf isLineEnd
+end-at-line-feed s k e = rw e refl
+
+pub slashes-told : (s : List ℕ) (flags i : ℕ) (r : Bool) → r ≡ isComment s flags i → r ≡ true → found (lookaheadIs s slashes i) ≡ true
+unfolding isComment
+slashes-told s flags i r q t = and-right (comments flags) (found (lookaheadIs s slashes i)) (sym q ∙ t)
+
+module _ (s : List ℕ) (i : ℕ) (stand : found (lookaheadIs s slashes i) ≡ true) where
+  pub slashes-inside : i + 2 ≤ length s
+  slashes-inside = omega (arith, word-within s slashes i stand)
+
+  slash-at : (k j : ℕ) → k ≡ i + j → j < 2 → byte s k ≡ byte slashes j
+  slash-at k j e h =
+      ap (byte s) e ∙ sym (part-byte s i (i + 2) j (omega arith)) ∙ ap (λ (l : List ℕ). byte l j) (word-stands s slashes i stand)
+
+  slashes-passed : lineEnd s i ≡ lineEnd s (i + 2)
+  slashes-passed =
+      let q : i + 1 + 1 ≡ i + 2 = omega arith in
+      first-next (atLineEnd s) i (length s) (omega (arith, slashes-inside)) (no-end-at-slash s i (slash-at i 0 (omega arith) (omega arith)))
+      ∙ first-next (atLineEnd s) (i + 1) (length s) (omega (arith, slashes-inside)) (no-end-at-slash s (i + 1) (slash-at (i + 1) 1 refl (omega arith)))
+      ∙ ap (lineEnd s) q
+
+  pub comment-empty : (b : ℕ) → b ≡ byte s (i + 2) → b ≡ 0x0a → Between (i + 2) (length s) (lineEnd s i) (i + 2)
+  comment-empty b e f =
+      let z : byte s (i + 2) ≡ 0x0a = sym e ∙ f in
+      let l : i + 2 < length s = byte-inside s (i + 2) (λ q. omega arith) in
+      record { is = first-here (atLineEnd s) (i + 2) (length s) l (end-at-line-feed s (i + 2) z) ∙ sym slashes-passed; from = omega arith; to = slashes-inside }
+
+  pub comment-ends : (r : ℕ) → Between (i + 2) (length s) (lineEnd s (i + 2)) r → Between (i + 2) (length s) (lineEnd s i) r
+  comment-ends r b = record { is = b .is ∙ sym slashes-passed; from = b .from; to = b .to }
+
+pub ruleset ending = (needs, slashes-inside, comment-empty, comment-ends)
 
 -- ---- going forward
 
@@ -139,63 +176,124 @@ forward-both f g n a b = record {
   out = λ k h. ap g (a .out k h) ∙ b .out k h;
 }
 
-forward-line : (s : List ℕ) (flags : ℕ) → Forward (pastLine s flags) (length s)
-unfolding pastLine
-forward-line s flags = forward-both (skipWhitespace s) (pastComment s flags) (length s) (forward-skip (whitespaceLen s) (length s) (white-inside s)) (forward-comment s flags)
+-- ---- skipping, and then passing a line, over and over
 
-forward-rule-line : (s : List ℕ) (flags : ℕ) → Forward (pastRuleLine s flags) (length s)
-unfolding pastRuleLine
-forward-rule-line s flags = forward-both (skipLineEnds s) (pastComment s flags) (length s) (forward-skip (lineEndLen s) (length s) (end-inside s)) (forward-comment s flags)
+none-left : (width : ℕ → ℕ) (n : ℕ) → ((k : ℕ) → 0 < width k → k + width k ≤ n) → (i j : ℕ) → j ≡ skip width n i → width j ≡ 0
+none-left width n inside i j e = rw e (skip-stops width n inside i)
 
--- the loop began at i and stands at k, from where one step leads to j
-module _ (next : ℕ → ℕ) (s : List ℕ) (f : Forward next (length s)) (i k j : ℕ) (before : repeat next (length s) i ≡ repeat next (length s) k) (is : j ≡ next k) where
-  rests : j ≡ k → k ≡ repeat next (length s) i
-  rests e = repeat-stop next (length s) k (sym is ∙ e) ∙ sym before
+module _ (s : List ℕ) (flags : ℕ) (width : ℕ → ℕ) where
+  -- past what width measures, and then past one line
+  abbrev step : ℕ → ℕ
+  step k = pastComment s flags (skip width (length s) k)
 
-  moves : (j ≡ k → ⊥) → repeat next (length s) i ≡ repeat next (length s) j
-  moves d =
-      before
-      ∙ repeat-go next (λ m. length s - m) (forward-falls next (length s) f) (length s) k (omega arith) (λ z. d (is ∙ z))
-      ∙ ap (repeat next (length s)) (sym is)
+  -- to where such a step stays: toDeclaration and toRule are instances
+  abbrev walk : ℕ → ℕ
+  walk i = repeat step (length s) i
 
-module _ (s : List ℕ) (flags i k j : ℕ) where
-  pub declaration-reached : toDeclaration s flags i ≡ toDeclaration s flags k → j ≡ pastLine s flags k → j ≡ k → k ≡ toDeclaration s flags i
-  unfolding toDeclaration
-  declaration-reached = rests (pastLine s flags) s (forward-line s flags) i k j
+module _ (s : List ℕ) (flags : ℕ) (width : ℕ → ℕ) (inside : (k : ℕ) → 0 < width k → k + width k ≤ length s) where
+  falls : (k : ℕ) → (step s flags width k ≡ k → ⊥) → length s - step s flags width k < length s - k
+  falls =
+      forward-falls (step s flags width) (length s)
+      (forward-both (skip width (length s)) (pastComment s flags) (length s) (forward-skip width (length s) inside) (forward-comment s flags))
 
-  pub declaration-further : toDeclaration s flags i ≡ toDeclaration s flags k → j ≡ pastLine s flags k → (j ≡ k → ⊥) → toDeclaration s flags i ≡ toDeclaration s flags j
-  unfolding toDeclaration
-  declaration-further = moves (pastLine s flags) s (forward-line s flags) i k j
+  onward : (k : ℕ) → walk s flags width k ≡ walk s flags width (step s flags width k)
+  onward k = go (eqb (step s flags width k) k) refl
+    where
+      go : (t : Bool) → eqb (step s flags width k) k ≡ t → walk s flags width k ≡ walk s flags width (step s flags width k)
+      go true e = ap (walk s flags width) (sym (eqb-true (step s flags width k) k e))
+      go false e = repeat-go (step s flags width) (λ m. length s - m) falls (length s) k (omega arith) (eqb-false (step s flags width k) k e)
 
-  pub rule-reached : toRule s flags i ≡ toRule s flags k → j ≡ pastRuleLine s flags k → j ≡ k → k ≡ toRule s flags i
-  unfolding toRule
-  rule-reached = rests (pastRuleLine s flags) s (forward-rule-line s flags) i k j
+  -- where nothing is left to skip, a step passes a line only
+  step-there : (k : ℕ) → width k ≡ 0 → step s flags width k ≡ pastComment s flags k
+  step-there k z = ap (pastComment s flags) (sym (skip-stays width (length s) inside k z))
 
-  pub rule-further : toRule s flags i ≡ toRule s flags k → j ≡ pastRuleLine s flags k → (j ≡ k → ⊥) → toRule s flags i ≡ toRule s flags j
-  unfolding toRule
-  rule-further = moves (pastRuleLine s flags) s (forward-rule-line s flags) i k j
+  -- skipping first changes nothing: the step from i and the step from j lead to the same place
+  skipped : (i j : ℕ) → j ≡ skip width (length s) i → walk s flags width i ≡ walk s flags width j
+  skipped i j e =
+      let same : step s flags width i ≡ step s flags width j = ap (pastComment s flags) (sym e) ∙ sym (step-there j (none-left width (length s) inside i j e)) in
+      onward i ∙ ap (walk s flags width) same ∙ sym (onward j)
 
-pub ruleset resting = (needs, declaration-reached, declaration-further, rule-reached, rule-further)
+  -- the loop began at i and stands at k, where nothing is left to skip
+  module _ (i k : ℕ) (before : walk s flags width i ≡ walk s flags width k) (none : width k ≡ 0) (r : Bool) (told : r ≡ isComment s flags k) where
+    rests : r ≡ false → k ≡ walk s flags width i
+    unfolding pastComment
+    rests t = repeat-stop (step s flags width) (length s) k (step-there k none ∙ rw (← told, t)) ∙ sym before
 
--- ---- where the walk comes to rest, nothing is left to skip; so a line there has a byte
+    passes : (e j : ℕ) → r ≡ true → e ≡ lineEnd s k → j ≡ skip width (length s) e → walk s flags width i ≡ walk s flags width j
+    unfolding pastComment
+    passes e j t q z = before ∙ onward k ∙ ap (walk s flags width) (step-there k none ∙ rw (← told, t) (sym q)) ∙ skipped e j z
 
-module _ (next : ℕ → ℕ) (s : List ℕ) (f : Forward next (length s)) where
-  rest : (i : ℕ) → next (repeat next (length s) i) ≡ repeat next (length s) i
-  rest i = repeat-stays next (λ m. length s - m) (forward-falls next (length s) f) (length s) i (omega arith)
+  -- where the walk comes to rest, nothing is left to skip: the step that stays there has skipped nothing
+  none-there : (i : ℕ) → width (walk s flags width i) ≡ 0
+  none-there i =
+      let k = walk s flags width i in
+      let e : step s flags width k ≡ k = repeat-stays (step s flags width) (λ m. length s - m) falls (length s) i (omega arith) in
+      let stays : skip width (length s) k ≡ k = omega (arith, skip-from width (length s) inside k, forward-comment s flags .from (skip width (length s) k)) in
+      rw stays at (skip-stops width (length s) inside k)
 
--- a step that skips and then passes a comment, and stays, has skipped nothing
-none-skipped : (s : List ℕ) (flags k : ℕ) (width : ℕ → ℕ) → ((j : ℕ) → 0 < width j → j + width j ≤ length s) → pastComment s flags (skip width (length s) k) ≡ k → width k ≡ 0
-none-skipped s flags k width inside e =
-    let stays : skip width (length s) k ≡ k = omega (arith, skip-from width (length s) inside k, forward-comment s flags .from (skip width (length s) k)) in
-    rw stays at (skip-stops width (length s) inside k)
+module _ (s : List ℕ) (i j : ℕ) where
+  pub whitespace-skipped : j ≡ skipWhitespace s i → whitespaceLen s j ≡ 0
+  whitespace-skipped = none-left (whitespaceLen s) (length s) (white-inside s) i j
 
-pub declaration-starts : (s : List ℕ) (flags i : ℕ) → whitespaceLen s (toDeclaration s flags i) ≡ 0
-unfolding toDeclaration pastLine
-declaration-starts s flags i = none-skipped s flags _ (whitespaceLen s) (white-inside s) (rest (pastLine s flags) s (forward-line s flags) i)
+  pub line-ends-skipped : j ≡ skipLineEnds s i → lineEndLen s j ≡ 0
+  line-ends-skipped = none-left (lineEndLen s) (length s) (end-inside s) i j
 
-pub rule-starts : (s : List ℕ) (flags i : ℕ) → lineEndLen s (toRule s flags i) ≡ 0
-unfolding toRule pastRuleLine
-rule-starts s flags i = none-skipped s flags _ (lineEndLen s) (end-inside s) (rest (pastRuleLine s flags) s (forward-rule-line s flags) i)
+module _ (s : List ℕ) (flags i : ℕ) where
+  pub declaration-starts : whitespaceLen s (toDeclaration s flags i) ≡ 0
+  unfolding toDeclaration pastLine
+  declaration-starts = none-there s flags (whitespaceLen s) (white-inside s) i
+
+  pub rule-starts : lineEndLen s (toRule s flags i) ≡ 0
+  unfolding toRule pastRuleLine
+  rule-starts = none-there s flags (lineEndLen s) (end-inside s) i
+
+-- the loop began at i and stands at k
+module _ (s : List ℕ) (flags i k : ℕ) where
+  pub declaration-begun : k ≡ skipWhitespace s i → toDeclaration s flags i ≡ toDeclaration s flags k
+  unfolding toDeclaration pastLine
+  declaration-begun = skipped s flags (whitespaceLen s) (white-inside s) i k
+
+  pub declaration-reached : toDeclaration s flags i ≡ toDeclaration s flags k → whitespaceLen s k ≡ 0 → (r : Bool) → r ≡ isComment s flags k → r ≡ false → k ≡ toDeclaration s flags i
+  unfolding toDeclaration pastLine
+  declaration-reached = rests s flags (whitespaceLen s) (white-inside s) i k
+
+  pub declaration-further :
+      toDeclaration s flags i ≡ toDeclaration s flags k
+      → whitespaceLen s k ≡ 0
+      → (r : Bool)
+      → r ≡ isComment s flags k
+      → (e j : ℕ)
+      → r ≡ true
+      → e ≡ lineEnd s k
+      → j ≡ skipWhitespace s e
+      → toDeclaration s flags i ≡ toDeclaration s flags j
+  unfolding toDeclaration pastLine
+  declaration-further = passes s flags (whitespaceLen s) (white-inside s) i k
+
+  pub rule-begun : k ≡ skipLineEnds s i → toRule s flags i ≡ toRule s flags k
+  unfolding toRule pastRuleLine
+  rule-begun = skipped s flags (lineEndLen s) (end-inside s) i k
+
+  pub rule-reached : toRule s flags i ≡ toRule s flags k → lineEndLen s k ≡ 0 → (r : Bool) → r ≡ isComment s flags k → r ≡ false → k ≡ toRule s flags i
+  unfolding toRule pastRuleLine
+  rule-reached = rests s flags (lineEndLen s) (end-inside s) i k
+
+  pub rule-further :
+      toRule s flags i ≡ toRule s flags k
+      → lineEndLen s k ≡ 0
+      → (r : Bool)
+      → r ≡ isComment s flags k
+      → (e j : ℕ)
+      → r ≡ true
+      → e ≡ lineEnd s k
+      → j ≡ skipLineEnds s e
+      → toRule s flags i ≡ toRule s flags j
+  unfolding toRule pastRuleLine
+  rule-further = passes s flags (lineEndLen s) (end-inside s) i k
+
+pub ruleset resting = (needs, slashes-told, whitespace-skipped, line-ends-skipped, declaration-begun, declaration-reached, declaration-further, rule-begun, rule-reached, rule-further)
+
+-- ---- a line that is not skipped has a byte
 
 pub line-has-byte : (s : List ℕ) (i : ℕ) → i < length s → lineEndLen s i ≡ 0 → i < lineEnd s i
 line-has-byte s i h z =

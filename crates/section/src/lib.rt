@@ -1,14 +1,18 @@
 // Lines that are skipped between what is read, and where a section ends (01, Declarations and Rules).
 ghost use mathlib.Core.Path.{_≡_};
-ghost use Prim.Native.Nat.{_≤_};
+ghost use mathlib.Core.Bool.{true};
+ghost use Prim.Native.Nat.{_+_, _≤_};
 ghost use lib.ListN.{length};
 ghost use Rattle.text.specs.Walk.{Between};
-ghost use Rattle.section.specs.Section.{found, isComment, pastComment, pastLine, toDeclaration, pastRuleLine, toRule, inSection, hasRoutines};
+ghost use Rattle.text.specs.Range.{lookaheadIs};
+ghost use Rattle.text.specs.Scan.{lineEnd};
+ghost use Rattle.section.specs.Section.{found, slashes, isComment, toDeclaration, toRule, inSection, hasRoutines};
 use text::Found;
 use text::range::lookahead_is;
 use text::scan::line_end;
 use text::scan::parse_nl;
 use text::scan::parse_ws;
+use text::whitespace::byte_at;
 
 pub fn is_found(f: Found) -> bool
     ensures { λ r. ⌜ r ≡ found f ⌝ }
@@ -30,29 +34,16 @@ fn is_comment(src: &[u8], flags: u64, i: usize) -> bool
     false
 }
 
-// Past that line, if it is one.
-fn past_comment(src: &[u8], flags: u64, i: usize) -> usize
-    requires { ⌜ i ≤ length (now src) ⌝ }
-    ensures { λ r. ⌜ Between i (length (now (src .entry))) (pastComment (now (src .entry)) flags i) r ⌝ }
+// Where the line ends that starts with `//` at i. The slashes are no line end, and an empty comment is settled by the byte behind them.
+fn comment_end(src: &[u8], i: usize) -> usize
+    requires { ⌜ found (lookaheadIs (now src) slashes i) ≡ true ⌝ }
+    ensures { λ r. ⌜ Between (i + 2) (length (now (src .entry))) (lineEnd (now (src .entry)) i) r ⌝ }
 {
-    if is_comment(src, flags, i) {
-        return line_end(src, i);
+    let k = i + 2;
+    if byte_at(src, k) == 0x0a {
+        return k;
     }
-    i
-}
-
-fn past_line(src: &[u8], flags: u64, i: usize) -> usize
-    requires { ⌜ i ≤ length (now src) ⌝ }
-    ensures { λ r. ⌜ Between i (length (now (src .entry))) (pastLine (now (src .entry)) flags i) r ⌝ }
-{
-    past_comment(src, flags, parse_ws(src, i))
-}
-
-fn past_rule_line(src: &[u8], flags: u64, i: usize) -> usize
-    requires { ⌜ i ≤ length (now src) ⌝ }
-    ensures { λ r. ⌜ Between i (length (now (src .entry))) (pastRuleLine (now (src .entry)) flags i) r ⌝ }
-{
-    past_comment(src, flags, parse_nl(src, i))
+    line_end(src, k)
 }
 
 // Past whitespace and lines that flag 1 skips, to a declaration or the section's end.
@@ -60,14 +51,11 @@ pub fn to_declaration(src: &[u8], flags: u64, i: usize) -> usize
     requires { ⌜ i ≤ length (now src) ⌝ }
     ensures { λ r. ⌜ Between i (length (now (src .entry))) (toDeclaration (now (src .entry)) flags i) r ⌝ }
 {
-    let mut k = i;
-    loop {
-        let j = past_line(src, flags, k);
-        if j == k {
-            return k;
-        }
-        k = j;
+    let mut k = parse_ws(src, i);
+    while is_comment(src, flags, k) {
+        k = parse_ws(src, comment_end(src, k));
     }
+    k
 }
 
 // Past line ends and lines that flag 1 skips, to a rule's line or the section's end.
@@ -75,14 +63,11 @@ pub fn to_rule(src: &[u8], flags: u64, i: usize) -> usize
     requires { ⌜ i ≤ length (now src) ⌝ }
     ensures { λ r. ⌜ Between i (length (now (src .entry))) (toRule (now (src .entry)) flags i) r ⌝ }
 {
-    let mut k = i;
-    loop {
-        let j = past_rule_line(src, flags, k);
-        if j == k {
-            return k;
-        }
-        k = j;
+    let mut k = parse_nl(src, i);
+    while is_comment(src, flags, k) {
+        k = parse_nl(src, comment_end(src, k));
     }
+    k
 }
 
 // Whether a section goes on at i.
