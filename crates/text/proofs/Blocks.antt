@@ -108,7 +108,7 @@ may-end a b c e = simp (other 0x0a refl, other 0x0b refl, other 0x0d refl, other
     other : (x : ℕ) → mayEndLine x ≡ true → eqb a x ≡ false
     other x t = ne-eqb a x (λ q. true≢false (sym t ∙ ap mayEndLine (sym q) ∙ e))
 
-none-at : (s : List ℕ) (m : ℕ) → mayEndLine (byte s m) ≡ false → atLineEnd s m ≡ false
+pub none-at : (s : List ℕ) (m : ℕ) → mayEndLine (byte s m) ≡ false → atLineEnd s m ≡ false
 unfolding lineEndLen
 none-at s m e = rw (may-end (byte s m) (byte s (m + 1)) (byte s (m + 2)) e) refl
 

@@ -61,15 +61,18 @@ pub fn parse_spaces(s: &[u8], i: usize) -> usize
     k
 }
 
-// The first line end from i to before e, or e.
+// The first line end from i to before e, or e. Most bytes start none, which one test tells.
 fn find_line_end(s: &[u8], i: usize, e: usize) -> usize
     requires { ⌜ (i ≤ e) × (e ≤ length (now s)) ⌝ }
     ensures { λ r. ⌜ Between i e (findLineEnd (now (s .entry)) i e) r ⌝ }
 {
     let mut k = i;
     while k < e {
-        if at_line_end(s, k) {
-            return k;
+        let b = s[k];
+        if (b < 0x0e) | (0x80 <= b) {
+            if at_line_end(s, k) {
+                return k;
+            }
         }
         k += 1;
     }
@@ -85,7 +88,7 @@ fn block_may_end_line(s: &[u8], i: usize) -> bool
     let mut j = 0;
     while j < BLOCK {
         let b = s[i + j];
-        found = found | (((0x0a <= b) & (b <= 0x0d)) | (b == 0xe2));
+        found = found | ((b < 0x0e) | (0x80 <= b));
         j += 1;
     }
     found
