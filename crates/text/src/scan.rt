@@ -1,6 +1,7 @@
 // Scanners: each walks once, forward or backward, and answers where it stops.
 ghost use mathlib.Core.Path.{_≡_};
 ghost use Prim.Native.Nat.{_+_, _≤_};
+ghost use lib.Dec.{leb};
 ghost use lib.ListN.{length};
 ghost use Rattle.text.specs.Walk.{Between, any};
 ghost use Rattle.text.specs.Whitespace.{byte, mayEndLine};
@@ -170,16 +171,52 @@ pub fn find_byte(s: &[u8], i: usize, e: usize, b: u8) -> usize
     k
 }
 
-// The last space or tab from i to before e.
+// Whether one of the 16 bytes from i on may be a blank.
+fn block_may_have_blank(s: &[u8], i: usize) -> bool
+    requires { ⌜ i + 16 ≤ length (now s) ⌝ }
+    ensures { λ r. ⌜ r ≡ any (λ j. leb (byte (now (s .entry)) (i + j)) 0x20) 16 ⌝ }
+{
+    let mut found = false;
+    let mut j = 0;
+    while j < BLOCK {
+        found = found | (s[i + j] <= 0x20);
+        j += 1;
+    }
+    found
+}
+
+// Down from e past the blocks in which no blank stands. That i is within the text keeps i + 16 in range.
+fn past_blankless(s: &[u8], i: usize, e: usize) -> usize
+    requires { ⌜ (i ≤ e) × (e ≤ length (now s)) ⌝ }
+    ensures { λ r. ⌜ (r ≤ e) × (lastBlank (now (s .entry)) i e ≡ lastBlank (now (s .entry)) i r) ⌝ }
+{
+    let mut k = e;
+    while i + BLOCK <= k {
+        let next = k - BLOCK;
+        if block_may_have_blank(s, next) {
+            return k;
+        }
+        k = next;
+    }
+    k
+}
+
+// The last space or tab from i to before e. Blocks without a candidate are passed at once.
 pub fn last_blank(s: &[u8], i: usize, e: usize) -> Found
     requires { ⌜ e ≤ length (now s) ⌝ }
     ensures { λ r. ⌜ r ≡ lastBlank (now (s .entry)) i e ⌝ }
 {
-    let mut k = e;
+    if e <= i {
+        return Found::Nothing;
+    }
+    let mut k = past_blankless(s, i, e);
     while i < k {
         let j = k - 1;
-        if is_blank(s[j]) {
-            return Found::At(j);
+        let b = s[j];
+        if b <= 0x20 {
+            if is_blank(b) {
+                return Found::At(j);
+            }
         }
         k = j;
     }
