@@ -5,7 +5,7 @@ ghost use lib.Dec.{leb};
 ghost use lib.ListN.{length};
 ghost use Rattle.text.specs.Walk.{Between, any};
 ghost use Rattle.text.specs.Whitespace.{byte, mayEndLine};
-ghost use Rattle.text.specs.Scan.{skipWhitespace, skipLineEnds, skipBlanks, findLineEnd, lineEnd, findWhitespace, skipAsciiWhitespace, findAsciiWhitespace, findByte, lastBlank, trimStart, trimEnd, backslashesBefore, trimEndUnescaped};
+ghost use Rattle.text.specs.Scan.{skipWhitespace, skipLineEnds, skipBlanks, findLineEnd, lineEnd, findWhitespace, skipAsciiWhitespace, findAsciiWhitespace, findByte, lastBlank, trimStart, trimEnd, endsPlainly, backslashesBefore, trimEndUnescaped};
 use crate::Found;
 use crate::class::is_ascii_whitespace;
 use crate::class::is_blank;
@@ -234,18 +234,23 @@ pub fn trim_start(s: &[u8], i: usize, e: usize) -> usize
     e
 }
 
-// Most texts end with a byte that is no part of whitespace. Otherwise each byte is passed once: whitespace goes from k to w, and what stands
-// at w is none, so the end is past w.
-pub fn trim_end(s: &[u8], i: usize, e: usize) -> usize
+// Whether the text from i to e ends with an ASCII byte above space, as most do: no whitespace character has such a byte.
+fn ends_plainly(s: &[u8], i: usize, e: usize) -> bool
+    requires { ⌜ e ≤ length (now s) ⌝ }
+    ensures { λ r. ⌜ r ≡ endsPlainly (now (s .entry)) i e ⌝ }
+{
+    if e <= i {
+        return false;
+    }
+    let b = s[e - 1];
+    (0x20 < b) & (b < 0x80)
+}
+
+// Each byte is passed once: whitespace goes from k to w, and what stands at w is none, so the end is past w.
+fn trim_end_by_characters(s: &[u8], i: usize, e: usize) -> usize
     requires { ⌜ (i ≤ e) × (e ≤ length (now s)) ⌝ }
     ensures { λ r. ⌜ Between i e (trimEnd (now (s .entry)) i e) r ⌝ }
 {
-    if i < e {
-        let b = s[e - 1];
-        if (0x20 < b) & (b < 0x80) {
-            return e;
-        }
-    }
     let mut k = i;
     while k < e {
         let w = parse_ws(s, k);
@@ -255,6 +260,17 @@ pub fn trim_end(s: &[u8], i: usize, e: usize) -> usize
         k = w + 1;
     }
     k
+}
+
+// The walk is a function of its own, so that the test of the last byte is inlined where this is called.
+pub fn trim_end(s: &[u8], i: usize, e: usize) -> usize
+    requires { ⌜ (i ≤ e) × (e ≤ length (now s)) ⌝ }
+    ensures { λ r. ⌜ Between i e (trimEnd (now (s .entry)) i e) r ⌝ }
+{
+    if ends_plainly(s, i, e) {
+        return e;
+    }
+    trim_end_by_characters(s, i, e)
 }
 
 // How many backslashes stand in front of u, from i on.
@@ -278,7 +294,10 @@ pub fn trim_end_unescaped(s: &[u8], i: usize, e: usize) -> usize
     requires { ⌜ (i ≤ e) × (e ≤ length (now s)) ⌝ }
     ensures { λ r. ⌜ Between i (length (now (s .entry))) (trimEndUnescaped (now (s .entry)) i e) r ⌝ }
 {
-    let u = trim_end(s, i, e);
+    if ends_plainly(s, i, e) {
+        return e;
+    }
+    let u = trim_end_by_characters(s, i, e);
     if u == e {
         return e;
     }
