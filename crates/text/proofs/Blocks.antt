@@ -1,5 +1,5 @@
--- Positions that are looked at together: where none of a block passes, the walk for the first that does goes on behind the block; where one may,
--- the walk within the block answers, or it goes on as well.
+-- Positions that are looked at together: where none of a block passes, the walk for the first that does goes on behind the block, and the walk
+-- for the last in front of it; where one may, the walk within the block answers, or it goes on as well.
 use mathlib.Core.Path.{_≡_, refl, sym, ap, _∙_}
 use mathlib.Core.Bool.{Bool, true, false, cond, not, _||_, true≢false}
 use mathlib.Core.List.{List}
@@ -12,13 +12,14 @@ use borrow.Author.Needs.{needs}
 use borrow.Author.Tests.{ne-eqb, eq-eqb, leb-false}
 use lib.Dec.{eqb, leb}
 use lib.ListN.{length}
-use Rattle.text.specs.Class.{isLineEnd}
+use Rattle.text.specs.Class.{isLineEnd, isBlank}
 use Rattle.text.specs.Walk.{any, firstOf, first, Between}
 use Rattle.text.specs.Whitespace.{byte, mayEndLine, lineEndOf, lineEndLen, atLineEnd}
-use Rattle.text.specs.Scan.{findLineEnd, lineEnd}
+use Rattle.text.specs.Scan.{findLineEnd, lineEnd, lastBlank}
 use Rattle.text.specs.Utf8.{charLen, skipChars, utf8, isAscii}
 use Rattle.text.proofs.Tests.{answer}
-use Rattle.text.proofs.Walks.{first-here, first-over, first-from, skip-stays, skip-goes}
+use Rattle.text.proofs.Settled.{none-blank-above}
+use Rattle.text.proofs.Walks.{first-here, first-over, first-from, last-none, last-over, scanning-down, skip-stays, skip-goes}
 use Rattle.text.proofs.Chars.{char-one, char-fits, char-inside, walking}
 
 -- ---- all of the first n positions
@@ -48,6 +49,12 @@ module _ (test : ℕ → Bool) where
   any-ended found k n e a b =
       let q : k ≡ n = omega arith in
       e ∙ ap (any test) q
+
+-- none of the block from k on passes
+block-fails : (test : ℕ → Bool) (k m : ℕ) → any (λ j. test (k + j)) 16 ≡ false → k ≤ m → m < k + 16 → test m ≡ false
+block-fails test k m e a b =
+    let q : m ≡ k + (m - k) = omega arith in
+    ap test q ∙ none-passes (λ j. test (k + j)) 16 (m - k) e (omega arith)
 
 -- ---- the first that passes
 
@@ -108,7 +115,7 @@ may-end a b c e = simp (other 0x0a refl, other 0x0b refl, other 0x0d refl, other
     other : (x : ℕ) → mayEndLine x ≡ true → eqb a x ≡ false
     other x t = ne-eqb a x (λ q. true≢false (sym t ∙ ap mayEndLine (sym q) ∙ e))
 
-none-at : (s : List ℕ) (m : ℕ) → mayEndLine (byte s m) ≡ false → atLineEnd s m ≡ false
+pub none-at : (s : List ℕ) (m : ℕ) → mayEndLine (byte s m) ≡ false → atLineEnd s m ≡ false
 unfolding lineEndLen
 none-at s m e = rw (may-end (byte s m) (byte s (m + 1)) (byte s (m + 2)) e) refl
 
@@ -119,12 +126,7 @@ module _ (s : List ℕ) (i k : ℕ) (before : lineEnd s i ≡ lineEnd s k) where
     block-without r e f =
         before
         ∙ first-over (atLineEnd s) k next (length s) (omega arith) (omega arith)
-        (λ m a b. none-at s m (at m a (none-passes (λ j. mayEndLine (byte s (k + j))) 16 (m - k) (sym e ∙ f) (omega arith))))
-      where
-        at : (m : ℕ) → k ≤ m → mayEndLine (byte s (k + (m - k))) ≡ false → mayEndLine (byte s m) ≡ false
-        at m a t =
-            let q : k + (m - k) ≡ m = omega arith in
-            ap (λ (x : ℕ). mayEndLine (byte s x)) (sym q) ∙ t
+        (λ m a b. none-at s m (block-fails (λ x. mayEndLine (byte s x)) k m (sym e ∙ f) a (omega arith)))
 
     module _ (end : ℕ) (f : Between k next (findLineEnd s k next) end) where
       pub block-ends : end < next → i ≤ k → Between i (length s) (lineEnd s i) end
@@ -144,6 +146,29 @@ module _ (s : List ℕ) (i k : ℕ) (before : lineEnd s i ≡ lineEnd s k) where
 pub ruleset passing-blocks = (needs, block-without, block-ends, block-passed, rest-ends)
 
 pub ruleset looking = (needs, any-none, any-again, any-ended)
+
+-- ---- blanks, from the end
+
+pub none-blank : (b : ℕ) → 0x20 < b → isBlank b ≡ false
+none-blank b h = sym (none-blank-above b h)
+
+-- the loop came down from e and stands at k
+pub block-blankless :
+    (s : List ℕ) (i k e next : ℕ) (r : Bool)
+    → lastBlank s i e ≡ lastBlank s i k
+    → next ≡ k - 16
+    → i + 16 ≤ k
+    → r ≡ any (λ j. leb (byte s (next + j)) 0x20) 16
+    → r ≡ false
+    → lastBlank s i e ≡ lastBlank s i next
+block-blankless s i k e next r before is l f g =
+    before
+    ∙ last-over (λ x. isBlank (byte s x)) i next k (omega arith) (omega arith)
+    (λ m a b. none-blank (byte s m) (leb-false (byte s m) 0x20 (block-fails (λ x. leb (byte s x) 0x20) next m (sym f ∙ g) a (omega arith))))
+
+pub ruleset passing-blankless = (needs, block-blankless)
+
+pub ruleset scanning-blanks = (scanning-down, last-none, none-blank)
 
 -- ---- a text of ASCII bytes is well formed
 

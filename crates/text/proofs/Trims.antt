@@ -1,21 +1,21 @@
 -- Trimming. The end of a trimmed text is the first position from which only whitespace stands up to e; the loop jumps over each run of
 -- whitespace, which is right because no whitespace character starts inside another, so that a walk from inside the run ends where the run does.
-use mathlib.Core.Path.{_≡_, sym, ap, _∙_}
-use mathlib.Core.Bool.{Bool, true, not, _&&_, _||_, true≢false}
+use mathlib.Core.Path.{_≡_, refl, sym, ap, _∙_}
+use mathlib.Core.Bool.{Bool, true, false, not, _&&_, _||_, true≢false}
 use mathlib.Core.List.{List}
 use mathlib.Core.Logic.{⊎-elim}
 use Prim.Native.Nat.{ℕ, zero, suc, _+_, _-_, _%_, _≤_, _<_}
 use native.Mathlib.Nat.{le-refl, lt-irrefl, lt-of-lt-of-le, lt-of-le-of-lt, eq-or-lt-of-le, eq-zero-or-pos}
 use native.Mathlib.Omega.{arith}
 use borrow.Author.Needs.{needs}
-use borrow.Author.Tests.{le-leb, lt-leb, eq-eqb, ne-eqb, eqb-true, ltb-true}
+use borrow.Author.Tests.{le-leb, lt-leb, le-ltb, lt-ltb, eq-eqb, ne-eqb, eqb-true, ltb-true}
 use lib.Dec.{eqb, ltb}
 use lib.ListN.{length}
 use Rattle.text.specs.Class.{isWhitespaceByte, isLineEnd, isBlank, isOtherWhitespace}
 use Rattle.text.specs.Walk.{last, skip, Between}
 use Rattle.text.specs.Whitespace.{byte, isNextLine, isMark, isSeparator, whitespaceOf, whitespaceLen, Width}
-use Rattle.text.specs.Scan.{skipWhitespace, trimStart, trimEnd, backslashesBehind, backslashesBefore, keepEscaped, trimEndUnescaped}
-use Rattle.text.proofs.Tests.{and-left, and-right, or-cases, by-test, le-or-lt, equal, unequal}
+use Rattle.text.specs.Scan.{skipWhitespace, trimStart, trimEnd, endsPlainly, backslashesBehind, backslashesBefore, keepEscaped, trimEndUnescaped}
+use Rattle.text.proofs.Tests.{answer, and-left, and-right, or-cases, by-test, le-or-lt, equal, unequal}
 use Rattle.text.proofs.Walks.{first-here, first-none, first-over, last-found, last-again, last-ended, skip-stays, skip-goes, repeat-keeps}
 use Rattle.text.proofs.Settled.{none-white-above}
 use Rattle.text.proofs.Spaces.{white-inside}
@@ -125,6 +125,8 @@ module _ (s : List ℕ) where
   unfolding trimEnd
   trim-ended i k e before h = first-none _ _ _ h ∙ sym before
 
+pub ruleset trimming = (needs, trim-found, trim-again, trim-ended)
+
 -- ---- a byte that is above space and ASCII is no part of a whitespace character, so what ends with it is not trimmed
 
 three-first : (a b c : ℕ) → isMark a b c || isSeparator a b c ≡ true → a ≡ 0xe2
@@ -166,18 +168,30 @@ module _ (s : List ℕ) (p : ℕ) (above : 0x20 < byte s p) (ascii : byte s p < 
   unfolding skip
   stops-before k h = repeat-keeps (λ j. j ≤ p) (λ j. j + whitespaceLen s j) stays-before (length s) k h
 
-nothing-behind : (s : List ℕ) (i e : ℕ) → i < e → 0x20 < byte s (e - 1) → byte s (e - 1) < 0x80 → e ≡ trimEnd s i e
-unfolding trimEnd
-nothing-behind s i e l above ascii =
-    first-none _ e e (le-refl e)
-    ∙ sym (first-over _ i e e (omega arith) (le-refl e) (λ m a b. lt-leb e (skipWhitespace s m) (omega (arith, stops-before s (e - 1) above ascii m (omega arith)))))
+module _ (s : List ℕ) (i e : ℕ) where
+  pub empty-not-plain : e ≤ i → false ≡ endsPlainly s i e
+  unfolding endsPlainly
+  empty-not-plain h = rw (le-ltb i e h)
 
-pub nothing-trailing : (s : List ℕ) (i e : ℕ) → i < e → ltb 0x20 (byte s (e - 1)) && ltb (byte s (e - 1)) 0x80 ≡ true → e ≡ trimEnd s i e
-nothing-trailing s i e l t =
-    let b = byte s (e - 1) in
-    nothing-behind s i e l (ltb-true 0x20 b (and-left (ltb 0x20 b) (ltb b 0x80) t)) (ltb-true b 0x80 (and-right (ltb 0x20 b) (ltb b 0x80) t))
+  pub plain-by-last-byte : i < e → ltb 0x20 (byte s (e - 1)) && ltb (byte s (e - 1)) 0x80 ≡ endsPlainly s i e
+  unfolding endsPlainly
+  plain-by-last-byte h = rw (lt-ltb i e h)
 
-pub ruleset trimming = (needs, trim-found, trim-again, trim-ended, nothing-trailing)
+  nothing-behind : i < e → 0x20 < byte s (e - 1) → byte s (e - 1) < 0x80 → e ≡ trimEnd s i e
+  unfolding trimEnd
+  nothing-behind l above ascii =
+      first-none _ e e (le-refl e)
+      ∙ sym (first-over _ i e e (omega arith) (le-refl e) (λ m a b. lt-leb e (skipWhitespace s m) (omega (arith, stops-before s (e - 1) above ascii m (omega arith)))))
+
+  pub plain-end : endsPlainly s i e ≡ true → e ≡ trimEnd s i e
+  unfolding endsPlainly
+  plain-end t =
+      let b = byte s (e - 1) in
+      let u = and-right (ltb i e) (ltb 0x20 b && ltb b 0x80) t in
+      nothing-behind (ltb-true i e (and-left (ltb i e) (ltb 0x20 b && ltb b 0x80) t)) (ltb-true 0x20 b (and-left (ltb 0x20 b) (ltb b 0x80) u))
+      (ltb-true b 0x80 (and-right (ltb 0x20 b) (ltb b 0x80) u))
+
+pub ruleset ending-plainly = (needs, answer, empty-not-plain, plain-by-last-byte, plain-end)
 
 -- ---- at the start
 
@@ -227,4 +241,8 @@ module _ (s : List ℕ) (i e u : ℕ) (f : Between i e (trimEnd s i e) u) (l : e
     unfolding trimEndUnescaped keepEscaped
     all-trimmed o = record { is = rw (← f .is, ne-eqb u e d, ← c, ne-eqb (n % 2) 1 o); from = f .from; to = omega (arith, f .to) }
 
-pub ruleset trimming-escaped = (needs, nothing-trimmed, escaped-kept, all-trimmed)
+pub plain-end-kept : (s : List ℕ) (i e : ℕ) → endsPlainly s i e ≡ true → i ≤ e → e ≤ length s → Between i (length s) (trimEndUnescaped s i e) e
+plain-end-kept s i e t h l =
+    nothing-trimmed s i e e (record { is = plain-end s i e t; from = h; to = le-refl e }) l refl h
+
+pub ruleset trimming-escaped = (needs, answer, plain-end-kept, nothing-trimmed, escaped-kept, all-trimmed)

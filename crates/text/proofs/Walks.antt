@@ -120,6 +120,19 @@ module _ (test : ℕ → Bool) (i k e : ℕ) (before : last test i e ≡ last te
   pub last-ended : k ≤ i → Nothing ≡ last test i e
   last-ended h = last-none test i k h ∙ sym before
 
+-- positions that all fail are passed over at once
+module _ (test : ℕ → Bool) where
+  down : (n i j e : ℕ) → j + n ≡ e → i ≤ j → ((m : ℕ) → j ≤ m → m < e → test m ≡ false) → last test i e ≡ last test i j
+  down zero i j e q h f =
+      let p : e ≡ j = omega arith in
+      ap (last test i) p
+  down (suc n) i j e q h f =
+      last-next test i e (omega arith) (f (e - 1) (omega arith) (omega arith))
+      ∙ down n i j (e - 1) (omega arith) h (λ m a b. f m a (omega arith))
+
+  pub last-over : (i j e : ℕ) → i ≤ j → j ≤ e → ((m : ℕ) → j ≤ m → m < e → test m ≡ false) → last test i e ≡ last test i j
+  last-over i j e h l f = down (e - j) i j e (omega arith) h f
+
 -- where a position passes, the last that does is not before it
 pub record Last (f : Found) (j e : ℕ) : Type 0 where
   pub place : ℕ

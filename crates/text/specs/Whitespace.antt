@@ -47,9 +47,9 @@ atWhitespace s i = ltb 0 (whitespaceLen s i)
 abbrev pub atLineEnd : List ℕ → ℕ → Bool
 atLineEnd s i = ltb 0 (lineEndLen s i)
 
--- 0A to 0D, and E2: every line end starts with one of these bytes, though form feed is none (01, Characters)
+-- below 0E, or 80 and above: every line end starts with one of these bytes, though most of them start none (01, Characters)
 abbrev pub mayEndLine : ℕ → Bool
-mayEndLine a = (leb 0x0a a && leb a 0x0d) || eqb a 0xe2
+mayEndLine a = ltb a 0x0e || leb 0x80 a
 
 -- r is n, and that many bytes stand at i
 pub record Width (s : List ℕ) (i n r : ℕ) : Type 0 where

@@ -1,10 +1,11 @@
 // Scanners: each walks once, forward or backward, and answers where it stops.
 ghost use mathlib.Core.Path.{_≡_};
 ghost use Prim.Native.Nat.{_+_, _≤_};
+ghost use lib.Dec.{leb};
 ghost use lib.ListN.{length};
 ghost use Rattle.text.specs.Walk.{Between, any};
 ghost use Rattle.text.specs.Whitespace.{byte, mayEndLine};
-ghost use Rattle.text.specs.Scan.{skipWhitespace, skipLineEnds, skipBlanks, findLineEnd, lineEnd, findWhitespace, skipAsciiWhitespace, findAsciiWhitespace, findByte, lastBlank, trimStart, trimEnd, backslashesBefore, trimEndUnescaped};
+ghost use Rattle.text.specs.Scan.{skipWhitespace, skipLineEnds, skipBlanks, findLineEnd, lineEnd, findWhitespace, skipAsciiWhitespace, findAsciiWhitespace, findByte, lastBlank, trimStart, trimEnd, endsPlainly, backslashesBefore, trimEndUnescaped};
 use crate::Found;
 use crate::class::is_ascii_whitespace;
 use crate::class::is_blank;
@@ -61,15 +62,18 @@ pub fn parse_spaces(s: &[u8], i: usize) -> usize
     k
 }
 
-// The first line end from i to before e, or e.
+// The first line end from i to before e, or e. Most bytes start none, which one test tells.
 fn find_line_end(s: &[u8], i: usize, e: usize) -> usize
     requires { ⌜ (i ≤ e) × (e ≤ length (now s)) ⌝ }
     ensures { λ r. ⌜ Between i e (findLineEnd (now (s .entry)) i e) r ⌝ }
 {
     let mut k = i;
     while k < e {
-        if at_line_end(s, k) {
-            return k;
+        let b = s[k];
+        if (b < 0x0e) | (0x80 <= b) {
+            if at_line_end(s, k) {
+                return k;
+            }
         }
         k += 1;
     }
@@ -85,7 +89,7 @@ fn block_may_end_line(s: &[u8], i: usize) -> bool
     let mut j = 0;
     while j < BLOCK {
         let b = s[i + j];
-        found = found | (((0x0a <= b) & (b <= 0x0d)) | (b == 0xe2));
+        found = found | ((b < 0x0e) | (0x80 <= b));
         j += 1;
     }
     found
@@ -167,16 +171,52 @@ pub fn find_byte(s: &[u8], i: usize, e: usize, b: u8) -> usize
     k
 }
 
-// The last space or tab from i to before e.
+// Whether one of the 16 bytes from i on may be a blank.
+fn block_may_have_blank(s: &[u8], i: usize) -> bool
+    requires { ⌜ i + 16 ≤ length (now s) ⌝ }
+    ensures { λ r. ⌜ r ≡ any (λ j. leb (byte (now (s .entry)) (i + j)) 0x20) 16 ⌝ }
+{
+    let mut found = false;
+    let mut j = 0;
+    while j < BLOCK {
+        found = found | (s[i + j] <= 0x20);
+        j += 1;
+    }
+    found
+}
+
+// Down from e past the blocks in which no blank stands. That i is within the text keeps i + 16 in range.
+fn past_blankless(s: &[u8], i: usize, e: usize) -> usize
+    requires { ⌜ (i ≤ e) × (e ≤ length (now s)) ⌝ }
+    ensures { λ r. ⌜ (r ≤ e) × (lastBlank (now (s .entry)) i e ≡ lastBlank (now (s .entry)) i r) ⌝ }
+{
+    let mut k = e;
+    while i + BLOCK <= k {
+        let next = k - BLOCK;
+        if block_may_have_blank(s, next) {
+            return k;
+        }
+        k = next;
+    }
+    k
+}
+
+// The last space or tab from i to before e. Blocks without a candidate are passed at once.
 pub fn last_blank(s: &[u8], i: usize, e: usize) -> Found
     requires { ⌜ e ≤ length (now s) ⌝ }
     ensures { λ r. ⌜ r ≡ lastBlank (now (s .entry)) i e ⌝ }
 {
-    let mut k = e;
+    if e <= i {
+        return Found::Nothing;
+    }
+    let mut k = past_blankless(s, i, e);
     while i < k {
         let j = k - 1;
-        if is_blank(s[j]) {
-            return Found::At(j);
+        let b = s[j];
+        if b <= 0x20 {
+            if is_blank(b) {
+                return Found::At(j);
+            }
         }
         k = j;
     }
@@ -194,18 +234,23 @@ pub fn trim_start(s: &[u8], i: usize, e: usize) -> usize
     e
 }
 
-// Most texts end with a byte that is no part of whitespace. Otherwise each byte is passed once: whitespace goes from k to w, and what stands
-// at w is none, so the end is past w.
-pub fn trim_end(s: &[u8], i: usize, e: usize) -> usize
+// Whether the text from i to e ends with an ASCII byte above space, as most do: no whitespace character has such a byte.
+fn ends_plainly(s: &[u8], i: usize, e: usize) -> bool
+    requires { ⌜ e ≤ length (now s) ⌝ }
+    ensures { λ r. ⌜ r ≡ endsPlainly (now (s .entry)) i e ⌝ }
+{
+    if e <= i {
+        return false;
+    }
+    let b = s[e - 1];
+    (0x20 < b) & (b < 0x80)
+}
+
+// Each byte is passed once: whitespace goes from k to w, and what stands at w is none, so the end is past w.
+fn trim_end_by_characters(s: &[u8], i: usize, e: usize) -> usize
     requires { ⌜ (i ≤ e) × (e ≤ length (now s)) ⌝ }
     ensures { λ r. ⌜ Between i e (trimEnd (now (s .entry)) i e) r ⌝ }
 {
-    if i < e {
-        let b = s[e - 1];
-        if (0x20 < b) & (b < 0x80) {
-            return e;
-        }
-    }
     let mut k = i;
     while k < e {
         let w = parse_ws(s, k);
@@ -215,6 +260,17 @@ pub fn trim_end(s: &[u8], i: usize, e: usize) -> usize
         k = w + 1;
     }
     k
+}
+
+// The walk is a function of its own, so that the test of the last byte is inlined where this is called.
+pub fn trim_end(s: &[u8], i: usize, e: usize) -> usize
+    requires { ⌜ (i ≤ e) × (e ≤ length (now s)) ⌝ }
+    ensures { λ r. ⌜ Between i e (trimEnd (now (s .entry)) i e) r ⌝ }
+{
+    if ends_plainly(s, i, e) {
+        return e;
+    }
+    trim_end_by_characters(s, i, e)
 }
 
 // How many backslashes stand in front of u, from i on.
@@ -238,7 +294,10 @@ pub fn trim_end_unescaped(s: &[u8], i: usize, e: usize) -> usize
     requires { ⌜ (i ≤ e) × (e ≤ length (now s)) ⌝ }
     ensures { λ r. ⌜ Between i (length (now (s .entry))) (trimEndUnescaped (now (s .entry)) i e) r ⌝ }
 {
-    let u = trim_end(s, i, e);
+    if ends_plainly(s, i, e) {
+        return e;
+    }
+    let u = trim_end_by_characters(s, i, e);
     if u == e {
         return e;
     }

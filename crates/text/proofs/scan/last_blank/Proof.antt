@@ -2,7 +2,7 @@
 use mathlib.Core.Path.{_≡_}
 use Prim.Native.Nat.{_≤_}
 use Rattle.text.specs.Scan.{lastBlank}
-use Rattle.text.proofs.Walks.{scanning-down}
+use Rattle.text.proofs.Blocks.{scanning-blanks}
 use Rattle.text.proofs.scan.last_blank.Statement.{statement}
 use Rattle.text.proofs.scan.last_blank.Tie as tie
 
@@ -18,11 +18,15 @@ last-blank-spec =
     (tie.spec
     Inv-loop
     μ-loop
-    (λ c. search scanning-down)
-    (λ c. search scanning-down)
-    (λ c. search scanning-down)
-    (λ c κs. search scanning-down)
-    (λ c. search scanning-down)
-    (λ c. search scanning-down)
-    (λ c. search scanning-down)
-    (λ c. search scanning-down))
+    (λ c. search scanning-blanks)
+    (λ c κs. search scanning-blanks)
+    (λ c. search scanning-blanks)
+    (λ c. search scanning-blanks)
+    (λ c. search scanning-blanks)
+    (λ c κs. search scanning-blanks)
+    (λ c. search scanning-blanks)
+    (λ c. search scanning-blanks)
+    (λ c. search scanning-blanks)
+    (λ c. search scanning-blanks)
+    (λ c. search scanning-blanks)
+    (λ c. search scanning-blanks))

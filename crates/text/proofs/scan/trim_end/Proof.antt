@@ -1,30 +1,13 @@
--- `text::scan::trim_end` meets its contract: a last byte above space is told; otherwise from where the loop stands the trimmed text ends at the same place.
-use mathlib.Core.Path.{_≡_}
-use Prim.Native.Nat.{_≤_, _-_}
-use Rattle.text.specs.Scan.{trimEnd}
-use Rattle.text.proofs.Trims.{trimming}
+-- `text::scan::trim_end` meets its contract: a text that ends plainly is not trimmed, and the walk trims any other.
+use Rattle.text.proofs.Trims.{ending-plainly}
 use Rattle.text.proofs.scan.trim_end.Statement.{statement}
 use Rattle.text.proofs.scan.trim_end.Tie as tie
-
-abbrev Inv-loop : tie.InvT-loop
-Inv-loop s i e k₀ k = (i ≤ k) × (k ≤ e) × (trimEnd s i e ≡ trimEnd s k e)
-
-abbrev μ-loop : tie.MeasureT-loop
-μ-loop s i e k₀ k = e - k
 
 pub trim-end-spec : {M : Type 1} → statement M
 trim-end-spec =
     tie.close
     (tie.spec
-    Inv-loop
-    μ-loop
-    (λ c. search trimming)
-    (λ c. search trimming)
-    (λ c. search trimming)
-    (λ c. search trimming)
-    (λ c κs. search trimming)
-    (λ c. search trimming)
-    (λ c. search trimming)
-    (λ c. search trimming)
-    (λ c. search trimming)
-    (λ c. search trimming))
+    (λ c κs. search ending-plainly)
+    (λ c. search ending-plainly)
+    (λ c κs. search ending-plainly)
+    (λ c. search ending-plainly))

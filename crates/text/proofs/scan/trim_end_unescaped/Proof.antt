@@ -10,6 +10,8 @@ trim-end-unescaped-spec =
     (λ c κs. search trimming-escaped)
     (λ c. search trimming-escaped)
     (λ c κs. search trimming-escaped)
+    (λ c. search trimming-escaped)
+    (λ c κs. search trimming-escaped)
     (λ c κs. search trimming-escaped)
     (λ c. search trimming-escaped)
     (λ c. search trimming-escaped)
