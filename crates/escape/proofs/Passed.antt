@@ -14,7 +14,7 @@ use Rattle.text.specs.Whitespace.{byte}
 use Rattle.text.specs.Utf8.{isContinuation}
 use Rattle.text.proofs.Tests.{answer, by-test}
 use Rattle.text.proofs.Walks.{first-from, repeat-stop, repeat-go}
-use Rattle.escape.specs.Escape.{nextBackslash, hasEscape, escapeAt, charEnd, isKept, pastEscape, pastKept, pastAllKept, isRewritten, lastWhole, dropLone, rewrittenEnd}
+use Rattle.escape.specs.Escape.{nextBackslash, hasEscape, escapeAt, charEnd, isKept, pastEscape, pastKept, pastAllKept, isRewritten, lastWhole}
 
 -- ---- one escape passed: q is the next backslash, r behind the escape
 
@@ -111,14 +111,3 @@ unfolding isRewritten hasEscape
 rewritten-test s i c p q f g = rw (← f .is, ← g .is)
 
 pub ruleset asking = (needs, rewritten-test)
-
-module _ (s : List ℕ) (i c w q : ℕ) (f : Between i c (lastWhole s i c) w) (g : Between w c (nextBackslash s c w) q) where
-  pub end-lone : q < c → Between i c (rewrittenEnd s i c) w
-  unfolding rewrittenEnd dropLone
-  end-lone h = record { is = rw (← f .is, ← g .is, lt-ltb q c h); from = f .from; to = f .to }
-
-  pub end-whole : c ≤ q → i ≤ c → Between i c (rewrittenEnd s i c) c
-  unfolding rewrittenEnd dropLone
-  end-whole h l = record { is = rw (← f .is, ← g .is, le-ltb q c h); from = l; to = omega arith }
-
-pub ruleset endings = (needs, end-lone, end-whole)

@@ -135,11 +135,17 @@ fn last_whole(src: &[u8], i: usize, c: usize) -> usize
     }
 }
 
-// Where what is rewritten ends: a lone last backslash drops everything behind the last whole escape.
+// Where what is rewritten ends: a lone last backslash drops everything behind the last whole escape. A pattern that does not end with a backslash
+// has none, so that its escapes need not be passed.
 fn rewritten_end(src: &[u8], i: usize, c: usize) -> usize
     requires { ⌜ (i ≤ c) × (c ≤ length (now src)) ⌝ }
     ensures { λ r. ⌜ Between i c (rewrittenEnd (now (src .entry)) i c) r ⌝ }
 {
+    if i < c {
+        if src[c - 1] != BACKSLASH {
+            return c;
+        }
+    }
     let w = last_whole(src, i, c);
     if find_byte(src, w, c, BACKSLASH) < c {
         return w;
