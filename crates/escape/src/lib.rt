@@ -5,7 +5,7 @@ ghost use lib.ListN.{length};
 ghost use Rattle.text.specs.Walk.{Between};
 ghost use Rattle.area.specs.Areas.{PushedText};
 ghost use Rattle.area.specs.Contents.{Held, Grows, append, textFormat};
-ghost use Rattle.escape.specs.Escape.{isCodeLetter, isCode, isKeptBy, isKept, charEnd, pastEscape, pastKept, pastAllKept, isRewritten, lastWhole, rewrittenEnd, backspace, escaped, pieceEnd, piece, unescaped};
+ghost use Rattle.escape.specs.Escape.{isCodeLetter, isCode, isKeptBy, isKept, charEnd, pastEscape, isRewritten, lastWhole, rewrittenEnd, backspace, escaped, pieceEnd, piece, unescaped};
 use area::Appended;
 use area::push_text;
 use text::class::is_always_kept;
@@ -82,42 +82,22 @@ fn past_escape(src: &[u8], c: usize, p: usize) -> usize
     p
 }
 
-// The same if that escape stays, or p where it does not.
-fn past_kept(src: &[u8], c: usize, p: usize) -> usize
-    requires { ⌜ (p ≤ c) × (c ≤ length (now src)) ⌝ }
-    ensures { λ r. ⌜ Between p c (pastKept (now (src .entry)) c p) r ⌝ }
-{
-    let q = find_byte(src, p, c, BACKSLASH);
-    if q + 1 < c {
-        if is_kept(src, c, q + 1) {
-            return char_end(src, c, q + 1);
-        }
-    }
-    p
-}
-
-// Behind the escapes that come first and stay.
-fn past_all_kept(src: &[u8], i: usize, c: usize) -> usize
-    requires { ⌜ (i ≤ c) × (c ≤ length (now src)) ⌝ }
-    ensures { λ r. ⌜ Between i c (pastAllKept (now (src .entry)) i c) r ⌝ }
-{
-    let mut p = i;
-    loop {
-        let e = past_kept(src, c, p);
-        if e == p {
-            return p;
-        }
-        p = e;
-    }
-}
-
-// Whether an escape of the pattern from i to c does not stay: one follows behind those that do.
+// Whether an escape of the pattern from i to c does not stay.
 pub fn is_rewritten(src: &[u8], i: usize, c: usize) -> bool
     requires { ⌜ (i ≤ c) × (c ≤ length (now src)) ⌝ }
     ensures { λ r. ⌜ r ≡ isRewritten (now (src .entry)) i c ⌝ }
 {
-    let p = past_all_kept(src, i, c);
-    find_byte(src, p, c, BACKSLASH) + 1 < c
+    let mut p = i;
+    loop {
+        let q = find_byte(src, p, c, BACKSLASH);
+        if c <= q + 1 {
+            return false;
+        }
+        if !is_kept(src, c, q + 1) {
+            return true;
+        }
+        p = char_end(src, c, q + 1);
+    }
 }
 
 // Behind the last whole escape.
