@@ -10,54 +10,15 @@ use borrow.Author.Needs.{needs}
 use borrow.Author.Tests.{le-ltb, lt-ltb, ltb-true, ltb-false, eqb-true, eq-eqb, ne-eqb}
 use lib.Dec.{ltb, eqb}
 use lib.ListN.{length}
-use Rattle.text.specs.Walk.{first, repeat, Between}
+use Rattle.text.specs.Walk.{repeat, Between}
 use Rattle.text.specs.Whitespace.{byte}
 use Rattle.text.proofs.Tests.{by-test, le-or-lt}
 use Rattle.text.proofs.Walks.{first-from, first-here, first-next, first-to, repeat-stop, repeat-go, repeat-stays}
 use Rattle.escape.specs.Escape.{nextBackslash, hasEscape, escapeAt, charEnd, pastEscape, lastWhole, dropLone, rewrittenEnd, pieceEnd}
-use Rattle.escape.proofs.Passed.{isBackslash, char-from, escape-from, past-nearer}
-
--- ---- the first position that passes: the test passes there, and an end behind it does not matter
-
-module _ (test : ℕ → Bool) where
-  passes : (n i e : ℕ) → e - i ≤ n → first test i e < e → test (first test i e) ≡ true
-  passes zero i e k h = absurd (omega (arith, first-from test i e))
-  passes (suc n) i e k h = go (test i) refl (passes n (i + 1) e)
-    where
-      inside : i < e
-      inside = omega (arith, first-from test i e)
-
-      go : (t : Bool) → test i ≡ t → (e - (i + 1) ≤ n → first test (i + 1) e < e → test (first test (i + 1) e) ≡ true) → test (first test i e) ≡ true
-      go true t later = ap test (sym (first-here test i e inside t)) ∙ t
-      go false t later =
-          let q : first test i e ≡ first test (i + 1) e = first-next test i e inside t in
-          ap test q ∙ later (omega arith) (omega arith)
-
-  shorter : (n i z e : ℕ) → z - i ≤ n → z ≤ e → first test i e < z → first test i z ≡ first test i e
-  shorter zero i z e k l h = absurd (omega (arith, first-from test i e))
-  shorter (suc n) i z e k l h = go (test i) refl (shorter n (i + 1) z e)
-    where
-      inside : i < z
-      inside = omega (arith, first-from test i e)
-
-      go : (t : Bool) → test i ≡ t → (z - (i + 1) ≤ n → z ≤ e → first test (i + 1) e < z → first test (i + 1) z ≡ first test (i + 1) e) → first test i z ≡ first test i e
-      go true t later = sym (first-here test i z inside t) ∙ first-here test i e (omega (arith, inside)) t
-      go false t later =
-          let q : first test i e ≡ first test (i + 1) e = first-next test i e (omega (arith, inside)) t in
-          first-next test i z inside t ∙ later (omega arith) l (omega arith) ∙ sym q
+use Rattle.escape.proofs.Backslashes.{isBackslash, shorter, next-is, backslash-again}
+use Rattle.escape.proofs.Passed.{char-from, escape-from, past-nearer}
 
 module _ (s : List ℕ) (c : ℕ) where
-  next-passes : (p : ℕ) → nextBackslash s c p < c → isBackslash s (nextBackslash s c p) ≡ true
-  next-passes p h = passes (isBackslash s) (c - p) p c (omega arith) h
-
-  -- a backslash stands there
-  next-is : (p : ℕ) → nextBackslash s c p < c → byte s (nextBackslash s c p) ≡ 0x5c
-  next-is p h = eqb-true (byte s (nextBackslash s c p)) 0x5c (next-passes p h)
-
-  -- the next backslash from the next one on is the same
-  backslash-again : (p : ℕ) → nextBackslash s c p < c → nextBackslash s c (nextBackslash s c p) ≡ nextBackslash s c p
-  backslash-again p h = sym (first-here (isBackslash s) (nextBackslash s c p) c h (next-passes p h))
-
   -- ---- the last whole escape
 
   module _ (p : ℕ) where

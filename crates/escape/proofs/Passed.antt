@@ -7,7 +7,6 @@ use Prim.Native.Nat.{ℕ, _+_, _-_, _≤_, _<_}
 use native.Mathlib.Omega.{arith}
 use borrow.Author.Needs.{needs}
 use borrow.Author.Tests.{lt-ltb, le-ltb, ltb-true, not-true, not-false}
-use lib.Dec.{eqb}
 use lib.ListN.{length}
 use Rattle.text.specs.Walk.{Between}
 use Rattle.text.specs.Whitespace.{byte}
@@ -15,6 +14,7 @@ use Rattle.text.specs.Utf8.{isContinuation}
 use Rattle.text.proofs.Tests.{answer-not, by-test}
 use Rattle.text.proofs.Walks.{first-from, repeat-stop, repeat-go}
 use Rattle.escape.specs.Escape.{nextBackslash, hasEscape, escapeAt, charEnd, isKept, pastEscape, pastKept, pastAllKept, isRewritten, lastWhole}
+use Rattle.escape.proofs.Backslashes.{isBackslash, backslash-again}
 
 -- ---- one escape passed: q is the next backslash, r behind the escape
 
@@ -30,9 +30,6 @@ module _ (s : List ℕ) (c p q r : ℕ) (f : Between p c (nextBackslash s c p) q
 pub ruleset passing = (needs, escape-none, escape-passed)
 
 -- ---- a step comes nearer to the end
-
-abbrev pub isBackslash : List ℕ → ℕ → Bool
-isBackslash s k = eqb (byte s k) 0x5c
 
 pub char-from : (s : List ℕ) (c q : ℕ) → q + 1 ≤ charEnd s c q
 char-from s c q = first-from (λ k. not (isContinuation (byte s k))) (q + 1) c
@@ -79,21 +76,20 @@ module _ (s : List ℕ) (i c p e : ℕ) (before : lastWhole s i c ≡ lastWhole 
 
 pub ruleset wholes = (needs, whole-ended, whole-again)
 
--- ---- a loop that asks for an escape that does not stay
+-- ---- whether an escape follows that does not stay
 
 module _ (s : List ℕ) (c p : ℕ) where
-  -- none of the kept kind follows
   rewritten-stays : pastKept s c p ≡ p → isRewritten s p c ≡ hasEscape s c p
   unfolding isRewritten pastAllKept
   rewritten-stays e = ap (hasEscape s c) (sym (repeat-stop (pastKept s c) (length s) p e))
 
-  -- one follows and is passed
-  rewritten-over : (pastKept s c p ≡ p → ⊥) → c ≤ length s → isRewritten s p c ≡ isRewritten s (pastKept s c p) c
+  rewritten-goes : (pastKept s c p ≡ p → ⊥) → c ≤ length s → isRewritten s p c ≡ isRewritten s (pastKept s c p) c
   unfolding isRewritten pastAllKept
-  rewritten-over d h = ap (hasEscape s c) (repeat-go (pastKept s c) (λ k. c - k) (kept-nearer s c) (length s) p (omega arith) d)
+  rewritten-goes d h = ap (hasEscape s c) (repeat-go (pastKept s c) (λ k. c - k) (kept-nearer s c) (length s) p (omega arith) d)
 
 -- q is the next backslash from p on
 module _ (s : List ℕ) (c p q : ℕ) (f : Between p c (nextBackslash s c p) q) where
+  -- no whole escape
   none-from : c ≤ q + 1 → isRewritten s p c ≡ false
   unfolding pastKept hasEscape
   none-from h =
@@ -105,13 +101,35 @@ module _ (s : List ℕ) (c p q : ℕ) (f : Between p c (nextBackslash s c p) q) 
     unfolding hasEscape
     escape-next = rw (← f .is) (lt-ltb (q + 1) c h)
 
+    -- one that does not stay
     other-next : isKept s c (q + 1) ≡ false → isRewritten s p c ≡ true
     unfolding pastKept
     other-next k = rewritten-stays s c p (rw (← f .is, escape-next, k)) ∙ escape-next
 
+    -- one that stays
     kept-next : isKept s c (q + 1) ≡ true → pastKept s c p ≡ charEnd s c (q + 1)
     unfolding pastKept
     kept-next k = rw (← f .is, escape-next, k)
+
+    kept-over : isKept s c (q + 1) ≡ true → c ≤ length s → isRewritten s p c ≡ isRewritten s (charEnd s c (q + 1)) c
+    kept-over k l =
+        rewritten-goes s c p (λ z. omega (arith, kept-next k, char-from s c (q + 1), f .from)) l
+        ∙ ap (λ (j : ℕ). isRewritten s j c) (kept-next k)
+
+-- from the first backslash on the same escapes follow
+module _ (s : List ℕ) (i c q : ℕ) (f : Between i c (nextBackslash s c i) q) (h : q + 1 < c) (l : c ≤ length s) where
+  next-here : Between q c (nextBackslash s c q) q
+  next-here = record { is = rw (f .is) (sym (backslash-again s c i (omega (arith, f .is)))); from = omega arith; to = f .to }
+
+  rewritten-next : isRewritten s q c ≡ isRewritten s i c
+  rewritten-next = go (isKept s c (q + 1)) refl
+    where
+      go : (t : Bool) → isKept s c (q + 1) ≡ t → isRewritten s q c ≡ isRewritten s i c
+      go true k = kept-over s c q q next-here h k l ∙ sym (kept-over s c i q f h k l)
+      go false k = other-next s c q q next-here h k ∙ sym (other-next s c i q f h k)
+
+  pub rewritten-from : (r : Bool) → r ≡ isRewritten s q c → r ≡ isRewritten s i c
+  rewritten-from r e = e ∙ rewritten-next
 
 -- the loop began at i and stands at p; the next escape's character goes from q + 1 to e
 module _ (s : List ℕ) (i c p q : ℕ) (before : isRewritten s i c ≡ isRewritten s p c) (f : Between p c (nextBackslash s c p) q) where
@@ -122,8 +140,6 @@ module _ (s : List ℕ) (i c p q : ℕ) (before : isRewritten s i c ≡ isRewrit
   one-rewritten h k = sym (before ∙ other-next s c p q f h (not-true _ k))
 
   pub rewritten-again : (e : ℕ) → q + 1 < c → not (isKept s c (q + 1)) ≡ false → Between (q + 1 + 1) c (charEnd s c (q + 1)) e → c ≤ length s → isRewritten s i c ≡ isRewritten s e c
-  rewritten-again e h k d l =
-      let n : pastKept s c p ≡ e = kept-next s c p q f h (not-false _ k) ∙ sym (d .is) in
-      before ∙ rewritten-over s c p (λ z. omega (arith, f .from, d .from)) l ∙ ap (λ (j : ℕ). isRewritten s j c) n
+  rewritten-again e h k d l = rw (d .is) (before ∙ kept-over s c p q f h (not-false _ k) l)
 
-pub ruleset asking = (needs, answer-not, none-rewritten, one-rewritten, rewritten-again)
+pub ruleset asking = (needs, answer-not, rewritten-from, none-rewritten, one-rewritten, rewritten-again)

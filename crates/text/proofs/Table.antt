@@ -10,7 +10,7 @@ use native.Mathlib.Nat.{not-suc-le-zero, eq-or-lt-of-le, le-of-suc-le-suc}
 use borrow.Author.Tests.{eqb-true}
 use lib.Dec.{eqb}
 use lib.ListN.{getD}
-use Rattle.text.specs.Class.{Classes, has, isLineEnd, isBlank, isOtherWhitespace, isLetter, isDigit, isHexDigit, isMetaCharacter, isEscapeLetter}
+use Rattle.text.specs.Class.{Classes, ClassTable, has, isLineEnd, isBlank, isOtherWhitespace, isLetter, isDigit, isHexDigit, isMetaCharacter, isEscapeLetter}
 use Rattle.text.proofs.Tests.{and-left, and-right}
 
 -- the test passes at each number below n
@@ -82,6 +82,9 @@ table = entries 256 0
 pub table-rule : (b : ℕ) → b < 256 → Classes b (getD table b 0)
 unfolding right table
 table-rule b h = right-says b (getD table b 0) (at-each (λ k. right k (getD table k 0)) 256 b refl h)
+
+pub class-table : ClassTable table
+class-table = record { rule = table-rule }
 
 -- a byte of 128 or more has no class
 pub no-class-above : (k : ℕ) → k < 128 → getD table (128 + k) 0 ≡ 0
