@@ -263,14 +263,18 @@ pub const CLASS: [u8; 256] = [
     0,
 ];
 
+// A constant array has no place of its own: each look into it lays it out anew on the stack. A byte of 128 or more has no class and is told
+// before, so that half of the table is enough.
 pub fn class(b: u8) -> u8
     ensures { λ r. ⌜ Classes b r ⌝ }
 {
+    if 0x80 <= b {
+        return 0;
+    }
     CLASS[b as usize]
 }
 
-// `class` lays the table out anew on the stack for each look into it, since a constant array has no place of its own. So line feed, space and
-// what is above them, by far the most bytes of a file, are told before.
+// Line feed, space and what is above them, by far the most bytes of a file, are told without a look into the table.
 
 pub fn is_line_end(b: u8) -> bool
     ensures { λ r. ⌜ r ≡ isLineEnd b ⌝ }
