@@ -105,7 +105,7 @@ fn is_rewritten_from(src: &[u8], i: usize, c: usize) -> bool
     }
 }
 
-// The same. No table is laid out for a pattern without an escape, as most are.
+// The same. No table is laid out for a pattern without a whole escape.
 pub fn is_rewritten(src: &[u8], i: usize, c: usize) -> bool
     requires { ⌜ (i ≤ c) × (c ≤ length (now src)) ⌝ }
     ensures { λ r. ⌜ r ≡ isRewritten (now (src .entry)) i c ⌝ }
