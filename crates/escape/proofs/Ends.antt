@@ -2,6 +2,7 @@
 use mathlib.Core.Path.{_≡_, refl, sym, ap, _∙_}
 use mathlib.Core.Bool.{Bool, true, false}
 use mathlib.Core.List.{List}
+use mathlib.Core.Logic.{_⊎_, inl, inr}
 use Prim.Native.Nat.{ℕ, zero, suc, _+_, _-_, _≤_, _<_}
 use native.Mathlib.Nat.{le-refl}
 use native.Mathlib.Omega.{arith}
@@ -9,47 +10,15 @@ use borrow.Author.Needs.{needs}
 use borrow.Author.Tests.{le-ltb, lt-ltb, ltb-true, ltb-false, eqb-true, eq-eqb, ne-eqb}
 use lib.Dec.{ltb, eqb}
 use lib.ListN.{length}
-use Rattle.text.specs.Walk.{first, repeat, Between}
+use Rattle.text.specs.Walk.{repeat, Between}
 use Rattle.text.specs.Whitespace.{byte}
-use Rattle.text.proofs.Tests.{by-test}
-use Rattle.text.proofs.Walks.{first-from, first-here, first-next, first-to, repeat-stop, repeat-go}
+use Rattle.text.proofs.Tests.{by-test, le-or-lt}
+use Rattle.text.proofs.Walks.{first-from, first-here, first-next, first-to, repeat-stop, repeat-go, repeat-stays}
 use Rattle.escape.specs.Escape.{nextBackslash, hasEscape, escapeAt, charEnd, pastEscape, lastWhole, dropLone, rewrittenEnd, pieceEnd}
-use Rattle.escape.proofs.Passed.{isBackslash, char-from, escape-from, past-nearer}
-
--- ---- the first position that passes: the test passes there, and an end behind it does not matter
-
-module _ (test : ℕ → Bool) where
-  passes : (n i e : ℕ) → e - i ≤ n → first test i e < e → test (first test i e) ≡ true
-  passes zero i e k h = absurd (omega (arith, first-from test i e))
-  passes (suc n) i e k h = go (test i) refl (passes n (i + 1) e)
-    where
-      inside : i < e
-      inside = omega (arith, first-from test i e)
-
-      go : (t : Bool) → test i ≡ t → (e - (i + 1) ≤ n → first test (i + 1) e < e → test (first test (i + 1) e) ≡ true) → test (first test i e) ≡ true
-      go true t later = ap test (sym (first-here test i e inside t)) ∙ t
-      go false t later =
-          let q : first test i e ≡ first test (i + 1) e = first-next test i e inside t in
-          ap test q ∙ later (omega arith) (omega arith)
-
-  shorter : (n i z e : ℕ) → z - i ≤ n → z ≤ e → first test i e < z → first test i z ≡ first test i e
-  shorter zero i z e k l h = absurd (omega (arith, first-from test i e))
-  shorter (suc n) i z e k l h = go (test i) refl (shorter n (i + 1) z e)
-    where
-      inside : i < z
-      inside = omega (arith, first-from test i e)
-
-      go : (t : Bool) → test i ≡ t → (z - (i + 1) ≤ n → z ≤ e → first test (i + 1) e < z → first test (i + 1) z ≡ first test (i + 1) e) → first test i z ≡ first test i e
-      go true t later = sym (first-here test i z inside t) ∙ first-here test i e (omega (arith, inside)) t
-      go false t later =
-          let q : first test i e ≡ first test (i + 1) e = first-next test i e (omega (arith, inside)) t in
-          first-next test i z inside t ∙ later (omega arith) l (omega arith) ∙ sym q
+use Rattle.escape.proofs.Backslashes.{isBackslash, shorter, next-is, backslash-again}
+use Rattle.escape.proofs.Passed.{char-from, escape-from, past-nearer}
 
 module _ (s : List ℕ) (c : ℕ) where
-  -- the next backslash from the next one on is the same
-  backslash-again : (p : ℕ) → nextBackslash s c p < c → nextBackslash s c (nextBackslash s c p) ≡ nextBackslash s c p
-  backslash-again p h = sym (first-here (isBackslash s) (nextBackslash s c p) c h (passes (isBackslash s) (c - p) p c (omega arith) h))
-
   -- ---- the last whole escape
 
   module _ (p : ℕ) where
@@ -78,6 +47,10 @@ module _ (s : List ℕ) (c : ℕ) where
         repeat-go (pastEscape s c) (λ k. c - k) (past-nearer s c) (length s) p (omega arith)
         (λ q. omega (arith, q, past-is e, escape-from s c p))
         ∙ ap (λ (k : ℕ). repeat (pastEscape s c) (length s) k) (past-is e)
+
+  whole-stops : (k : ℕ) → c ≤ length s → pastEscape s c (lastWhole s k c) ≡ lastWhole s k c
+  unfolding lastWhole
+  whole-stops k h = repeat-stays (pastEscape s c) (λ j. c - j) (past-nearer s c) (length s) k (omega arith)
 
   repeat-from : (n k : ℕ) → k ≤ repeat (pastEscape s c) n k
   unfolding repeat
@@ -115,6 +88,44 @@ module _ (s : List ℕ) (c : ℕ) where
   end-at-end =
       let b : c ≤ nextBackslash s c c = first-from (isBackslash s) c c in
       end-stays c (le-ltb (nextBackslash s c c + 1) c (omega arith)) ∙ drop-none c b
+
+-- ---- where what is rewritten ends: w is behind the last whole escape, q the next backslash
+
+module _ (s : List ℕ) (i c w q : ℕ) (f : Between i c (lastWhole s i c) w) (g : Between w c (nextBackslash s c w) q) where
+  pub end-lone : q < c → Between i c (rewrittenEnd s i c) w
+  unfolding rewrittenEnd dropLone
+  end-lone h = record { is = rw (← f .is, ← g .is, lt-ltb q c h); from = f .from; to = f .to }
+
+  pub end-whole : c ≤ q → i ≤ c → Between i c (rewrittenEnd s i c) c
+  unfolding rewrittenEnd dropLone
+  end-whole h l = record { is = rw (← f .is, ← g .is, le-ltb q c h); from = l; to = omega arith }
+
+-- behind the last whole escape no other follows, so that a backslash there is the last byte; where the last byte is none, nothing is dropped
+module _ (s : List ℕ) (i c : ℕ) (inside : c ≤ length s) where
+  none-behind : hasEscape s c (lastWhole s i c) ≡ false
+  none-behind = go (hasEscape s c (lastWhole s i c)) refl
+    where
+      go : (t : Bool) → hasEscape s c (lastWhole s i c) ≡ t → t ≡ false
+      go true e =
+          absurd (omega (arith, past-is s c (lastWhole s i c) e, whole-stops s c i inside, escape-from s c (lastWhole s i c)))
+      go false e = refl
+
+  lone-is-last : nextBackslash s c (lastWhole s i c) < c → nextBackslash s c (lastWhole s i c) ≡ c - 1
+  unfolding hasEscape
+  lone-is-last h = omega (arith, ltb-false (escapeAt s c (lastWhole s i c)) c none-behind)
+
+  none-lone : (byte s (c - 1) ≡ 0x5c → ⊥) → c ≤ nextBackslash s c (lastWhole s i c)
+  none-lone d = go (le-or-lt c (nextBackslash s c (lastWhole s i c)))
+    where
+      go : (c ≤ nextBackslash s c (lastWhole s i c)) ⊎ (nextBackslash s c (lastWhole s i c) < c) → c ≤ nextBackslash s c (lastWhole s i c)
+      go (inl h) = h
+      go (inr h) = absurd (d (ap (byte s) (sym (lone-is-last h)) ∙ next-is s c (lastWhole s i c) h))
+
+  pub end-plain : (byte s (c - 1) ≡ 0x5c → ⊥) → i ≤ c → Between i c (rewrittenEnd s i c) c
+  unfolding rewrittenEnd
+  end-plain d h = record { is = sym (drop-none s c (lastWhole s i c) (none-lone d)); from = h; to = le-refl c }
+
+pub ruleset endings = (needs, end-plain, end-lone, end-whole)
 
 -- ---- a piece starts at p
 

@@ -1,4 +1,5 @@
 pub mod Kept
+pub mod Backslashes
 pub mod Passed
 pub mod Ends
 pub mod Pieces

@@ -2,13 +2,15 @@
 ghost use mathlib.Core.Path.{_≡_};
 ghost use Prim.Native.Nat.{_+_, _≤_, _<_};
 ghost use lib.ListN.{length};
+ghost use Rattle.text.specs.Class.{ClassTable};
 ghost use Rattle.text.specs.Walk.{Between};
 ghost use Rattle.area.specs.Areas.{PushedText};
 ghost use Rattle.area.specs.Contents.{Held, Grows, append, textFormat};
-ghost use Rattle.escape.specs.Escape.{isCodeLetter, isCode, isKeptBy, isKept, charEnd, pastEscape, pastKept, pastAllKept, isRewritten, lastWhole, rewrittenEnd, backspace, escaped, pieceEnd, piece, unescaped};
+ghost use Rattle.escape.specs.Escape.{isCodeLetter, isCode, isKeptBy, isKept, charEnd, pastEscape, isRewritten, lastWhole, rewrittenEnd, backspace, escaped, pieceEnd, piece, unescaped};
 use area::Appended;
 use area::push_text;
-use text::class::is_always_kept;
+use text::class::CLASS;
+use text::class::is_always_kept_in;
 use text::class::is_hex_digit;
 use text::scan::find_byte;
 use text::utf8::is_continuation;
@@ -36,21 +38,23 @@ fn is_code(x: u8, y: u8, more: bool) -> bool
 }
 
 // Whether an escape of the byte x stays as it is. The next byte is y, if there is one more.
-fn is_kept_by(x: u8, y: u8, more: bool) -> bool
+fn is_kept_by(classes: &[u8; 256], x: u8, y: u8, more: bool) -> bool
+    requires { ⌜ ClassTable (now classes) ⌝ }
     ensures { λ r. ⌜ r ≡ isKeptBy x y more ⌝ }
 {
-    if is_always_kept(x) {
+    if is_always_kept_in(classes, x) {
         return true;
     }
     is_code(x, y, more)
 }
 
 // Whether the escape stays whose character starts at q.
-fn is_kept(src: &[u8], c: usize, q: usize) -> bool
+fn is_kept(classes: &[u8; 256], src: &[u8], c: usize, q: usize) -> bool
+    requires { ⌜ ClassTable (now classes) ⌝ }
     requires { ⌜ (q ≤ c) × (c ≤ length (now src)) ⌝ }
     ensures { λ r. ⌜ r ≡ isKept (now (src .entry)) c q ⌝ }
 {
-    is_kept_by(byte_at(src, q), byte_at(src, q + 1), q + 1 < c)
+    is_kept_by(classes, byte_at(src, q), byte_at(src, q + 1), q + 1 < c)
 }
 
 // Where the character ends that starts at q.
@@ -82,42 +86,35 @@ fn past_escape(src: &[u8], c: usize, p: usize) -> usize
     p
 }
 
-// The same if that escape stays, or p where it does not.
-fn past_kept(src: &[u8], c: usize, p: usize) -> usize
-    requires { ⌜ (p ≤ c) × (c ≤ length (now src)) ⌝ }
-    ensures { λ r. ⌜ Between p c (pastKept (now (src .entry)) c p) r ⌝ }
-{
-    let q = find_byte(src, p, c, BACKSLASH);
-    if q + 1 < c {
-        if is_kept(src, c, q + 1) {
-            return char_end(src, c, q + 1);
-        }
-    }
-    p
-}
-
-// Behind the escapes that come first and stay.
-fn past_all_kept(src: &[u8], i: usize, c: usize) -> usize
+// Whether an escape of the pattern from i to c does not stay. The table of classes is laid out once, for all escapes.
+fn is_rewritten_from(src: &[u8], i: usize, c: usize) -> bool
     requires { ⌜ (i ≤ c) × (c ≤ length (now src)) ⌝ }
-    ensures { λ r. ⌜ Between i c (pastAllKept (now (src .entry)) i c) r ⌝ }
+    ensures { λ r. ⌜ r ≡ isRewritten (now (src .entry)) i c ⌝ }
 {
+    let classes = &CLASS;
     let mut p = i;
     loop {
-        let e = past_kept(src, c, p);
-        if e == p {
-            return p;
+        let q = find_byte(src, p, c, BACKSLASH);
+        if c <= q + 1 {
+            return false;
         }
-        p = e;
+        if !is_kept(classes, src, c, q + 1) {
+            return true;
+        }
+        p = char_end(src, c, q + 1);
     }
 }
 
-// Whether an escape of the pattern from i to c does not stay: one follows behind those that do.
+// The same. No table is laid out for a pattern without a whole escape.
 pub fn is_rewritten(src: &[u8], i: usize, c: usize) -> bool
     requires { ⌜ (i ≤ c) × (c ≤ length (now src)) ⌝ }
     ensures { λ r. ⌜ r ≡ isRewritten (now (src .entry)) i c ⌝ }
 {
-    let p = past_all_kept(src, i, c);
-    find_byte(src, p, c, BACKSLASH) + 1 < c
+    let q = find_byte(src, i, c, BACKSLASH);
+    if c <= q + 1 {
+        return false;
+    }
+    is_rewritten_from(src, q, c)
 }
 
 // Behind the last whole escape.
@@ -135,11 +132,17 @@ fn last_whole(src: &[u8], i: usize, c: usize) -> usize
     }
 }
 
-// Where what is rewritten ends: a lone last backslash drops everything behind the last whole escape.
+// Where what is rewritten ends: a lone last backslash drops everything behind the last whole escape. A pattern that does not end with a backslash
+// has none, so that its escapes need not be passed.
 fn rewritten_end(src: &[u8], i: usize, c: usize) -> usize
     requires { ⌜ (i ≤ c) × (c ≤ length (now src)) ⌝ }
     ensures { λ r. ⌜ Between i c (rewrittenEnd (now (src .entry)) i c) r ⌝ }
 {
+    if i < c {
+        if src[c - 1] != BACKSLASH {
+            return c;
+        }
+    }
     let w = last_whole(src, i, c);
     if find_byte(src, w, c, BACKSLASH) < c {
         return w;
@@ -161,6 +164,7 @@ fn push_backspace(flags: u64, area: &mut [u8], n: u16) -> Appended
 
 // What the escape becomes whose character goes from q to e.
 fn push_escape(
+    classes: &[u8; 256],
     src: &[u8],
     flags: u64,
     c: usize,
@@ -169,13 +173,14 @@ fn push_escape(
     area: &mut [u8],
     n: u16,
 ) -> Appended
+    requires { ⌜ ClassTable (now classes) ⌝ }
     requires { ⌜ (0 < q) × (q ≤ e) × (e ≤ c) × (c ≤ length (now src)) ⌝ }
     ensures { λ r. ⌜ PushedText (escaped (now (src .entry)) flags c q e) (now (area .entry)) n r (now (area .exit)) ⌝ }
 {
     if byte_at(src, q) == b'b' {
         return push_backspace(flags, area, n);
     }
-    if is_kept(src, c, q) {
+    if is_kept(classes, src, c, q) {
         return push_text(area, n, src, q - 1, e);
     }
     push_text(area, n, src, q, e)
@@ -195,6 +200,7 @@ fn piece_end(src: &[u8], c: usize, z: usize, p: usize) -> usize
 
 // What the piece from p to e becomes.
 fn push_piece(
+    classes: &[u8; 256],
     src: &[u8],
     flags: u64,
     c: usize,
@@ -203,11 +209,12 @@ fn push_piece(
     area: &mut [u8],
     n: u16,
 ) -> Appended
+    requires { ⌜ ClassTable (now classes) ⌝ }
     requires { ⌜ (p < e) × (e ≤ c) × (c ≤ length (now src)) ⌝ }
     ensures { λ r. ⌜ PushedText (piece (now (src .entry)) flags c p e) (now (area .entry)) n r (now (area .exit)) ⌝ }
 {
     if src[p] == BACKSLASH {
-        return push_escape(src, flags, c, p + 1, e, area, n);
+        return push_escape(classes, src, flags, c, p + 1, e, area, n);
     }
     push_text(area, n, src, p, e)
 }
@@ -218,12 +225,13 @@ pub fn unescape(src: &[u8], flags: u64, i: usize, c: usize, area: &mut [u8], n: 
     requires { ⌜ Held textFormat (now area) n ⌝ }
     ensures { λ r. ⌜ Grows textFormat (append textFormat (length (now (area .entry))) (unescaped (now (src .entry)) flags i c)) (now (area .entry)) n r (now (area .exit)) ⌝ }
 {
+    let classes = &CLASS;
     let z = rewritten_end(src, i, c);
     let mut p = i;
     let mut count = n;
     while p < z {
         let e = piece_end(src, c, z, p);
-        let Appended::Next(more) = push_piece(src, flags, c, p, e, area, count) else {
+        let Appended::Next(more) = push_piece(classes, src, flags, c, p, e, area, count) else {
             return Appended::Full;
         };
         count = more;

@@ -1,16 +1,17 @@
 -- The rule of the table of classes. A test that antt computes at each of the 256 bytes says that the table's entry has the bits of the byte's
 -- classes and no others; one law turns the computed test into the rule at each byte. The table itself is computed from the classes, and antt
 -- compares it with the one in the code.
-use mathlib.Core.Path.{_≡_, refl, subst, sym}
+use mathlib.Core.Path.{_≡_, refl, subst, sym, ap, _∙_}
 use mathlib.Core.Bool.{Bool, true, false, _&&_, cond, false≢true}
 use mathlib.Core.List.{List, [], _∷_}
 use mathlib.Core.Logic.{⊎-elim}
-use Prim.Native.Nat.{ℕ, zero, suc, _+_, _<_}
+use Prim.Native.Nat.{ℕ, zero, suc, _+_, _-_, _≤_, _<_}
 use native.Mathlib.Nat.{not-suc-le-zero, eq-or-lt-of-le, le-of-suc-le-suc}
+use native.Mathlib.Omega.{arith}
 use borrow.Author.Tests.{eqb-true}
 use lib.Dec.{eqb}
 use lib.ListN.{getD}
-use Rattle.text.specs.Class.{Classes, has, isLineEnd, isBlank, isOtherWhitespace, isLetter, isDigit, isHexDigit, isMetaCharacter, isEscapeLetter}
+use Rattle.text.specs.Class.{Classes, ClassTable, has, isLineEnd, isBlank, isOtherWhitespace, isLetter, isDigit, isHexDigit, isMetaCharacter, isEscapeLetter}
 use Rattle.text.proofs.Tests.{and-left, and-right}
 
 -- the test passes at each number below n
@@ -83,7 +84,16 @@ pub table-rule : (b : ℕ) → b < 256 → Classes b (getD table b 0)
 unfolding right table
 table-rule b h = right-says b (getD table b 0) (at-each (λ k. right k (getD table k 0)) 256 b refl h)
 
+pub class-table : ClassTable table
+class-table = record { rule = table-rule }
+
 -- a byte of 128 or more has no class
 pub no-class-above : (k : ℕ) → k < 128 → getD table (128 + k) 0 ≡ 0
 unfolding table
 no-class-above k h = eqb-true (getD table (128 + k) 0) 0 (at-each (λ j. eqb (getD table (128 + j) 0) 0) 128 k refl h)
+
+pub none-above : (b : ℕ) → 0x80 ≤ b → b < 256 → Classes b 0
+none-above b l h =
+    let k : 128 + (b - 128) ≡ b = omega arith in
+    let e : getD table b 0 ≡ 0 = ap (λ (j : ℕ). getD table j 0) (sym k) ∙ no-class-above (b - 128) (omega arith) in
+    subst (Classes b) e (table-rule b h)

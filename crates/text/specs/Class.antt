@@ -1,10 +1,11 @@
 -- 01, Characters: the classes of a byte. A byte of 128 or more is in none of them.
-use Prim.Native.Nat.{ℕ}
+use Prim.Native.Nat.{ℕ, _<_}
 use mathlib.Core.Path.{_≡_}
 use mathlib.Core.Bool.{Bool, false, _&&_, _||_, not}
 use mathlib.Core.List.{List, [], _∷_}
 use lib.Dec.{leb, eqb}
 use lib.Bits.{bitAnd}
+use lib.ListN.{getD}
 
 -- b is from lo to hi
 abbrev pub within : ℕ → ℕ → ℕ → Bool
@@ -67,6 +68,10 @@ pub record Classes (b x : ℕ) : Type 0 where
   pub hexDigit : has x 32 ≡ isHexDigit b
   pub metaCharacter : has x 64 ≡ isMetaCharacter b
   pub escapeLetter : has x 128 ≡ isEscapeLetter b
+
+-- the table l tells the classes of each byte (01, Characters)
+pub record ClassTable (l : List ℕ) : Type 0 where
+  pub rule : (b : ℕ) → b < 256 → Classes b (getD l b 0)
 
 -- the whitespace characters of one byte (01, Characters)
 unfoldable pub isWhitespaceByte : ℕ → Bool

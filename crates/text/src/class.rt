@@ -1,10 +1,10 @@
 // The classes of a byte, by one table (01, Characters).
 ghost use mathlib.Core.Path.{_≡_};
-ghost use Rattle.text.specs.Class.{Classes, isLineEnd, isBlank, isOtherWhitespace, isLetter, isDigit, isHexDigit, isMetaCharacter, isEscapeLetter, isAlwaysKept, isWhitespaceByte, isAsciiWhitespace};
+ghost use Rattle.text.specs.Class.{Classes, ClassTable, isLineEnd, isBlank, isOtherWhitespace, isLetter, isDigit, isHexDigit, isMetaCharacter, isEscapeLetter, isAlwaysKept, isWhitespaceByte, isAsciiWhitespace};
 
 // A mask for each byte: 1 line end, 2 blank, 4 other whitespace, 8 letter, 16 digit, 32 hex digit, 64 meta character,
 // 128 escape letter.
-const CLASS: [u8; 256] = [
+pub const CLASS: [u8; 256] = [
     0,
     0,
     0,
@@ -263,14 +263,18 @@ const CLASS: [u8; 256] = [
     0,
 ];
 
+// A constant array has no place of its own: each look into it lays it out anew on the stack. A byte of 128 or more has no class and is told
+// before, so that half of the table is enough.
 pub fn class(b: u8) -> u8
     ensures { λ r. ⌜ Classes b r ⌝ }
 {
+    if 0x80 <= b {
+        return 0;
+    }
     CLASS[b as usize]
 }
 
-// The table is laid out anew on the stack for each look into it, since a constant array has no place of its own. So line feed, space and what
-// is above them, by far the most bytes of a file, are told before.
+// Line feed, space and what is above them, by far the most bytes of a file, are told without a look into the table.
 
 pub fn is_line_end(b: u8) -> bool
     ensures { λ r. ⌜ r ≡ isLineEnd b ⌝ }
@@ -332,11 +336,13 @@ pub fn is_escape_letter(b: u8) -> bool
     class(b) & 128 != 0
 }
 
-// Whether an escape of the byte stays whatever follows: one look into the table for three classes.
-pub fn is_always_kept(b: u8) -> bool
+// Whether an escape of the byte stays whatever follows: one look for three classes. The table is lent, so that a loop over escapes lays it out
+// once.
+pub fn is_always_kept_in(classes: &[u8; 256], b: u8) -> bool
+    requires { ⌜ ClassTable (now classes) ⌝ }
     ensures { λ r. ⌜ r ≡ isAlwaysKept b ⌝ }
 {
-    let mask = class(b);
+    let mask = classes[b as usize];
     (mask & 64 != 0) | ((mask & 16 != 0) | (mask & 128 != 0))
 }
 

@@ -1,4 +1,4 @@
--- `escape::is_rewritten` meets its contract: an escape follows behind those that stay.
+-- `escape::is_rewritten` meets its contract: no escape at all, or what is answered from the first on.
 use Rattle.escape.proofs.Passed.{asking}
 use Rattle.escape.proofs.is_rewritten.Statement.{statement}
 use Rattle.escape.proofs.is_rewritten.Tie as tie
@@ -8,6 +8,7 @@ is-rewritten-spec =
     tie.close
     (tie.spec
     (λ c κs. search asking)
-    (λ c κs. search asking)
     (λ c. search asking)
+    (λ c. search asking)
+    (λ c κs. search asking)
     (λ c. search asking))
