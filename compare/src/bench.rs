@@ -1,6 +1,7 @@
 //! `compare bench`: the original's times, and ours as ratios. The original does not compile the rules' patterns, which 01
 //! leaves out. Our areas just hold the file's records and are not cleared beforehand.
 
+use crate::bare_walk::{self, Room};
 use crate::case::{FLAG_COMMENTS, SOURCE_LIMIT};
 use crate::show;
 use original::Definition;
@@ -19,7 +20,9 @@ struct Shape {
 pub fn bench() {
     println!("{:44} {:>8} {:>14} {:>14} {:>8}", "shape", "bytes", "original", "ours", "ratio");
     for shape in shapes() {
-        line(shape.name, shape.source.len(), time_original(&shape), time_ours(&shape));
+        let original = time_original(&shape);
+        line(shape.name, shape.source.len(), original, time_ours(&shape));
+        bare_line(original, time_bare_walk(&shape));
     }
     let alike = alike_names();
     line("link: 2,048 rules, 2,048 entries", alike.len(), time_link(&alike), time_our_link(&alike));
@@ -48,6 +51,11 @@ fn line(name: &str, bytes: usize, original: Duration, ours: Option<Duration>) {
         None => ("-".to_string(), "-".to_string()),
     };
     println!("{name:44} {:>8} {:>14} {ours_text:>14} {ratio:>8}", show::number(bytes as u64), microseconds(original));
+}
+
+fn bare_line(original: Duration, bare: Duration) {
+    let (microseconds, ratio) = (bare.as_secs_f64() * 1e6, original.as_secs_f64() / bare.as_secs_f64());
+    println!("    a bare walk, which does less than a parse: {microseconds:.3} microseconds, ratio {ratio:.1}");
 }
 
 fn shapes() -> Vec<Shape> {
@@ -137,6 +145,12 @@ fn time_original(shape: &Shape) -> Duration {
             parsed
         },
     )
+}
+
+fn time_bare_walk(shape: &Shape) -> Duration {
+    let source = shape.source.as_bytes();
+    let comments = shape.flags & FLAG_COMMENTS != 0;
+    best(|| Room::new(source), |room| bare_walk::walk(std::hint::black_box(source), comments, room))
 }
 
 #[cfg(not(feature = "ours"))]

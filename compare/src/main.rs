@@ -1,5 +1,6 @@
 //! Compares Troymantle with the Rust code that it ports.
 
+mod bare_walk;
 mod bench;
 mod broken_sheets;
 mod case;

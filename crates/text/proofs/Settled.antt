@@ -45,4 +45,4 @@ module _ (b : ℕ) where
   unfolding isAlwaysKept
   by-kept-classes x k = rw (k .metaCharacter, k .digit, k .escapeLetter) refl
 
-pub ruleset settling = (needs, line-feed-ends, none-ends-above, space-is-blank, none-blank-above, none-white-above, space-and-line-feed-white, by-three-classes, by-kept-classes)
+pub ruleset settling = (needs, line-feed-ends, none-ends-above, space-is-blank, none-blank-above, none-white-above, space-and-line-feed-white, by-three-classes)
