@@ -103,7 +103,7 @@ pub ruleset finding-marked = (needs, unmarked-missing)
 
 -- ---- marks of the first k rules
 
--- no rule, no mark
+-- marks that are all 0 are those of no rule
 pub marked-none : (s marks : List ℕ) → marks ≡ replicate markCount 0 → Marked s [] marks
 marked-none s marks q = record { long = ap length q ∙ length-replicate {A = ℕ} markCount 0; each = λ j h. absurd (omega (arith, h)) }
 
