@@ -1,2 +1,3 @@
 pub mod Forms
 pub mod Finds
+pub mod Marking

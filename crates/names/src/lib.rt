@@ -1,4 +1,6 @@
 // Names of states and of rules: their form, and the record of a name (01, Declarations and Rules).
+pub mod marks; // marks of the names of rules
+
 ghost use mathlib.Core.Path.{_≡_};
 ghost use Prim.Native.Nat.{_≤_, _<_};
 ghost use lib.ListN.{length};
@@ -6,6 +8,8 @@ ghost use Rattle.text.specs.Walk.{Between};
 ghost use Rattle.area.specs.Contents.{stateFormat, ruleFormat, contents, Held};
 ghost use Rattle.area.specs.Records.{nthRule};
 ghost use Rattle.names.specs.Names.{allBytes, isNameByte, isStateName, isState, findState, hasName, findRule};
+ghost use Rattle.names.specs.Marks.{Marked};
+use crate::marks::mark_of;
 use area::read_rule;
 use area::read_state;
 use text::class::is_digit;
@@ -90,8 +94,8 @@ fn has_name(src: &[u8], a: usize, e: usize, area: &[u8], n: u16, j: usize) -> bo
     same_range(src, a, e, src, from, from + x.name_length as usize)
 }
 
-// The rule whose name stands from a to e, or n.
-pub fn find_rule(src: &[u8], a: usize, e: usize, area: &[u8], n: u16) -> usize
+// The rule whose name stands from a to e, or n, by a look at every rule.
+fn search_rules(src: &[u8], a: usize, e: usize, area: &[u8], n: u16) -> usize
     requires { ⌜ Held ruleFormat (now area) n ⌝ }
     ensures { λ r. ⌜ Between 0 n (findRule (now (src .entry)) a e (contents ruleFormat (now (area .entry)) n)) r ⌝ }
 {
@@ -104,4 +108,17 @@ pub fn find_rule(src: &[u8], a: usize, e: usize, area: &[u8], n: u16) -> usize
         j += 1;
     }
     j
+}
+
+// The rule whose name stands from a to e, or n. Where the mark of the name is 0 no rule has it, and none is looked at.
+pub fn find_rule(src: &[u8], a: usize, e: usize, area: &[u8], n: u16, marks: &[u8]) -> usize
+    requires { ⌜ Held ruleFormat (now area) n ⌝ }
+    requires { ⌜ Marked (now src) (contents ruleFormat (now area) n) (now marks) ⌝ }
+    ensures { λ r. ⌜ Between 0 n (findRule (now (src .entry)) a e (contents ruleFormat (now (area .entry)) n)) r ⌝ }
+{
+    let at = mark_of(src, a, e);
+    if marks[at] == 0 {
+        return n as usize;
+    }
+    search_rules(src, a, e, area, n)
 }

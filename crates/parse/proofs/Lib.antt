@@ -1,4 +1,5 @@
 pub mod Patterns
+pub mod Extending
 pub mod RuleLines
 pub mod Files
 pub mod Calls

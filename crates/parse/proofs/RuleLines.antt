@@ -6,11 +6,12 @@ use mathlib.Core.Option.{Option}
 use Prim.Native.Nat.{ℕ, _-_, _≤_, _<_}
 use native.Mathlib.Omega.{arith}
 use borrow.Author.Needs.{needs}
-use lib.ListN.{length}
+use lib.ListN.{length, take}
 use Rattle.text.specs.Walk.{Between}
 use Rattle.text.specs.Whitespace.{atWhitespace, lineEndLen}
 use Rattle.text.specs.Scan.{lineEnd, trimEnd, trimEndUnescaped}
 use Rattle.area.specs.declared.State.{State}
+use Rattle.area.specs.declared.Rule.{Rule}
 use Rattle.area.specs.declared.Fault.{Fault}
 use Rattle.area.specs.declared.Appended.{Appended}
 use Rattle.area.specs.declared.Appended.the-variants as Appended
@@ -18,6 +19,7 @@ use Rattle.area.specs.Contents.{contents, faultFormat, ruleFormat}
 use Rattle.fault.specs.Step.{Out, go, bad, full, next, onto, written, Does}
 use Rattle.fault.specs.Faults.{addFault, addRepeat, DuplicateName, VerbatimNotSupported, RoutinesNotSupported, GrowsFaults}
 use Rattle.fault.proofs.Steps.{Loops, loops-stop, loops-next, loops-bad, loops-full, going-start, does-go, does-bad, does-full, does-onto, written-next, written-full, then-go, then-bad, then-full}
+use Rattle.names.specs.Marks.{Marked}
 use Rattle.section.specs.Section.{inSection, toRule, hasRoutines}
 use Rattle.section.proofs.Lines.{in-section-inside, line-has-byte, rule-starts}
 use Rattle.rules.specs.declared.Head.{Head}
@@ -31,6 +33,7 @@ use Rattle.parse.specs.declared.RuleCounts.{RuleCounts}
 use Rattle.parse.specs.declared.RuleProgress.{RuleProgress}
 use Rattle.parse.specs.declared.RuleProgress.the-variants.{Go, Bad, Full}
 use Rattle.parse.specs.Answers.{sheetProgress, sheetIn, HeldSheet, sheetCounts, ruleProgress, ruledIn, HeldRuled, ruleCounts, sizesOf, afterFaults}
+use Rattle.parse.proofs.Extending.{rules-kept}
 
 -- ---- a rule
 
@@ -103,7 +106,7 @@ module _ (s : List ℕ) (flags : ℕ) (verdicts : List ℕ) (xs : List State) (i
     unfolding line
     line-rule z d = record { says = rw (← is, z) (d .says); goes = d .goes; ends = d .ends }
 
-pub ruleset ruling = (needs, sheet-held, fresh-from, fresh-inside, rule-faulty, rule-repeated, rule-fresh)
+pub ruleset ruling = (needs, fresh-from, fresh-inside, rule-faulty)
 
 pub ruleset lining = (needs, line-verbatim, line-rule)
 
@@ -120,9 +123,10 @@ sizes l2 l3 l4 l6 = record { caps = sizesOf (length l2) (length l3) (length l4);
 abbrev body : List ℕ → ℕ → List ℕ → List State → Sizes → ℕ → Ruled → Out Ruled
 body s flags verdicts xs c i r = nextRule s flags verdicts xs (c .caps) (c .six) i r
 
--- the loop has come to the place i, where no line end stands
-pub record Rules (whole : Out Ruled) (s : List ℕ) (flags : ℕ) (verdicts : List ℕ) (xs : List State) (k2 k3 k4 k6 : List ℕ) (i : ℕ) (l2 l3 l4 l6 : List ℕ) (q : RuleCounts) : Type 0 where
+-- the loop has come to the place i, where no line end stands, and the names of the rules so far have their marks
+pub record Rules (whole : Out Ruled) (s : List ℕ) (flags : ℕ) (verdicts : List ℕ) (xs : List State) (k2 k3 k4 k6 : List ℕ) (i : ℕ) (l2 l3 l4 l6 : List ℕ) (q : RuleCounts) (marks : List ℕ) : Type 0 where
   pub held : HeldRuled l2 l3 l4 l6 q
+  pub marked : Marked s (contents ruleFormat l2 (q .rules)) marks
   pub within : i ≤ length s
   pub starts : lineEndLen s i ≡ 0
   pub long2 : length l2 ≡ length k2
@@ -132,10 +136,12 @@ pub record Rules (whole : Out Ruled) (s : List ℕ) (flags : ℕ) (verdicts : Li
   pub loops : Loops whole (inSection s) (body s flags verdicts xs) (length s) (sizes k2 k3 k4 k6) (sizes l2 l3 l4 l6) i (ruledIn l2 l3 l4 l6 q)
 
 pub rules-start : (s : List ℕ) (flags : ℕ) (verdicts : List ℕ) (xs : List State) (i j : ℕ) (l2 l3 l4 l6 : List ℕ) (q : RuleCounts) → HeldRuled l2 l3 l4 l6 q → Between i (length s) (toRule s flags i) j
-    → Rules (rules s flags verdicts xs (sizesOf (length l2) (length l3) (length l4)) (length l6) i (ruledIn l2 l3 l4 l6 q)) s flags verdicts xs l2 l3 l4 l6 j l2 l3 l4 l6 q
+    → (marks : List ℕ) → Marked s (contents ruleFormat l2 (q .rules)) marks
+    → Rules (rules s flags verdicts xs (sizesOf (length l2) (length l3) (length l4)) (length l6) i (ruledIn l2 l3 l4 l6 q)) s flags verdicts xs l2 l3 l4 l6 j l2 l3 l4 l6 q marks
 unfolding rules
-rules-start s flags verdicts xs i j l2 l3 l4 l6 q h b = record {
+rules-start s flags verdicts xs i j l2 l3 l4 l6 q h b marks m = record {
   held = h;
+  marked = m;
   within = b .to;
   starts = rw (b .is) (rule-starts s flags i);
   long2 = refl;
@@ -148,8 +154,8 @@ rules-start s flags verdicts xs i j l2 l3 l4 l6 q h b = record {
   };
 }
 
-module _ {whole : Out Ruled} {s : List ℕ} {flags : ℕ} {verdicts : List ℕ} {xs : List State} {k2 k3 k4 k6 : List ℕ} {i : ℕ} {l2 l3 l4 l6 : List ℕ} {q : RuleCounts}
-    (x : Rules whole s flags verdicts xs k2 k3 k4 k6 i l2 l3 l4 l6 q) (t : Bool) (tested : t ≡ inSection s i) (pass : t ≡ true) (e : ℕ) (b : Between i (length s) (lineEnd s i) e)
+module _ {whole : Out Ruled} {s : List ℕ} {flags : ℕ} {verdicts : List ℕ} {xs : List State} {k2 k3 k4 k6 : List ℕ} {i : ℕ} {l2 l3 l4 l6 : List ℕ} {q : RuleCounts} {marks : List ℕ}
+    (x : Rules whole s flags verdicts xs k2 k3 k4 k6 i l2 l3 l4 l6 q marks) (t : Bool) (tested : t ≡ inSection s i) (pass : t ≡ true) (e : ℕ) (b : Between i (length s) (lineEnd s i) e)
     {v2 v3 v4 v6 : List ℕ} (r : RuleProgress)
     (d : Does (HeldRuled v2 v3 v4 v6) (line s flags verdicts xs (sizesOf (length l2) (length l3) (length l4)) (length l6) i e) (ruledIn l2 l3 l4 l6 q) (ruledIn v2 v3 v4 v6) (ruleProgress r)) where
   inside : i < length s
@@ -170,9 +176,11 @@ module _ {whole : Out Ruled} {s : List ℕ} {flags : ℕ} {verdicts : List ℕ} 
     pub rules-less : length s - m < length s - i
     rules-less = omega (arith, forward, c .to)
 
-    pub rules-next : length v2 ≡ length l2 → length v3 ≡ length l3 → length v4 ≡ length l4 → length v6 ≡ length l6 → Rules whole s flags verdicts xs k2 k3 k4 k6 m v2 v3 v4 v6 p
-    rules-next e2 e3 e4 e6 = record {
+    pub rules-next : length v2 ≡ length l2 → length v3 ≡ length l3 → length v4 ≡ length l4 → length v6 ≡ length l6 → (marks′ : List ℕ) → Marked s (contents ruleFormat v2 (p .rules)) marks′
+        → Rules whole s flags verdicts xs k2 k3 k4 k6 m v2 v3 v4 v6 p marks′
+    rules-next e2 e3 e4 e6 marks′ y = record {
       held = d .goes j p (ap ruleProgress z);
+      marked = y;
       within = c .to;
       starts = rw (c .is) (rule-starts s flags e);
       long2 = e2 ∙ x .long2;
@@ -184,6 +192,11 @@ module _ {whole : Out Ruled} {s : List ℕ} {flags : ℕ} {verdicts : List ℕ} 
           (λ i. record { caps = record { c2 = e2 i; c3 = e3 i; c4 = e4 i }; six = e6 i });
     }
 
+  -- the marks are those of the first rules after the line
+  pub rules-marked : (j : ℕ) (p : RuleCounts) → r ≡ Go j p → Marked s (take (q .rules) (contents ruleFormat v2 (p .rules))) marks
+  rules-marked j p z =
+      subst (λ (ys : List Rule). Marked s ys marks) (sym (rules-kept s flags verdicts xs (sizesOf (length l2) (length l3) (length l4)) (length l6) i e (x .held) r d j p z)) (x .marked)
+
   whole-bad : (kind at : ℕ) (p : RuleCounts) → r ≡ Bad kind at p → whole ≡ bad kind at (ruledIn v2 v3 v4 v6 p)
   whole-bad kind at p z = loops-bad (x .loops) (sym tested ∙ pass) inside (then-bad (λ _. toRule s flags e) is-next d (ap ruleProgress z)) refl
 
@@ -191,8 +204,8 @@ module _ {whole : Out Ruled} {s : List ℕ} {flags : ℕ} {verdicts : List ℕ} 
   whole-full n z = loops-full (x .loops) (sym tested ∙ pass) inside (then-full (λ _. toRule s flags e) is-next d (ap ruleProgress z)) refl
 
 -- the section as a whole began at i₀ with the state r₀
-module _ (s : List ℕ) (flags : ℕ) (verdicts : List ℕ) (xs : List State) (k : Caps) (c6 i₀ : ℕ) (r₀ : Ruled) {k2 k3 k4 k6 : List ℕ} {i : ℕ} {l2 l3 l4 l6 : List ℕ} {q : RuleCounts}
-    (x : Rules (rules s flags verdicts xs k c6 i₀ r₀) s flags verdicts xs k2 k3 k4 k6 i l2 l3 l4 l6 q) (t : Bool) (tested : t ≡ inSection s i) where
+module _ (s : List ℕ) (flags : ℕ) (verdicts : List ℕ) (xs : List State) (k : Caps) (c6 i₀ : ℕ) (r₀ : Ruled) {k2 k3 k4 k6 : List ℕ} {i : ℕ} {l2 l3 l4 l6 : List ℕ} {q : RuleCounts} {marks : List ℕ}
+    (x : Rules (rules s flags verdicts xs k c6 i₀ r₀) s flags verdicts xs k2 k3 k4 k6 i l2 l3 l4 l6 q marks) (t : Bool) (tested : t ≡ inSection s i) where
   abbrev Ended : List ℕ → List ℕ → List ℕ → List ℕ → Out RuleCounts → Type 0
   Ended v2 v3 v4 v6 o = Does (HeldRuled v2 v3 v4 v6) (rulesSection s flags verdicts xs k c6 i₀) r₀ (ruledIn v2 v3 v4 v6) o
 
@@ -220,4 +233,4 @@ module _ (s : List ℕ) (flags : ℕ) (verdicts : List ℕ) (xs : List State) (k
     unfolding rulesSection
     rules-full n z = does-full (ap (λ (o : Out Ruled). next o (routines s)) (whole-full x t tested pass e b r d n z))
 
-pub ruleset sectioning = (needs, rules-start, rules-less, rules-next, rules-end, rules-routines, rules-bad, rules-full)
+pub ruleset sectioning = (needs, rules-start, rules-end, rules-bad, rules-full)

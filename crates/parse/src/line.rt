@@ -2,8 +2,9 @@
 ghost use mathlib.Core.Path.{_≡_};
 ghost use Prim.Native.Nat.{_≤_};
 ghost use lib.ListN.{length};
-ghost use Rattle.area.specs.Contents.{stateFormat, contents, Held};
+ghost use Rattle.area.specs.Contents.{stateFormat, ruleFormat, contents, Held};
 ghost use Rattle.fault.specs.Step.{Does, onto};
+ghost use Rattle.names.specs.Marks.{Marked};
 ghost use Rattle.rules.specs.Rules.{rule, line};
 ghost use Rattle.parse.specs.Answers.{sheetProgress, ruleProgress, ruledIn, HeldRuled, ruleCounts, sizesOf, afterFaults};
 use crate::RuleCounts;
@@ -84,10 +85,12 @@ fn parse_rule(
     area3: &mut [u8],
     area4: &mut [u8],
     area6: &mut [u8],
+    marks: &[u8],
 ) -> RuleProgress
     requires { ⌜ ((i ≤ e) × (e ≤ length (now src))) × (length (now src) ≤ 65535) ⌝ }
     requires { ⌜ Held stateFormat (now area1) n1 ⌝ }
     requires { ⌜ HeldRuled (now area2) (now area3) (now area4) (now area6) q ⌝ }
+    requires { ⌜ Marked (now src) (contents ruleFormat (now area2) (q .rules)) (now marks) ⌝ }
     ensures { λ r. ⌜ Does (HeldRuled (now (area2 .exit)) (now (area3 .exit)) (now (area4 .exit)) (now (area6 .exit))) (rule (now (src .entry)) flags (now (verdicts .entry)) (contents stateFormat (now (area1 .entry)) n1) (sizesOf (length (now (area2 .entry))) (length (now (area3 .entry))) (length (now (area4 .entry)))) (length (now (area6 .entry))) i e) (ruledIn (now (area2 .entry)) (now (area3 .entry)) (now (area4 .entry)) (now (area6 .entry)) q) (ruledIn (now (area2 .exit)) (now (area3 .exit)) (now (area4 .exit)) (now (area6 .exit))) (ruleProgress r) ⌝ }
 {
     let faults = q.faults;
@@ -97,7 +100,7 @@ fn parse_rule(
         text: q.text,
     };
     let t = trim_end(src, i, e);
-    match heading_of(src, i, t, area1, n1, area2, q.rules) {
+    match heading_of(src, i, t, area1, n1, area2, q.rules, marks) {
         Heading::Faulty(kind, at) => RuleProgress::Bad(kind, at, q),
         Heading::Repeated(a, b, c, d) => {
             let first = Span { start: a, end: b };
@@ -146,10 +149,12 @@ pub fn parse_line(
     area3: &mut [u8],
     area4: &mut [u8],
     area6: &mut [u8],
+    marks: &[u8],
 ) -> RuleProgress
     requires { ⌜ ((i ≤ e) × (e ≤ length (now src))) × (length (now src) ≤ 65535) ⌝ }
     requires { ⌜ Held stateFormat (now area1) n1 ⌝ }
     requires { ⌜ HeldRuled (now area2) (now area3) (now area4) (now area6) q ⌝ }
+    requires { ⌜ Marked (now src) (contents ruleFormat (now area2) (q .rules)) (now marks) ⌝ }
     ensures { λ r. ⌜ Does (HeldRuled (now (area2 .exit)) (now (area3 .exit)) (now (area4 .exit)) (now (area6 .exit))) (line (now (src .entry)) flags (now (verdicts .entry)) (contents stateFormat (now (area1 .entry)) n1) (sizesOf (length (now (area2 .entry))) (length (now (area3 .entry))) (length (now (area4 .entry)))) (length (now (area6 .entry))) i e) (ruledIn (now (area2 .entry)) (now (area3 .entry)) (now (area4 .entry)) (now (area6 .entry)) q) (ruledIn (now (area2 .exit)) (now (area3 .exit)) (now (area4 .exit)) (now (area6 .exit))) (ruleProgress r) ⌝ }
 {
     if matches_whitespace(src, i) {
@@ -173,5 +178,6 @@ pub fn parse_line(
         area3,
         area4,
         area6,
+        marks,
     )
 }

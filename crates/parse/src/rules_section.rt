@@ -9,12 +9,14 @@ use crate::RuleCounts;
 use crate::RuleProgress;
 use crate::line::parse_line;
 use fault::kinds::ROUTINES_NOT_SUPPORTED;
+use names::marks::MARKS;
+use names::marks::mark_rules;
 use section::has_routines;
 use section::in_section;
 use section::to_rule;
 use text::scan::line_end;
 
-// The rules from i on, and what follows them.
+// The rules from i on, and what follows them. The marks of the rules so far spare most names a look at each of these rules.
 pub fn parse_rules(
     src: &[u8],
     flags: u64,
@@ -35,6 +37,8 @@ pub fn parse_rules(
 {
     let mut at = to_rule(src, flags, i);
     let mut counts = q;
+    let mut marks = [0; MARKS];
+    mark_rules(src, area2, 0, q.rules, &mut marks);
     while in_section(src, at) {
         let e = line_end(src, at);
         match parse_line(
@@ -50,9 +54,11 @@ pub fn parse_rules(
             area3,
             area4,
             area6,
+            &marks,
         ) {
             RuleProgress::Go(_, p) => {
                 at = to_rule(src, flags, e);
+                mark_rules(src, area2, counts.rules, p.rules, &mut marks);
                 counts = p;
             }
             RuleProgress::Bad(kind, place, p) => {

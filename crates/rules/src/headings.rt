@@ -5,6 +5,7 @@ ghost use lib.ListN.{length};
 ghost use Rattle.text.specs.Scan.{findByte};
 ghost use Rattle.area.specs.Contents.{stateFormat, ruleFormat, contents, Held};
 ghost use Rattle.names.specs.Names.{findState, findRule};
+ghost use Rattle.names.specs.Marks.{Marked};
 ghost use Rattle.rules.specs.Heading.{operationOf, targetAt, targetBy, targetTo, targetOf, labelBy, labelOf, headUnnamed, headNamed, headingAt, headingBy, headingAfter, headingOf};
 use crate::Head;
 use crate::Heading;
@@ -161,12 +162,22 @@ fn head_named(r: usize, p: usize, t: usize, operation: u16, target: u16) -> Head
 }
 
 // The head h, unless a rule has the name from p to t already.
-fn heading_at(src: &[u8], r: usize, t: usize, p: usize, h: Head, area2: &[u8], n2: u16) -> Heading
+fn heading_at(
+    src: &[u8],
+    r: usize,
+    t: usize,
+    p: usize,
+    h: Head,
+    area2: &[u8],
+    n2: u16,
+    marks: &[u8],
+) -> Heading
     requires { ⌜ (p + 2 < t) × (t ≤ length (now src)) ⌝ }
     requires { ⌜ Held ruleFormat (now area2) n2 ⌝ }
+    requires { ⌜ Marked (now src) (contents ruleFormat (now area2) n2) (now marks) ⌝ }
     ensures { λ k. ⌜ k ≡ headingAt r h (findRule (now (src .entry)) (p + 1) (t - 1) (contents ruleFormat (now (area2 .entry)) n2)) (contents ruleFormat (now (area2 .entry)) n2) ⌝ }
 {
-    let j = find_rule(src, p + 1, t - 1, area2, n2);
+    let j = find_rule(src, p + 1, t - 1, area2, n2, marks);
     if j < n2 as usize {
         let x = read_rule(area2, j);
         return Heading::Repeated(x.span_start, x.span_end, h.span_start, h.span_end);
@@ -184,16 +195,18 @@ fn heading_by(
     p: usize,
     area2: &[u8],
     n2: u16,
+    marks: &[u8],
 ) -> Heading
     requires { ⌜ ((r < p) × (p ≤ t)) × ((t ≤ length (now src)) × (length (now src) ≤ 65535)) ⌝ }
     requires { ⌜ Held ruleFormat (now area2) n2 ⌝ }
+    requires { ⌜ Marked (now src) (contents ruleFormat (now area2) n2) (now marks) ⌝ }
     ensures { λ k. ⌜ k ≡ headingBy (now (src .entry)) r t operation target p (labelOf (now (src .entry)) p t) (contents ruleFormat (now (area2 .entry)) n2) ⌝ }
 {
     match label_of(src, p, t) {
         Label::Unnamed => Heading::Fresh(r, head_unnamed(r, operation, target)),
         Label::Named => {
             let h = head_named(r, p, t, operation, target);
-            heading_at(src, r, t, p, h, area2, n2)
+            heading_at(src, r, t, p, h, area2, n2, marks)
         }
         Label::Misnamed => Heading::Faulty(INVALID_NAME, (r + 1) as u16),
     }
@@ -208,15 +221,17 @@ fn heading_after(
     n1: u16,
     area2: &[u8],
     n2: u16,
+    marks: &[u8],
 ) -> Heading
     requires { ⌜ ((r < t) × (t ≤ length (now src))) × (length (now src) ≤ 65535) ⌝ }
     requires { ⌜ Held stateFormat (now area1) n1 ⌝ }
     requires { ⌜ Held ruleFormat (now area2) n2 ⌝ }
+    requires { ⌜ Marked (now src) (contents ruleFormat (now area2) n2) (now marks) ⌝ }
     ensures { λ k. ⌜ k ≡ headingAfter (now (src .entry)) r t (targetOf (now (src .entry)) r t (contents stateFormat (now (area1 .entry)) n1)) (contents ruleFormat (now (area2 .entry)) n2) ⌝ }
 {
     match target_of(src, r, t, area1, n1) {
         Target::To(operation, target, p) => {
-            heading_by(src, r, t, operation, target, p, area2, n2)
+            heading_by(src, r, t, operation, target, p, area2, n2, marks)
         }
         Target::Wrong(kind, at) => Heading::Faulty(kind, at),
     }
@@ -231,14 +246,16 @@ pub fn heading_of(
     n1: u16,
     area2: &[u8],
     n2: u16,
+    marks: &[u8],
 ) -> Heading
     requires { ⌜ ((i ≤ t) × (t ≤ length (now src))) × (length (now src) ≤ 65535) ⌝ }
     requires { ⌜ Held stateFormat (now area1) n1 ⌝ }
     requires { ⌜ Held ruleFormat (now area2) n2 ⌝ }
+    requires { ⌜ Marked (now src) (contents ruleFormat (now area2) n2) (now marks) ⌝ }
     ensures { λ k. ⌜ k ≡ headingOf (now (src .entry)) i t (contents stateFormat (now (area1 .entry)) n1) (contents ruleFormat (now (area2 .entry)) n2) ⌝ }
 {
     match last_blank(src, i, t) {
-        Found::At(r) => heading_after(src, r, t, area1, n1, area2, n2),
+        Found::At(r) => heading_after(src, r, t, area1, n1, area2, n2, marks),
         Found::Nothing => Heading::Faulty(MISSING_SPACE, i as u16),
     }
 }

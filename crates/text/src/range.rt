@@ -21,7 +21,7 @@ fn same_bytes(s: &[u8], a: usize, t: &[u8], c: usize, n: usize) -> bool
 }
 
 // How many bytes stand from a to before e in a text of n bytes.
-fn part_len(n: usize, a: usize, e: usize) -> usize
+pub fn part_len(n: usize, a: usize, e: usize) -> usize
     ensures { λ r. ⌜ r ≡ min (e - a) (n - a) ⌝ }
 {
     if e <= a {

@@ -1,30 +1,14 @@
--- `names::find_rule` meets its contract: from where the loop stands the first rule of the name is the same.
-use mathlib.Core.Path.{_≡_}
-use Prim.Native.Nat.{_≤_, _-_}
-use Rattle.text.specs.Walk.{first}
-use Rattle.area.specs.Contents.{ruleFormat, contents}
-use Rattle.area.specs.Records.{nthRule}
-use Rattle.names.specs.Names.{hasName}
-use Rattle.names.proofs.Finds.{finding-names}
+-- `names::find_rule` meets its contract: where the mark is 0 no rule has the name.
+use Rattle.names.proofs.Marking.{finding-marked}
 use Rattle.names.proofs.find_rule.Statement.{statement}
 use Rattle.names.proofs.find_rule.Tie as tie
-
-abbrev Inv-loop : tie.InvT-loop
-Inv-loop src a e area n count j₀ j = (j ≤ n) × (first (λ i. hasName src a e (nthRule (contents ruleFormat area n) i)) 0 n ≡ first (λ i. hasName src a e (nthRule (contents ruleFormat area n) i)) j n)
-
-abbrev μ-loop : tie.MeasureT-loop
-μ-loop src a e area n count j₀ j = n - j
 
 pub find-rule-spec : {M : Type 1} → statement M
 find-rule-spec =
     tie.close
     (tie.spec
-    Inv-loop
-    μ-loop
-    (λ c. search finding-names)
-    (λ c κs. search finding-names)
-    (λ c. search finding-names)
-    (λ c. search finding-names)
-    (λ c. search finding-names)
-    (λ c. search finding-names)
-    (λ c. search finding-names))
+    (λ c κs. search finding-marked)
+    (λ c. search finding-marked)
+    (λ c. search finding-marked)
+    (λ c κs. search finding-marked)
+    (λ c. search finding-marked))

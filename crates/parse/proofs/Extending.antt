@@ -1,0 +1,112 @@
+-- A line leaves the rules before it: where a step goes on, the rules so far stand first among the rules then. Only the record of a rule adds to
+-- them, by an append.
+use mathlib.Core.Path.{_≡_, sym, ap, subst, _∙_}
+use mathlib.Core.List.{List, [], _∷_, _++_}
+use mathlib.Core.Option.{Option, none, some}
+use Prim.Native.Nat.{ℕ}
+use lib.ListN.{length, take}
+use lib.Seq.{take-length, take-append-seam}
+use Rattle.text.specs.Whitespace.{atWhitespace}
+use Rattle.text.specs.Scan.{trimEnd, trimEndUnescaped}
+use Rattle.text.proofs.Tests.{by-test}
+use Rattle.area.specs.declared.State.{State}
+use Rattle.area.specs.declared.Rule.{Rule}
+use Rattle.area.specs.declared.Fault.{Fault}
+use Rattle.area.specs.Areas.{room}
+use Rattle.area.specs.Contents.{append, contents, ruleFormat, textFormat}
+use Rattle.area.proofs.Contents.{rule-sound, contents-length}
+use Rattle.fault.specs.Step.{Out, go, bad, full, onto, written, Does}
+use Rattle.fault.specs.Faults.{addFault, addRepeat, DuplicateName, RegexError, VerbatimNotSupported}
+use Rattle.fault.proofs.Steps.{was-go}
+use Rattle.escape.specs.Escape.{unescaped}
+use Rattle.rules.specs.declared.Head.{Head}
+use Rattle.rules.specs.declared.Heading.{Heading}
+use Rattle.rules.specs.declared.Heading.the-variants.{Faulty, Repeated, Fresh}
+use Rattle.rules.specs.declared.Body.{Body}
+use Rattle.rules.specs.declared.Body.the-variants.{Unclosed, Listed, Rewritten, Plain}
+use Rattle.rules.specs.Heading.{headingOf, bodyOf}
+use Rattle.rules.specs.Rules.{Sheet, Caps, sheet, entries, refuses, recordRule, sourceRule, listedRule, rewrittenRule, ruleBody, pattern, Ruled, sheetOf, withSheet, withFaults, ruleAs, rule, line}
+use Rattle.parse.specs.declared.RuleCounts.{RuleCounts}
+use Rattle.parse.specs.declared.RuleProgress.{RuleProgress}
+use Rattle.parse.specs.declared.RuleProgress.the-variants.{Go}
+use Rattle.parse.specs.Answers.{ruleProgress, ruledIn, HeldRuled}
+
+-- where the step goes on, the rules in its state begin with the rules xs
+abbrev Keeps : {S : Type 0} → List Rule → (S → List Rule) → Out S → Type 0
+Keeps xs rules (go i s) = take (length xs) (rules s) ≡ xs
+Keeps xs rules (bad kind at s) = Unit {0}
+Keeps xs rules (full n) = Unit {0}
+
+keeps-onto : {S T : Type 0} (xs : List Rule) (rules : T → List Rule) (f : S → T) (o : Out S) → Keeps xs (λ s. rules (f s)) o → Keeps xs rules (onto f o)
+keeps-onto xs rules f (go i s) h = h
+keeps-onto xs rules f (bad kind at s) h = tt
+keeps-onto xs rules f (full n) h = tt
+
+-- ---- the record
+
+-- the rules of a sheet, whatever its list entries and text
+record-keeps : (ids text verdicts : List ℕ) (c2 i e : ℕ) (x : Rule) (rs : List Rule) → Keeps rs (λ v. v .rules) (onto (λ ys. sheet ys ids text) (recordRule verdicts c2 i e x rs))
+unfolding recordRule append
+record-keeps ids text verdicts c2 i e x rs =
+    by-test (λ o. Keeps rs (λ v. v .rules) (onto (λ ys. sheet ys ids text) o)) (refuses verdicts (length rs)) (bad RegexError i rs) (written 2 e (append ruleFormat c2 (x ∷ []) rs)) (λ _. tt)
+    (λ _. by-test (λ o. Keeps rs (λ v. v .rules) (onto (λ ys. sheet ys ids text) (written 2 e o))) (room (ruleFormat .width) (ruleFormat .most) c2 (length rs) 1) (some (rs ++ (x ∷ []))) none
+    (λ _. take-append-seam rs (x ∷ [])) (λ _. tt))
+
+module _ (verdicts : List ℕ) (k : Caps) (i e : ℕ) (h : Head) (w : Sheet) where
+  abbrev Sheets : Out Sheet → Type 0
+  Sheets o = Keeps (w .rules) (λ v. v .rules) o
+
+  source-keeps : (from len list : ℕ) (ids : List ℕ) → Sheets (sourceRule verdicts k i e h from len list ids w)
+  unfolding sourceRule
+  source-keeps from len list ids = record-keeps ids (w .text) verdicts (k .c2) i e _ (w .rules)
+
+  listed-keeps : (from len : ℕ) (o : Out (List ℕ)) → Sheets (listedRule verdicts k i e h from len w o)
+  unfolding listedRule
+  listed-keeps from len (go j ids) = source-keeps from len (length (w .lists)) ids
+  listed-keeps from len (bad kind at ids) = tt
+  listed-keeps from len (full n) = tt
+
+  rewritten-keeps : (o : Option (List ℕ)) → Sheets (rewrittenRule verdicts k i e h w o)
+  unfolding rewrittenRule
+  rewritten-keeps none = tt
+  rewritten-keeps (some t) = record-keeps (w .lists) t verdicts (k .c2) i e _ (w .rules)
+
+  body-keeps : (s : List ℕ) (flags : ℕ) (xs : List State) (c : ℕ) (x : Body) → Sheets (ruleBody s flags verdicts xs k i e h c x w)
+  unfolding ruleBody
+  body-keeps s flags xs c Unclosed = tt
+  body-keeps s flags xs c (Listed g) = listed-keeps _ _ (entries s (k .c3) xs i g (w .lists))
+  body-keeps s flags xs c Rewritten = rewritten-keeps (append textFormat (k .c4) (unescaped s flags i c) (w .text))
+  body-keeps s flags xs c Plain = source-keeps _ _ (length (w .lists)) (w .lists)
+
+-- ---- a line
+
+module _ (s : List ℕ) (flags : ℕ) (verdicts : List ℕ) (xs : List State) (k : Caps) (c6 i e : ℕ) (r : Ruled) where
+  abbrev Lines : Out Ruled → Type 0
+  Lines o = Keeps (r .rules) (λ t. t .rules) o
+
+  -- a step that writes faults only
+  faults-keep : (o : Option (List Fault)) → Lines (onto (withFaults r) (written 6 e o))
+  faults-keep none = tt
+  faults-keep (some fs) = take-length (r .rules)
+
+  as-keeps : (x : Heading) → Lines (ruleAs s flags verdicts xs k c6 i e x r)
+  unfolding ruleAs pattern
+  as-keeps (Faulty kind at) = tt
+  as-keeps (Repeated c d a z) = faults-keep (addRepeat c6 DuplicateName c d a z (r .faults))
+  as-keeps (Fresh b h) =
+      let c = trimEndUnescaped s i b in
+      keeps-onto (r .rules) (λ t. t .rules) (withSheet r) (pattern s flags verdicts xs k i e h c (sheetOf r)) (body-keeps verdicts k i e h (sheetOf r) s flags xs c (bodyOf s i c))
+
+  line-keeps : Lines (line s flags verdicts xs k c6 i e r)
+  unfolding line rule
+  line-keeps =
+      by-test Lines (atWhitespace s i) (onto (withFaults r) (written 6 e (addFault c6 VerbatimNotSupported i e (r .faults)))) (rule s flags verdicts xs k c6 i e r)
+      (λ _. faults-keep (addFault c6 VerbatimNotSupported i e (r .faults))) (λ _. as-keeps (headingOf s i (trimEnd s i e) xs (r .rules)))
+
+-- after a line, the rules that were there before it are the first ones
+pub rules-kept : (s : List ℕ) (flags : ℕ) (verdicts : List ℕ) (xs : List State) (k : Caps) (c6 i e : ℕ) {l2 l3 l4 l6 v2 v3 v4 v6 : List ℕ} {q : RuleCounts} → HeldRuled l2 l3 l4 l6 q → (r : RuleProgress)
+    → Does (HeldRuled v2 v3 v4 v6) (line s flags verdicts xs k c6 i e) (ruledIn l2 l3 l4 l6 q) (ruledIn v2 v3 v4 v6) (ruleProgress r) → (j : ℕ) (p : RuleCounts) → r ≡ Go j p
+    → take (q .rules) (contents ruleFormat v2 (p .rules)) ≡ contents ruleFormat l2 (q .rules)
+rules-kept s flags verdicts xs k c6 i e {l2} {l3} {l4} {l6} {v2} {v3} {v4} {v6} {q} h r d j p z =
+    ap (λ (n : ℕ). take n (contents ruleFormat v2 (p .rules))) (sym (contents-length rule-sound (h .rules)))
+    ∙ subst (Lines s flags verdicts xs k c6 i e (ruledIn l2 l3 l4 l6 q)) (was-go d (ap ruleProgress z)) (line-keeps s flags verdicts xs k c6 i e (ruledIn l2 l3 l4 l6 q))
