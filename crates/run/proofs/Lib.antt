@@ -3,3 +3,5 @@ pub mod Winning
 pub mod Fitting
 pub mod Moving
 pub mod Stepping
+pub mod Lending
+pub mod Parameters
