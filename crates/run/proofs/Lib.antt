@@ -5,3 +5,4 @@ pub mod Moving
 pub mod Stepping
 pub mod Lending
 pub mod Parameters
+pub mod RunLayout
