@@ -2,7 +2,7 @@
 -- is one of the rules and its length is at most the bytes left, so that a move stays inside the entry and the stack.
 use mathlib.Core.Path.{_≡_, sym, ap, subst, _∙_}
 use mathlib.Core.Bool.{Bool, true, false}
-use mathlib.Core.List.{List, [], _∷_}
+use mathlib.Core.List.{List}
 use Prim.Native.Nat.{ℕ, _+_, _*_, _-_, _≤_, _<_}
 use native.Mathlib.Omega.{arith}
 use borrow.Author.Needs.{needs}
@@ -20,7 +20,7 @@ use Rattle.run.specs.declared.Best.{Best}
 use Rattle.run.specs.declared.Begun.the-variants.{Started, StartRefused}
 use Rattle.run.specs.declared.Step.the-variants.{BrokenSheet, BrokenRun, RowMismatch, Done, Stopped}
 use Rattle.run.specs.Winner.{weight, best}
-use Rattle.run.specs.Run.{runOf, mostBytes, stackBytes, putState, startLeft, startCall, goodStart, goodRun, goodRow, current, stepLeft, StepLeft, wonBy, choose, stepRow, stepRun, stepCall, Readable}
+use Rattle.run.specs.Run.{mostBytes, stackBytes, putState, startLeft, firstRun, startCall, goodStart, goodRun, goodRow, current, stepLeft, StepLeft, wonBy, choose, stepRow, stepRun, stepCall, Readable}
 use Rattle.run.proofs.Fitting.{GoodNumbers, run-is, row-length}
 use Rattle.run.proofs.Winning.{winner-inside, weights-low}
 
@@ -35,9 +35,9 @@ module _ (n : ℕ) (r : Run) (s : List ℕ) where
   unfolding startCall goodStart
   start-short h = rw (lt-leb (stackBytes n) (length s) h, and-false)
 
-  pub start-good : (e l : List ℕ) → n ≤ mostBytes → stackBytes n ≤ length s → e ≡ putState s 0 0 → l ≡ n ∷ 0 ∷ 1 ∷ 0 ∷ [] → startLeft Started (runOf l) e ≡ startCall n r s
-  unfolding startCall goodStart runOf
-  start-good e l h g q z = rw (le-leb n mostBytes h, le-leb (stackBytes n) (length s) g, q, z)
+  pub start-good : (e : List ℕ) → n ≤ mostBytes → stackBytes n ≤ length s → e ≡ putState s 0 0 → startLeft Started (firstRun n) e ≡ startCall n r s
+  unfolding startCall goodStart
+  start-good e h g q = rw (le-leb n mostBytes h, le-leb (stackBytes n) (length s) g, q)
 
 pub ruleset starting = (needs, start-long, start-short, start-good)
 

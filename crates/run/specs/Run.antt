@@ -3,7 +3,7 @@ use Prim.Native.Nat.{ℕ, _+_, _*_, _-_, _≤_, _<_}
 use mathlib.Core.Bool.{Bool, cond, _&&_}
 use mathlib.Core.List.{List}
 use lib.Dec.{eqb, leb}
-use lib.ListN.{length, getD}
+use lib.ListN.{length}
 use lib.Seq.{sets}
 use Rattle.area.specs.declared.State.{State}
 use Rattle.area.specs.declared.Rule.{Rule}
@@ -21,10 +21,6 @@ use Rattle.run.specs.declared.Step.the-variants.{BrokenSheet, BrokenRun,
 use Rattle.run.specs.Winner.{weight, best}
 
 -- ---- the run
-
--- the four numbers of a run, in this order
-unfoldable pub runOf : List ℕ → Run
-runOf l = record { n = getD l 0 0; position = getD l 1 0; depth = getD l 2 0; moves = getD l 3 0 }
 
 -- the most bytes of an entry
 abbrev pub mostBytes : ℕ

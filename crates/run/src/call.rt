@@ -5,8 +5,9 @@ ghost use Prim.Native.Nat.{_-_, _<_};
 ghost use lib.ListN.{length};
 ghost use Rattle.area.specs.Contents.{contents, stateFormat, ruleFormat, entryFormat};
 ghost use Rattle.sheet_check.specs.SheetCheck.{sheetBytes};
-ghost use Rattle.run.specs.Run.{Readable, runOf, startLeft, startCall, goodRun, goodRow, stepLeft, stepRow, stepRun, stepCall};
+ghost use Rattle.run.specs.Run.{Readable, startLeft, startCall, goodRun, goodRow, stepLeft, stepRow, stepRun, stepCall};
 use crate::Begun;
+use crate::BegunRun;
 use crate::Run;
 use crate::Step;
 use crate::Stepped;
@@ -22,19 +23,41 @@ use sheet_check::check::check;
 
 const MOST_BYTES: u64 = 4096;
 
-// Begins a run over an entry of n bytes.
-pub fn start(n: u64, run: &mut [u16; 4], stack: &mut [u8]) -> Begun
-    ensures { λ a. ⌜ startLeft a (runOf (now (run .exit))) (now (stack .exit)) ≡ startCall n (runOf (now (run .entry))) (now (stack .entry)) ⌝ }
+// Begins a run over an entry of n bytes, its numbers by value.
+pub fn start_entry(n: u64, r: Run, stack: &mut [u8]) -> BegunRun
+    ensures { λ q. ⌜ startLeft (q .answer) (q .run) (now (stack .exit)) ≡ startCall n r (now (stack .entry)) ⌝ }
 {
     if n > MOST_BYTES {
-        return Begun::StartRefused;
+        return BegunRun {
+            answer: Begun::StartRefused,
+            run: r,
+        };
     }
     if stack.len() < ENTRY_WIDTH * (n as usize + 1) {
-        return Begun::StartRefused;
+        return BegunRun {
+            answer: Begun::StartRefused,
+            run: r,
+        };
     }
     put_state(stack, 0, 0);
-    *run = [n as u16, 0, 1, 0];
-    Begun::Started
+    BegunRun {
+        answer: Begun::Started,
+        run: Run {
+            n: n as u16,
+            position: 0,
+            depth: 1,
+            moves: 0,
+        },
+    }
+}
+
+// Begins a run over an entry of n bytes.
+pub fn start(n: u64, run: &mut Run, stack: &mut [u8]) -> Begun
+    ensures { λ a. ⌜ startLeft a (now (run .exit)) (now (stack .exit)) ≡ startCall n (now (run .entry)) (now (stack .entry)) ⌝ }
+{
+    let begun = start_entry(n, *run, stack);
+    *run = begun.run;
+    begun.answer
 }
 
 // A row that fits: the winner, or that no live rule has a length.
@@ -103,8 +126,8 @@ fn step_run(
     }
 }
 
-// The sheet is checked first of all.
-fn step_sheet(
+// The step by value: the sheet is checked first of all.
+pub fn step_sheet(
     src: &[u8],
     area1: &[u8],
     area2: &[u8],
@@ -146,19 +169,13 @@ pub fn step(
     area4: &[u8],
     area5: &[u8],
     counts: &[u16; 6],
-    run: &mut [u16; 4],
+    run: &mut Run,
     stack: &mut [u8],
     row: &[u8],
 ) -> Step
-    ensures { λ a. ⌜ stepLeft a (runOf (now (run .exit))) (now (stack .exit)) ≡ stepCall (sheetBytes (now (src .entry)) (now (area1 .entry)) (now (area2 .entry)) (now (area3 .entry)) (now (area4 .entry)) (now (area5 .entry)) (now (counts .entry))) (runOf (now (run .entry))) (now (stack .entry)) (now (row .entry)) ⌝ }
+    ensures { λ a. ⌜ stepLeft a (now (run .exit)) (now (stack .exit)) ≡ stepCall (sheetBytes (now (src .entry)) (now (area1 .entry)) (now (area2 .entry)) (now (area3 .entry)) (now (area4 .entry)) (now (area5 .entry)) (now (counts .entry))) (now (run .entry)) (now (stack .entry)) (now (row .entry)) ⌝ }
 {
-    let r = Run {
-        n: run[0],
-        position: run[1],
-        depth: run[2],
-        moves: run[3],
-    };
-    let q = step_sheet(
+    let stepped = step_sheet(
         src,
         area1,
         area2,
@@ -166,11 +183,10 @@ pub fn step(
         area4,
         area5,
         counts,
-        r,
+        *run,
         stack,
         row,
     );
-    let after = q.run;
-    *run = [after.n, after.position, after.depth, after.moves];
-    q.answer
+    *run = stepped.run;
+    stepped.answer
 }

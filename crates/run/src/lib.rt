@@ -4,7 +4,9 @@ mod longest; // the rule that wins
 mod moves; // what the winner does
 pub mod call; // the calls
 
-// A run's numbers: the bytes of the entry, those behind it, the entries of the stack in use, and the moves so far.
+// A run's numbers: the bytes of the entry, those behind it, the entries of the stack in use, and the moves so far. For C they are four
+// two-byte numbers in this order.
+#[repr(C)]
 pub struct Run {
     pub n: u16,
     pub position: u16,
@@ -36,8 +38,14 @@ pub enum Step {
     Token(u16, u16, u16),
 }
 
-// An answer, and the run's numbers after it.
-struct Stepped {
-    answer: Step,
-    run: Run,
+// An answer of the start call, and the run's numbers after it.
+pub struct BegunRun {
+    pub answer: Begun,
+    pub run: Run,
+}
+
+// An answer of the step call, and the run's numbers after it.
+pub struct Stepped {
+    pub answer: Step,
+    pub run: Run,
 }

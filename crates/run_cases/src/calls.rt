@@ -13,8 +13,9 @@ use crate::numbers::read_numbers;
 use area::write_field;
 use link::call::set_rule_ids_spanned;
 use parse::call::parse;
-use run::call::start;
-use run::call::step;
+use run::Run;
+use run::call::start_entry;
+use run::call::step_sheet;
 use text::whitespace::byte_at;
 
 // No more than there is.
@@ -63,10 +64,29 @@ fn set_count(counts: &mut [u16; 6], k: u16, value: u16) {
     }
 }
 
+// A run of these four numbers.
+fn run_of(run: &[u16; 4]) -> Run {
+    Run {
+        n: run[0],
+        position: run[1],
+        depth: run[2],
+        moves: run[3],
+    }
+}
+
+// The four numbers of a run are kept.
+fn keep_run(run: &mut [u16; 4], r: Run) {
+    *run = [r.n, r.position, r.depth, r.moves];
+}
+
 // `start N BYTES`: over an entry of N bytes, with so many bytes of the stack.
 fn start_run(run: &mut [u16; 4], stack: &mut [u8], values: &[u8]) {
     let bytes = at_most(number_at(values, 2), stack.len());
-    say_start(start(number_at(values, 0) as u64, run, &mut stack[0..bytes]));
+    let r = run_of(run);
+    let q = start_entry(number_at(values, 0) as u64, r, &mut stack[0..bytes]);
+    keep_run(run, q.run);
+    let answer = q.answer;
+    say_start(answer);
 }
 
 // `put K ID`: another entry of the stack.
@@ -112,7 +132,8 @@ fn step_row(
     stack: &mut [u8],
     row: &[u8],
 ) {
-    say_step(step(
+    let r = run_of(run);
+    let q = step_sheet(
         src,
         area1,
         area2,
@@ -120,10 +141,13 @@ fn step_row(
         area4,
         area5,
         counts,
-        run,
+        r,
         stack,
         row,
-    ));
+    );
+    keep_run(run, q.run);
+    let answer = q.answer;
+    say_step(answer);
 }
 
 // `bytes BYTES LENGTH ..`: a step with only so many bytes of the stack.

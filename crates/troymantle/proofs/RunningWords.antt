@@ -2,7 +2,6 @@
 use mathlib.Core.Path.{_≡_, ap, _∙_}
 use mathlib.Core.List.{List}
 use Prim.Native.Nat.{ℕ}
-use borrow.Author.Needs.{needs}
 use Rattle.run.specs.declared.Run.{Run}
 use Rattle.run.specs.declared.Begun.{Begun}
 use Rattle.run.specs.declared.Step.{Step}
@@ -15,5 +14,3 @@ module _ (w : ℕ) (r : Run) (s : List ℕ) where
 
   pub word-step-left : (a : Step) → w ≡ stepWord a → (y : StepLeft) → stepLeft a r s ≡ y → runInWords w r s ≡ stepInWords y
   word-step-left a e y z = ap (λ (k : ℕ). runInWords k r s) e ∙ ap stepInWords z
-
-pub ruleset run-words = (needs, word-start-left, word-step-left)

@@ -1,9 +1,10 @@
 // The start call and the step call as C functions (01, The run).
 ghost use mathlib.Core.Path.{_≡_};
 ghost use Rattle.sheet_check.specs.SheetCheck.{sheetBytes};
-ghost use Rattle.run.specs.Run.{runOf, startCall, startWord, stepCall, stepWord};
+ghost use Rattle.run.specs.Run.{startCall, startWord, stepCall, stepWord};
 ghost use Rattle.troymantle.specs.RunWords.{runInWords, startInWords, stepInWords};
 use run::Begun;
+use run::Run;
 use run::Step;
 use run::call::start;
 use run::call::step;
@@ -37,10 +38,10 @@ fn step_word(answer: Step) -> u64
     }
 }
 
-// Begins a run over an entry of n bytes. The four numbers are n, position, depth and moves; a refusal changes nothing.
+// Begins a run over an entry of n bytes. A refusal changes nothing.
 #[no_mangle]
-pub extern "C" fn troymantle_start(n: u64, run: &mut [u16; 4], stack: &mut [u8]) -> u64
-    ensures { λ r. ⌜ runInWords r (runOf (now (run .exit))) (now (stack .exit)) ≡ startInWords (startCall n (runOf (now (run .entry))) (now (stack .entry))) ⌝ }
+pub extern "C" fn troymantle_start(n: u64, run: &mut Run, stack: &mut [u8]) -> u64
+    ensures { λ r. ⌜ runInWords r (now (run .exit)) (now (stack .exit)) ≡ startInWords (startCall n (now (run .entry)) (now (stack .entry))) ⌝ }
 {
     start_word(start(n, run, stack))
 }
@@ -55,11 +56,11 @@ pub extern "C" fn troymantle_step(
     area4: &[u8],
     area5: &[u8],
     counts: &[u16; 6],
-    run: &mut [u16; 4],
+    run: &mut Run,
     stack: &mut [u8],
     row: &[u8],
 ) -> u64
-    ensures { λ r. ⌜ runInWords r (runOf (now (run .exit))) (now (stack .exit)) ≡ stepInWords (stepCall (sheetBytes (now (src .entry)) (now (area1 .entry)) (now (area2 .entry)) (now (area3 .entry)) (now (area4 .entry)) (now (area5 .entry)) (now (counts .entry))) (runOf (now (run .entry))) (now (stack .entry)) (now (row .entry))) ⌝ }
+    ensures { λ r. ⌜ runInWords r (now (run .exit)) (now (stack .exit)) ≡ stepInWords (stepCall (sheetBytes (now (src .entry)) (now (area1 .entry)) (now (area2 .entry)) (now (area3 .entry)) (now (area4 .entry)) (now (area5 .entry)) (now (counts .entry))) (now (run .entry)) (now (stack .entry)) (now (row .entry))) ⌝ }
 {
     step_word(step(
         src,
