@@ -93,24 +93,24 @@ module _ (s : List ℕ) (c5 i e : ℕ) (l : e ≤ length s) where
 -- ---- a declaration
 
 -- the mark of the states that a line declares is 0 or 1
-abbrev Marked : Declaration → Type 0
-Marked (States exclusive a t) = exclusive ≤ 1
-Marked (Expecting w) = Unit {0}
-Marked Unknown = Unit {0}
+abbrev MarkFits : Declaration → Type 0
+MarkFits (States exclusive a t) = exclusive ≤ 1
+MarkFits (Expecting w) = Unit {0}
+MarkFits Unknown = Unit {0}
 
 module _ (s : List ℕ) (i e : ℕ) where
-  from-marked : (exclusive a : ℕ) → exclusive ≤ 1 → Marked (statesFrom s exclusive e a)
+  from-marked : (exclusive a : ℕ) → exclusive ≤ 1 → MarkFits (statesFrom s exclusive e a)
   unfolding statesFrom
-  from-marked exclusive a h = by-test Marked (eqb a e) Unknown (States exclusive a (trimEnd s a e)) (λ _. tt) (λ _. h)
+  from-marked exclusive a h = by-test MarkFits (eqb a e) Unknown (States exclusive a (trimEnd s a e)) (λ _. tt) (λ _. h)
 
-  by-marked : (w r : ℕ) → Marked (declarationBy s i e w r)
+  by-marked : (w r : ℕ) → MarkFits (declarationBy s i e w r)
   unfolding declarationBy
   by-marked w r =
-      by-test Marked (declares 0x73 0x53 s i w) (statesFrom s 0 e (trimStart s r e)) _ (λ _. from-marked 0 (trimStart s r e) (omega arith))
-      (λ _. by-test Marked (declares 0x78 0x58 s i w) (statesFrom s 1 e (trimStart s r e)) _ (λ _. from-marked 1 (trimStart s r e) (omega arith))
-      (λ _. by-test Marked (found (lookaheadIs s expectMissing i)) (Expecting r) Unknown (λ _. tt) (λ _. tt)))
+      by-test MarkFits (declares 0x73 0x53 s i w) (statesFrom s 0 e (trimStart s r e)) _ (λ _. from-marked 0 (trimStart s r e) (omega arith))
+      (λ _. by-test MarkFits (declares 0x78 0x58 s i w) (statesFrom s 1 e (trimStart s r e)) _ (λ _. from-marked 1 (trimStart s r e) (omega arith))
+      (λ _. by-test MarkFits (found (lookaheadIs s expectMissing i)) (Expecting r) Unknown (λ _. tt) (λ _. tt)))
 
-  line-marked : Marked (declarationOf s i e)
+  line-marked : MarkFits (declarationOf s i e)
   unfolding declarationOf declarationTo
   line-marked = by-marked (findWhitespace s i (trimEnd s i e)) _
 
@@ -129,7 +129,7 @@ module _ (s : List ℕ) (flags : ℕ) (k : Caps) where
   line-kept : (i e : ℕ) → i ≤ e → e ≤ length s → (x : Declaration) → declarationOf s i e ≡ x → (d : Declared) → DeclaredHolds s k i d → Yields (DeclaredHolds s k) (declareAs s k i e x d)
   unfolding declareAs
   line-kept i e a l (States exclusive b t) q d h =
-      let m : exclusive ≤ 1 = subst Marked q (line-marked s i e) in
+      let m : exclusive ≤ 1 = subst MarkFits q (line-marked s i e) in
       let g : t ≤ e = names-within s i e (declarationOf s i e) refl a exclusive b t q in
       yields-then (NamesHold s (k .c1)) (DeclaredHolds s k) e (withNames d) (stateNames s (k .c1) (k .c6) exclusive t b (names (d .states) (d .faults)))
       (names-kept s (k .c1) (k .c6) exclusive m t b (omega arith) (names (d .states) (d .faults)) (h .states))
