@@ -1,1 +1,5 @@
 pub mod Lines
+pub mod Walking
+pub mod Parameters
+pub mod Reading
+pub mod NextLine

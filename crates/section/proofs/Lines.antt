@@ -130,6 +130,17 @@ module _ (s : List ℕ) (i : ℕ) (stand : found (lookaheadIs s slashes i) ≡ t
   pub comment-ends : (r : ℕ) → Between (i + 2) (length s) (lineEnd s (i + 2)) r → Between (i + 2) (length s) (lineEnd s i) r
   comment-ends r b = record { is = b .is ∙ sym slashes-passed; from = b .from; to = b .to }
 
+  pub comment-inside : lineEnd s i ≤ length s
+  comment-inside = first-to (atLineEnd s) i (length s) (omega (arith, slashes-inside))
+
+  -- what is skipped behind the comment
+  pub comment-passed : (width : ℕ → ℕ) → ((k : ℕ) → 0 < width k → k + width k ≤ length s) → (r : ℕ) → r ≡ skip width (length s) (lineEnd s i) → Between (i + 2) (length s) (skip width (length s) (lineEnd s i)) r
+  comment-passed width inside r e = record {
+    is = e;
+    from = omega (arith, slashes-passed, first-from (atLineEnd s) (i + 2) (length s), skip-from width (length s) inside (lineEnd s i));
+    to = omega (arith, skip-to width (length s) inside (lineEnd s i) comment-inside);
+  }
+
 pub ruleset ending = (needs, slashes-inside, comment-empty, comment-ends)
 
 -- ---- going forward
@@ -219,9 +230,9 @@ module _ (s : List ℕ) (flags : ℕ) (width : ℕ → ℕ) (inside : (k : ℕ) 
     unfolding pastComment
     rests t = repeat-stop (step s flags width) (length s) k (step-there k none ∙ rw (← told, t)) ∙ sym before
 
-    passes : (e j : ℕ) → r ≡ true → e ≡ lineEnd s k → j ≡ skip width (length s) e → walk s flags width i ≡ walk s flags width j
+    passes : (j : ℕ) → r ≡ true → j ≡ skip width (length s) (lineEnd s k) → walk s flags width i ≡ walk s flags width j
     unfolding pastComment
-    passes e j t q z = before ∙ onward k ∙ ap (walk s flags width) (step-there k none ∙ rw (← told, t) (sym q)) ∙ skipped e j z
+    passes j t z = before ∙ onward k ∙ ap (walk s flags width) (step-there k none ∙ rw (← told, t)) ∙ skipped (lineEnd s k) j z
 
   -- where the walk comes to rest, nothing is left to skip: the step that stays there has skipped nothing
   none-there : (i : ℕ) → width (walk s flags width i) ≡ 0
@@ -262,10 +273,9 @@ module _ (s : List ℕ) (flags i k : ℕ) where
       → whitespaceLen s k ≡ 0
       → (r : Bool)
       → r ≡ isComment s flags k
-      → (e j : ℕ)
+      → (j : ℕ)
       → r ≡ true
-      → e ≡ lineEnd s k
-      → j ≡ skipWhitespace s e
+      → j ≡ skipWhitespace s (lineEnd s k)
       → toDeclaration s flags i ≡ toDeclaration s flags j
   unfolding toDeclaration pastLine
   declaration-further = passes s flags (whitespaceLen s) (white-inside s) i k
@@ -283,10 +293,9 @@ module _ (s : List ℕ) (flags i k : ℕ) where
       → lineEndLen s k ≡ 0
       → (r : Bool)
       → r ≡ isComment s flags k
-      → (e j : ℕ)
+      → (j : ℕ)
       → r ≡ true
-      → e ≡ lineEnd s k
-      → j ≡ skipLineEnds s e
+      → j ≡ skipLineEnds s (lineEnd s k)
       → toRule s flags i ≡ toRule s flags j
   unfolding toRule pastRuleLine
   rule-further = passes s flags (lineEndLen s) (end-inside s) i k

@@ -1,4 +1,6 @@
 // Lines that are skipped between what is read, and where a section ends (01, Declarations and Rules).
+pub mod reader; // the source and a place in it
+
 ghost use mathlib.Core.Path.{_≡_};
 ghost use mathlib.Core.Bool.{true};
 ghost use Prim.Native.Nat.{_+_, _≤_};
@@ -7,6 +9,8 @@ ghost use Rattle.text.specs.Walk.{Between};
 ghost use Rattle.text.specs.Range.{lookaheadIs};
 ghost use Rattle.text.specs.Scan.{lineEnd};
 ghost use Rattle.section.specs.Section.{found, slashes, isComment, toDeclaration, toRule, inSection, hasRoutines};
+use crate::reader::next_declaration;
+use crate::reader::next_rule;
 use text::Found;
 use text::range::lookahead_is;
 use text::scan::line_end;
@@ -53,7 +57,7 @@ pub fn to_declaration(src: &[u8], flags: u64, i: usize) -> usize
 {
     let mut k = parse_ws(src, i);
     while is_comment(src, flags, k) {
-        k = parse_ws(src, comment_end(src, k));
+        k = next_declaration(src, k);
     }
     k
 }
@@ -65,7 +69,7 @@ pub fn to_rule(src: &[u8], flags: u64, i: usize) -> usize
 {
     let mut k = parse_nl(src, i);
     while is_comment(src, flags, k) {
-        k = parse_nl(src, comment_end(src, k));
+        k = next_rule(src, k);
     }
     k
 }

@@ -24,7 +24,6 @@ to-rule-spec =
     (λ c. search resting)
     (λ c κs. search resting)
     (λ c κs. search resting)
-    (λ c κs. search resting)
     (λ c. search resting)
     (λ c. search resting)
     (λ c. search resting))
