@@ -37,8 +37,8 @@ use Rattle.text.specs.Scan.{lineEnd}
 use Rattle.section.specs.Reader.{readerAt, moved}
 use Rattle.section.specs.declared.reader.Reader.{Reader}
 use Rattle.section.proofs.Lines.{comment-inside, comment-passed}
-use Rattle.section.proofs.Walking.{parts, tokens, all, have-nothings, allocated, param, arg, release, called}
-use Rattle.section.proofs.Parameters.{Params, number, slice, stays, machine, meets-by}
+use Rattle.by_hand.proofs.Walking.{parts, tokens, all, have-nothings, allocated, param, arg, release, called}
+use Rattle.by_hand.proofs.Parameters.{Params, number, slice, stays, machine, meets-by}
 use Rattle.section.proofs.Reading.{held, scanner, scans, mover, moves, SlashesAt, Inside, Of}
 use Rattle.section.proofs.reader.Reader as ReaderType
 use Rattle.section.proofs.reader.Reader.Laws as ReaderLaws

@@ -44,8 +44,8 @@ use Rattle.text.specs.Range.{lookaheadIs}
 use Rattle.section.specs.Section.{found, slashes}
 use Rattle.section.specs.Reader.{readerAt, moved}
 use Rattle.section.specs.declared.reader.Reader.{Reader}
-use Rattle.section.proofs.Walking.{parts, tokens, all, have-nothings, allocated, param, arg, release, called}
-use Rattle.section.proofs.Parameters.{Param, Params, stays, machine, meets-by}
+use Rattle.by_hand.proofs.Walking.{parts, tokens, all, have-nothings, allocated, param, arg, release, called}
+use Rattle.by_hand.proofs.Parameters.{Param, Params, stays, machine, meets-by}
 use Rattle.section.proofs.reader.Reader as ReaderType
 use Rattle.section.proofs.reader.Reader.Laws as ReaderLaws
 

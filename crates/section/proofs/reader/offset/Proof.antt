@@ -26,8 +26,8 @@ use denote.Triple.Spec.{tripleOf}
 use denote.Triple.Table.{entered}
 use denote.Triple.Walked.{says, Stays, walkOf, ends-at}
 use Rattle.section.specs.declared.reader.Reader.{Reader}
-use Rattle.section.proofs.Walking.{parts, tokens, all, have-nothings, allocated, param, release}
-use Rattle.section.proofs.Parameters.{Params, stays, machine, meets-by}
+use Rattle.by_hand.proofs.Walking.{parts, tokens, all, have-nothings, allocated, param, release}
+use Rattle.by_hand.proofs.Parameters.{Params, stays, machine, meets-by}
 use Rattle.section.proofs.Reading.{reader}
 use Rattle.section.proofs.reader.offset.Key.{name as #offset}
 use Rattle.section.proofs.reader.offset as offset

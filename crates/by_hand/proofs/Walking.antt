@@ -1,4 +1,4 @@
--- What walks by hand share: the borrow checker covers no function that has a struct with a reference in it.
+-- What walks by hand share: the borrow checker covers no function that has a reference to a struct, or a struct with a reference in it.
 -- The lifetimes' tokens, what the parameters own and what is had of them at exit are lists of formulas. A call's promise is taken apart.
 -- A walk names what it has by its place. Once n locals are allocated, local i stands at 2 * (n - 1 - i), the right to free it behind it, and
 -- what is put in front moves all places on.
