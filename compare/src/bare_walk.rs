@@ -42,7 +42,9 @@ pub fn walk(source: &[u8], comments: bool, room: &mut Room) -> (usize, usize) {
             let before = copied;
             copied = copy_unescaped(&line[..blank], &mut room.text, copied);
             let fields = [rules, end - line.len(), end, blank, line.len() - blank, before, copied - before];
-            for (field, place) in fields.iter().zip(room.rules[rules * RULE_WIDTH..].chunks_exact_mut(2)) {
+            let record = &mut room.rules[rules * RULE_WIDTH..][..RULE_WIDTH];
+            record.fill(0);
+            for (field, place) in fields.iter().zip(record.chunks_exact_mut(2)) {
                 place.copy_from_slice(&(*field as u16).to_le_bytes());
             }
             rules += 1;
@@ -51,7 +53,7 @@ pub fn walk(source: &[u8], comments: bool, room: &mut Room) -> (usize, usize) {
     (rules, copied)
 }
 
-/// The pattern without its backslashes, if it has some, behind what was copied before.
+/// A pattern that has backslashes, without them, behind what was copied before. Answers how many bytes are copied then.
 fn copy_unescaped(pattern: &[u8], text: &mut [u8], before: usize) -> usize {
     let (mut from, mut to) = (0, before);
     while let Some(length) = memchr(b'\\', &pattern[from..]) {
@@ -61,5 +63,10 @@ fn copy_unescaped(pattern: &[u8], text: &mut [u8], before: usize) -> usize {
         to += length + 1;
         from = escaped + 1;
     }
-    to
+    if from == 0 {
+        return before;
+    }
+    let rest = &pattern[from..];
+    text[to..to + rest.len()].copy_from_slice(rest);
+    to + rest.len()
 }

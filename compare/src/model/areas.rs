@@ -2,7 +2,7 @@
 
 use super::{Kind, Reading, Rule, Span, State, Write, walk};
 use crate::case::{
-    ACCEPTED, AREA_FULL, AREAS, Answer, Case, FAULTY_FILE, LONG_FILE, INVALID_UTF8, RECORD_LIMITS, RECORD_SIZES,
+    ACCEPTED, AREA_FULL, AREAS, Answer, Case, FAULTY_FILE, INVALID_UTF8, LONG_FILE, RECORD_LIMITS, RECORD_SIZES,
     SOURCE_LIMIT, UNKNOWN_FLAG, word,
 };
 use crate::misreadings::Misreading as M;

@@ -1,6 +1,6 @@
 //! Starts and steps at every edge of 01's conditions, with the answers that 01 gives them.
 
-use super::{BROKEN_RUN, DONE, ROW_MISMATCH, START_REFUSED, Run, SKIP, STOPPED, UNLINKED, start, step, token};
+use super::{BROKEN_RUN, DONE, ROW_MISMATCH, Run, SKIP, START_REFUSED, STOPPED, UNLINKED, start, step, token};
 use crate::broken_sheets::{self, cut, records, set};
 use crate::sheet::{BROKEN_SHEET, Sheet};
 

@@ -1,6 +1,6 @@
 //! The start call and the step call by 01's words, on the bytes that they take.
 
-use super::{BROKEN_RUN, DONE, ROW_MISMATCH, START_REFUSED, Run, SKIP, STOPPED, UNLINKED, token};
+use super::{BROKEN_RUN, DONE, ROW_MISMATCH, Run, SKIP, START_REFUSED, STOPPED, UNLINKED, token};
 use crate::sheet::{BROKEN_SHEET, Rule, Sheet, field, fields};
 
 pub fn start(n: u64, run: &Run) -> (u64, Run) {
