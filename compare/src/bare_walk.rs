@@ -1,9 +1,10 @@
 //! A walk over a file that does less than a parse, by the search routines that the original's regexes use. Its time says
 //! how far a reader of lines gets with them, whatever else it does or leaves out.
 
+use crate::case::RECORD_SIZES;
 use memchr::{memchr, memrchr2};
 
-const RULE_WIDTH: usize = 28;
+const RULE_WIDTH: usize = RECORD_SIZES[1];
 
 /// What the walk writes to.
 pub struct Room {

@@ -22,7 +22,8 @@ use Rattle.rules.specs.Rules.{sheetOf, rulesSection}
 use Rattle.parse.specs.Parse.{Contents, Caps, declarationCaps, ruleCaps, Outcome, longFile, unknownFlag, invalidUtf8, areaFull, faulty, accepted, closed, ending, judge, contentsOf, noRules, rulesFrom, undeclared, withStates, opening, file, outcome}
 use Rattle.sheet_check.specs.SheetCheck.{all}
 use Rattle.accepted.specs.Accepted.{Fits, StateHolds, ExpectedHolds, EntryHolds, RuleHolds, StatesHold, ContentsHold, isByte}
-use Rattle.accepted.proofs.Going.{Yields, yields-next, yields-onto, yields-append}
+use Rattle.fault.proofs.Yielding.{Yields, yields-next, yields-onto}
+use Rattle.accepted.proofs.Appending.{yields-append}
 use Rattle.accepted.proofs.Elements.{each-none, each-snoc}
 use Rattle.accepted.proofs.ByteLists.{utf8-bytes}
 use Rattle.accepted.proofs.Declaring.{DeclaredHolds, declarations-hold}

@@ -29,7 +29,8 @@ use Rattle.declarations.specs.Declarations.{Names, names, Declared, Caps, state
 use Rattle.declarations.proofs.Expecting.{quotes-long}
 use Rattle.declarations.proofs.Lines.{names-within}
 use Rattle.accepted.specs.Accepted.{Each, Fits, StateHolds, ExpectedHolds, StatesHold, ExpectedsHold}
-use Rattle.accepted.proofs.Going.{Yields, yields-next, yields-onto, yields-append, yields-written, yields-loop}
+use Rattle.fault.proofs.Yielding.{Yields, yields-next, yields-onto, yields-written, yields-loop}
+use Rattle.accepted.proofs.Appending.{yields-append}
 use Rattle.accepted.proofs.Elements.{each-snoc}
 use Rattle.accepted.proofs.Places.{declaration-to, word-to}
 

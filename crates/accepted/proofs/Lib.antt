@@ -1,4 +1,4 @@
-pub mod Going
+pub mod Appending
 pub mod Elements
 pub mod Places
 pub mod ByteLists

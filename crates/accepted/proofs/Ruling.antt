@@ -38,7 +38,8 @@ use Rattle.rules.proofs.Heads.{fresh-from, fresh-to}
 use Rattle.rules.proofs.Patterns.{listed-to}
 use Rattle.sheet_check.specs.SheetCheck.{all}
 use Rattle.accepted.specs.Accepted.{Fits, RuleHolds, EntryHolds, NamesDiffer, RulesHold, EntriesHold, TextHolds, isByte}
-use Rattle.accepted.proofs.Going.{Yields, yields-next, yields-onto, yields-append, yields-loop, room-holds}
+use Rattle.fault.proofs.Yielding.{Yields, yields-next, yields-onto, yields-loop}
+use Rattle.accepted.proofs.Appending.{yields-append, room-holds}
 use Rattle.accepted.proofs.Elements.{each-snoc, each-weaken, place-cases}
 use Rattle.accepted.proofs.Places.{rule-to, pattern-to}
 use Rattle.accepted.proofs.ByteLists.{all-append, unescaped-bytes}

@@ -13,9 +13,10 @@ use lib.ListN.{length}
 use Rattle.text.specs.Walk.{repeat, Between}
 use Rattle.text.specs.Whitespace.{byte}
 use Rattle.text.proofs.Tests.{by-test, le-or-lt}
+use Rattle.text.proofs.Blocks.{first-shorter}
 use Rattle.text.proofs.Walks.{first-from, first-here, first-next, first-to, repeat-stop, repeat-go, repeat-stays}
 use Rattle.escape.specs.Escape.{nextBackslash, hasEscape, escapeAt, charEnd, pastEscape, lastWhole, dropLone, rewrittenEnd, pieceEnd}
-use Rattle.escape.proofs.Backslashes.{isBackslash, shorter, next-is, backslash-again}
+use Rattle.escape.proofs.Backslashes.{isBackslash, next-is, backslash-again}
 use Rattle.escape.proofs.Passed.{char-from, escape-from, past-nearer}
 
 module _ (s : List ℕ) (c : ℕ) where
@@ -182,7 +183,7 @@ module _ (s : List ℕ) (c z p : ℕ) (inside : c ≤ length s) (end : z ≡ rew
     end-escape =
         end
         ∙ ap (dropLone s c) (sym whole-again)
-        ∙ ap (λ (k : ℕ). dropLone s c (lastWhole s k c)) (sym (shorter (isBackslash s) (z - p) p z c (omega arith) within (omega (arith, next-before))))
+        ∙ ap (λ (k : ℕ). dropLone s c (lastWhole s k c)) (sym (first-shorter (isBackslash s) p z c (omega (arith, first-from (isBackslash s) p c, next-before)) within (omega (arith, next-before))))
 
   -- none follows: then there is no backslash at all, or p would be the end
   end-none : hasEscape s c p ≡ false → z ≡ rewrittenEnd s (nextBackslash s z p) c

@@ -18,6 +18,7 @@ use Rattle.area.proofs.Contents.{rule-sound, contents-length}
 use Rattle.fault.specs.Step.{Out, go, bad, full, onto, written, Does}
 use Rattle.fault.specs.Faults.{addFault, addRepeat, DuplicateName, RegexError, VerbatimNotSupported}
 use Rattle.fault.proofs.Steps.{was-go}
+use Rattle.fault.proofs.Yielding.{Yields, yields-onto}
 use Rattle.escape.specs.Escape.{unescaped}
 use Rattle.rules.specs.declared.Head.{Head}
 use Rattle.rules.specs.declared.Heading.{Heading}
@@ -33,14 +34,7 @@ use Rattle.parse.specs.Answers.{ruleProgress, ruledIn, HeldRuled}
 
 -- where the step goes on, the rules in its state begin with the rules xs
 abbrev Keeps : {S : Type 0} → List Rule → (S → List Rule) → Out S → Type 0
-Keeps xs rules (go i s) = take (length xs) (rules s) ≡ xs
-Keeps xs rules (bad kind at s) = Unit {0}
-Keeps xs rules (full n) = Unit {0}
-
-keeps-onto : {S T : Type 0} (xs : List Rule) (rules : T → List Rule) (f : S → T) (o : Out S) → Keeps xs (λ s. rules (f s)) o → Keeps xs rules (onto f o)
-keeps-onto xs rules f (go i s) h = h
-keeps-onto xs rules f (bad kind at s) h = tt
-keeps-onto xs rules f (full n) h = tt
+Keeps xs rules o = Yields (λ _ s. take (length xs) (rules s) ≡ xs) o
 
 -- ---- the record
 
@@ -95,7 +89,8 @@ module _ (s : List ℕ) (flags : ℕ) (verdicts : List ℕ) (xs : List State) (k
   as-keeps (Repeated c d a z) = faults-keep (addRepeat c6 DuplicateName c d a z (r .faults))
   as-keeps (Fresh b h) =
       let c = trimEndUnescaped s i b in
-      keeps-onto (r .rules) (λ t. t .rules) (withSheet r) (pattern s flags verdicts xs k i e h c (sheetOf r)) (body-keeps verdicts k i e h (sheetOf r) s flags xs c (bodyOf s i c))
+      yields-onto (λ _ w. take (length (r .rules)) (w .rules) ≡ r .rules) (λ _ t. take (length (r .rules)) (t .rules) ≡ r .rules) (withSheet r) (pattern s flags verdicts xs k i e h c (sheetOf r))
+      (body-keeps verdicts k i e h (sheetOf r) s flags xs c (bodyOf s i c)) (λ _ w kept. kept)
 
   line-keeps : Lines (line s flags verdicts xs k c6 i e r)
   unfolding line rule

@@ -17,7 +17,7 @@ use Rattle.text.specs.Walk.{any, firstOf, first, Between}
 use Rattle.text.specs.Whitespace.{byte, mayEndLine, lineEndOf, lineEndLen, atLineEnd}
 use Rattle.text.specs.Scan.{findLineEnd, lineEnd, lastBlank}
 use Rattle.text.specs.Utf8.{charLen, skipChars, utf8, isAscii}
-use Rattle.text.proofs.Tests.{answer}
+use Rattle.text.proofs.Tests.{answer, le-or-lt}
 use Rattle.text.proofs.Settled.{none-blank-above}
 use Rattle.text.proofs.Walks.{first-here, first-over, first-from, last-none, last-over, scanning-down, skip-stays, skip-goes}
 use Rattle.text.proofs.Chars.{char-one, char-fits, char-inside, walking}
@@ -86,6 +86,11 @@ first-of-passes test (suc n) i = go (test i) refl (first-of-passes test n (suc i
     go true e ih h = e
     go false e ih h = ih (omega arith)
 
+-- where it stands before m, the test passes there
+pub first-passes : (test : ℕ → Bool) (i m : ℕ) → i ≤ m → first test i m < m → test (first test i m) ≡ true
+unfolding first
+first-passes test i m h n = first-of-passes test (m - i) i (omega arith)
+
 module _ (test : ℕ → Bool) (i m e : ℕ) (h : i ≤ m) (l : m ≤ e) where
   -- none before m: it goes on from there
   pub first-behind : m ≤ first test i m → first test i e ≡ first test m e
@@ -96,15 +101,15 @@ module _ (test : ℕ → Bool) (i m e : ℕ) (h : i ≤ m) (l : m ≤ e) where
   unfolding first
   fails k a b = first-of-fails test (m - i) i k a b
 
-  passes : first test i m < m → test (first test i m) ≡ true
-  unfolding first
-  passes n = first-of-passes test (m - i) i (omega arith)
-
   -- one before m: it is the same up to e
   pub first-cut : first test i m < m → first test i m ≡ first test i e
   first-cut n =
-      first-here test (first test i m) e (omega arith) (passes n)
+      first-here test (first test i m) e (omega arith) (first-passes test i m h n)
       ∙ sym (first-over test i (first test i m) e (first-from test i m) (omega arith) fails)
+
+  pub first-shorter : first test i e < m → first test i m ≡ first test i e
+  first-shorter n =
+      ⊎-elim (λ q. absurd (omega (arith, n, first-behind q, first-from test m e))) (λ q. first-cut q) (le-or-lt m (first test i m))
 
 -- ---- line ends
 

@@ -1,17 +1,10 @@
--- What holds wherever a step goes on: a law for each way in which steps are joined. A step that ends in a fault or a full area yields nothing,
--- as no file is accepted then.
+-- What holds wherever a step goes on: a law for each way in which steps are joined. A step that ends in a fault or a full area yields nothing.
 use Prim.Native.Nat.{ℕ, zero, suc}
 use mathlib.Core.Path.{_≡_}
 use mathlib.Core.Bool.{Bool, true}
-use mathlib.Core.List.{List, _++_}
 use mathlib.Core.Option.{Option, none, some}
-use lib.ListN.{length, length-append}
 use Rattle.text.proofs.Tests.{by-test}
-use Rattle.area.specs.Areas.{room}
-use Rattle.area.specs.Contents.{Format, append}
 use Rattle.fault.specs.Step.{Out, go, bad, full, next, onto, written, loop}
-use Rattle.accepted.specs.Accepted.{Fits}
-use Rattle.area.proofs.Rooms.{room-few, room-fits}
 
 -- P holds of the place and the state with which the step goes on
 abbrev pub Yields : {S : Type 0} → (ℕ → S → Type 0) → Out S → Type 0
@@ -29,17 +22,9 @@ yields-onto P Q f (go i s) h g = g i s h
 yields-onto P Q f (bad kind at s) h g = tt
 yields-onto P Q f (full n) h g = tt
 
--- what is appended fits
-pub room-holds : {A : Type 0} (F : Format A) (cap : ℕ) (xs ys : List A) → room (F .width) (F .most) cap (length xs) (length ys) ≡ true → Fits F cap (xs ++ ys)
-room-holds F cap xs ys e = record {
-  few = rw (length-append xs ys) (room-few (F .width) (F .most) cap (length xs) (length ys) e);
-  fits = rw (length-append xs ys) (room-fits (F .width) (F .most) cap (length xs) (length ys) e);
-}
-
-pub yields-append : {A : Type 0} (P : ℕ → List A → Type 0) (F : Format A) (cap n i : ℕ) (ys xs : List A) → (Fits F cap (xs ++ ys) → P i (xs ++ ys)) → Yields P (written n i (append F cap ys xs))
-unfolding append
-yields-append P F cap n i ys xs f =
-    by-test (λ o. Yields P (written n i o)) (room (F .width) (F .most) cap (length xs) (length ys)) (some (xs ++ ys)) none (λ e. f (room-holds F cap xs ys e)) (λ _. tt)
+pub yields-written : {S : Type 0} (P : ℕ → S → Type 0) (n i : ℕ) (o : Option S) → ((s : S) → P i s) → Yields P (written n i o)
+yields-written P n i none f = tt
+yields-written P n i (some s) f = f s
 
 -- what each turn keeps, where its test passes, holds where the loop leaves off
 pub yields-loop : {S : Type 0} (P : ℕ → S → Type 0) (test : ℕ → Bool) (body : ℕ → S → Out S) → ((i : ℕ) (s : S) → test i ≡ true → P i s → Yields P (body i s)) → (n i : ℕ) (s : S) → P i s → Yields P (loop n test body i s)
@@ -48,7 +33,3 @@ yields-loop P test body keeps zero i s h = h
 yields-loop P test body keeps (suc n) i s h =
     by-test (Yields P) (test i) (next (body i s) (λ j t. loop n test body j t)) (go i s)
     (λ e. yields-next P P (body i s) (λ j t. loop n test body j t) (keeps i s e h) (λ j t. yields-loop P test body keeps n j t)) (λ _. h)
-
-pub yields-written : {S : Type 0} (P : ℕ → S → Type 0) (n i : ℕ) (o : Option S) → ((s : S) → P i s) → Yields P (written n i o)
-yields-written P n i none f = tt
-yields-written P n i (some s) f = f s
