@@ -9,3 +9,4 @@ pub mod Accepting
 pub mod Checking
 pub mod Fields
 pub mod Decoding
+pub mod Growing

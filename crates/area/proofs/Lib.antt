@@ -5,3 +5,4 @@ pub mod Lists
 pub mod Records
 pub mod Rooms
 pub mod Contents
+pub mod Words

@@ -1,6 +1,8 @@
+pub mod Firsts
 pub mod Maps
 pub mod LinkedRules
 pub mod Counting
 pub mod Outcomes
 pub mod LinkLaws
 pub mod Slotting
+pub mod LinkWords

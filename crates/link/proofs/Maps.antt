@@ -1,21 +1,23 @@
 -- A map read from its bytes: entry j of the list is what entry j of the bytes says. A search keeps that the first entry of the name is the same
 -- from where it stands, and a check that the tests so far are those of the entries so far.
 use mathlib.Core.Path.{_≡_, refl, sym, ap, ap₂, subst, _∙_}
-use mathlib.Core.Bool.{Bool, true, false, _&&_}
+use mathlib.Core.Bool.{Bool, true, false, not, _&&_, true≢false}
 use mathlib.Core.List.{List, []}
 use mathlib.Core.Logic.{_⊎_, inl, inr}
 use Prim.Native.Nat.{ℕ, zero, suc, _+_, _*_, _%_, _≤_, _<_}
-use native.Mathlib.Nat.{add-zero}
+use native.Mathlib.Nat.{add-zero, eq-or-lt-of-le}
 use native.Mathlib.Numerals.{add-one}
 use native.Mathlib.Omega.{arith}
 use borrow.Author.Needs.{needs}
 use borrow.Author.Tests.{eqb-true, eq-eqb, ne-eqb, le-leb, lt-leb}
-use lib.Dec.{eqb}
+use lib.Dec.{eqb, leb}
 use lib.ListN.{length, length-map, List·getD-map}
 use Rattle.text.specs.Walk.{first}
 use Rattle.text.specs.Range.{part, sameBytes, sameRange}
 use Rattle.text.proofs.Tests.{answer, and-left, and-right, le-or-lt}
 use Rattle.text.proofs.Walks.{first-found, first-again, first-ended}
+use Rattle.text.proofs.Ranges.{same-self}
+use Rattle.link.proofs.Firsts.{first-passes, first-low}
 use Rattle.area.specs.Bytes.{fieldAt, fieldFrom}
 use Rattle.area.specs.Contents.{contents}
 use Rattle.sheet_check.specs.SheetCheck.{all}
@@ -95,12 +97,56 @@ module _ (test : ℕ → Bool) where
   unfolding allBelow
   below-next k good t g q = ap₂ (λ (a b : Bool). a && b) g q ∙ sym (ap (allBelow test) (add-one k))
 
+-- none of the first k positions passes exactly if the first that passes is not before k
+below-first : (test : ℕ → Bool) (n k : ℕ) → k ≤ n → allBelow (λ i. not (test i)) k ≡ leb k (first test 0 n)
+unfolding allBelow
+below-first test n zero h = sym (le-leb 0 (first test 0 n) (omega arith))
+below-first test n (suc k) h = rw (below-first test n k (omega arith)) (go (test k) refl (le-or-lt k (first test 0 n)))
+  where
+    go : (t : Bool) → test k ≡ t → (k ≤ first test 0 n) ⊎ (first test 0 n < k) → leb k (first test 0 n) && not t ≡ leb (suc k) (first test 0 n)
+    go t e (inr l) = rw (lt-leb k (first test 0 n) l, lt-leb (suc k) (first test 0 n) (omega arith)) refl
+    go true e (inl l) = rw (le-leb k (first test 0 n) l, lt-leb (suc k) (first test 0 n) (omega (arith, first-low test 0 n (omega arith) k (omega arith) e))) refl
+    go false e (inl l) = rw (le-leb k (first test 0 n) l, le-leb (suc k) (first test 0 n) (past (le-or-lt n (first test 0 n)))) refl
+      where
+        past : (n ≤ first test 0 n) ⊎ (first test 0 n < n) → suc k ≤ first test 0 n
+        past (inl g) = omega arith
+        past (inr g) = not-here (eq-or-lt-of-le l)
+          where
+            not-here : (k ≡ first test 0 n) ⊎ (k < first test 0 n) → suc k ≤ first test 0 n
+            not-here (inl q) = absurd (true≢false (sym (first-passes test 0 n (omega arith) g) ∙ sym (ap test q) ∙ e))
+            not-here (inr q) = q
+
+-- no earlier entry has the name of entry j exactly if it is the first of its name
+first-of-name : (es : List Entry) (j : ℕ) → j < length es → allBelow (λ i. not (sameBytes (nth es i .name) (nth es j .name))) j ≡ eqb (findEntry es (nth es j .name)) j
+unfolding findEntry
+first-of-name es j h =
+    let test : ℕ → Bool = λ i. sameBytes (nth es i .name) (nth es j .name) in
+    below-first test (length es) j (omega arith) ∙ at-most j (first test 0 (length es)) (first-low test 0 (length es) (omega arith) j (omega arith) (same-self (nth es j .name)))
+  where
+    at-most : (a b : ℕ) → b ≤ a → leb a b ≡ eqb b a
+    at-most a b l = by (eq-or-lt-of-le l)
+      where
+        by : (b ≡ a) ⊎ (b < a) → leb a b ≡ eqb b a
+        by (inl q) = le-leb a b (omega (arith, q)) ∙ sym (eq-eqb b a q)
+        by (inr q) = lt-leb a b q ∙ sym (ne-eqb b a (λ r. omega (arith, q, r)))
+
+below-same : (f g : ℕ → Bool) (n : ℕ) → ((k : ℕ) → k < n → f k ≡ g k) → allBelow f n ≡ allBelow g n
+unfolding allBelow
+below-same f g zero h = refl
+below-same f g (suc n) h = ap₂ (λ (a b : Bool). a && b) (below-same f g n (λ k l. h k (omega arith))) (h n (omega arith))
+
+-- so the names are distinct exactly if each entry is the first of its name
+pub distinct-firsts : (es : List Entry) → distinct es ≡ allBelow (λ j. eqb (findEntry es (nth es j .name)) j) (length es)
+unfolding distinct
+distinct-firsts es = below-same _ _ (length es) (first-of-name es)
+
 pub distinct-read : (names entries : List ℕ) (k : ℕ) (good : Bool) → entryCount entries ≤ k → k ≤ entryCount entries
     → good ≡ allBelow (λ j. eqb (findEntry (entriesOf names entries) (nth (entriesOf names entries) j .name)) j) k → good ≡ distinct (entriesOf names entries)
-unfolding distinct
 distinct-read names entries k good h g e =
     let q : k ≡ entryCount entries = omega arith in
-    e ∙ ap (allBelow (λ j. eqb (findEntry (entriesOf names entries) (nth (entriesOf names entries) j .name)) j)) (q ∙ sym (entries-count names entries))
+    e
+    ∙ ap (allBelow (λ j. eqb (findEntry (entriesOf names entries) (nth (entriesOf names entries) j .name)) j)) (q ∙ sym (entries-count names entries))
+    ∙ sym (distinct-firsts (entriesOf names entries))
 
 module _ (names entries : List ℕ) where
   pub map-ragged : (length entries % mapWidth ≡ 0 → ⊥) → false ≡ mapCheck names entries
@@ -136,5 +182,4 @@ below-at test (suc n) k e h = by (le-or-lt n k) (λ g. below-at test n k (and-le
 
 -- each entry is the first of its name
 pub entry-first : (es : List Entry) → distinct es ≡ true → (j : ℕ) → j < length es → findEntry es (nth es j .name) ≡ j
-unfolding distinct
-entry-first es different j h = eqb-true (findEntry es (nth es j .name)) j (below-at (λ i. eqb (findEntry es (nth es i .name)) i) (length es) j different h)
+entry-first es different j h = eqb-true (findEntry es (nth es j .name)) j (below-at (λ i. eqb (findEntry es (nth es i .name)) i) (length es) j (sym (distinct-firsts es) ∙ different) h)

@@ -11,7 +11,8 @@ use Rattle.area.specs.Bytes.{bytes}
 use Rattle.area.specs.Records.{entryWidth, nthRule}
 use Rattle.area.specs.Contents.{Format, ruleFormat, entryFormat}
 use Rattle.names.specs.Names.{nameOf}
-use Rattle.parse.specs.Parse.{laid, word}
+use Rattle.area.specs.Words.{Fields, fields, word}
+use Rattle.parse.specs.Parse.{laid}
 use Rattle.sheet_check.specs.SheetCheck.{SheetBytes, decoded, sheetCheck, all}
 use Rattle.link.specs.declared.LinkAnswer.{LinkAnswer}
 use Rattle.link.specs.declared.LinkAnswer.the-variants.{Linked, BrokenSheet, BrokenMap, AreaFull}
@@ -135,9 +136,12 @@ linkCall b names entries x7 x8 =
     (linkLeft BrokenMap (b .area2) x7 x8))
     (linkLeft BrokenSheet (b .area2) x7 x8)
 
--- the number and the values of each answer, as one word (01, Numbers given at the counter)
-unfoldable pub wordOf : LinkAnswer → ℕ
-wordOf (Linked a b) = word 0 a b 0
-wordOf BrokenSheet = word 6 0 0 0
-wordOf BrokenMap = word 7 0 0 0
-wordOf (AreaFull n) = word 4 n 0 0
+-- the number and the values of each answer (01, Numbers given at the counter)
+unfoldable pub linkFields : LinkAnswer → Fields
+linkFields (Linked a b) = fields 0 a b 0
+linkFields BrokenSheet = fields 6 0 0 0
+linkFields BrokenMap = fields 7 0 0 0
+linkFields (AreaFull n) = fields 4 n 0 0
+
+abbrev pub linkWord : LinkAnswer → ℕ
+linkWord x = word (linkFields x)

@@ -1,6 +1,6 @@
 -- A map: names, and entries that say where a name stands in them and which id it has; and the map check, number 7 (01, Linking).
 use Prim.Native.Nat.{ℕ, zero, suc, _+_, _*_, _/_, _%_}
-use mathlib.Core.Bool.{Bool, true, cond, _&&_}
+use mathlib.Core.Bool.{Bool, true, cond, _&&_, not}
 use mathlib.Core.List.{List, [], _∷_, map}
 use mathlib.Core.Option.{Option, none, some}
 use lib.Dec.{eqb, leb, ltb}
@@ -80,9 +80,9 @@ unfoldable pub allBelow : (ℕ → Bool) → ℕ → Bool
 allBelow test zero = true
 allBelow test (suc n) = allBelow test n && test n
 
--- no two entries have the same name: each is the first of its name
+-- two entries at different places have different names
 unfoldable pub distinct : List Entry → Bool
-distinct es = allBelow (λ j. eqb (findEntry es (nth es j .name)) j) (length es)
+distinct es = allBelow (λ j. allBelow (λ i. not (sameBytes (nth es i .name) (nth es j .name))) j) (length es)
 
 -- a name inside n bytes of names
 unfoldable pub nameInside : ℕ → MapEntry → Bool

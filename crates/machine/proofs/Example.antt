@@ -1,11 +1,10 @@
 -- The hypotheses of demand 3 can be met, and its machine does something: a small file with pushes, pops below the bottom, a replace, skips, and
 -- a refused row in the middle, computed. A definition that is added to the parse, the link or the run is to be listed here.
-use mathlib.Core.Path.{_≡_, refl, sym}
-use mathlib.Core.Bool.{true, true≢false}
+use mathlib.Core.Path.{_≡_, refl, ap, _∙_}
 use mathlib.Core.List.{List, [], _∷_}
-use Prim.Native.Nat.{ℕ, zero, suc, _<_}
-use native.Mathlib.Omega.{arith}
-use lib.ListN.{length, replicate}
+use mathlib.Core.Option.{some}
+use Prim.Native.Nat.{ℕ, zero, suc}
+use lib.ListN.{getElem?, replicate}
 use Rattle.text.specs.Class.{isLineEnd, isBlank, isOtherWhitespace, isLetter, isDigit, isHexDigit, isMetaCharacter, isEscapeLetter, isWhitespaceByte, isAsciiWhitespace, isAlwaysKept}
 use Rattle.text.specs.Range.{part, sameBytes, sameRange, lookaheadIs}
 use Rattle.text.specs.Scan.{trimStart, trimEnd, backslashesBehind, backslashesBefore, keepEscaped, trimEndUnescaped}
@@ -15,7 +14,7 @@ use Rattle.text.specs.Whitespace.{whitespaceOf, lineEndOf, whitespaceLen, lineE
 use Rattle.area.specs.Areas.{room, insertAt}
 use Rattle.area.specs.Bytes.{two, bytes, pad, fieldAt, fieldFrom}
 use Rattle.area.specs.Contents.{append, contents, listOf}
-use Rattle.area.specs.Records.{stateFields, ruleFields, entryFields, expectedFields, faultFields, stateOf, ruleOf, expectedOf, faultOf, stateAt, ruleAt, entryAt, expectedAt, nthRule}
+use Rattle.area.specs.Records.{stateFields, ruleFields, entryFields, expectedFields, faultFields, stateOf, ruleOf, expectedOf, faultOf, stateAt, ruleAt, entryAt, expectedAt}
 use Rattle.fault.specs.Faults.{nextNumber, addFault, startsFault, isFault, findFault, faultEnd, addSpan, addPair, repeatAt, addRepeat}
 use Rattle.fault.specs.Step.{loop}
 use Rattle.section.specs.Section.{comments, isComment, pastComment, pastLine, toDeclaration, pastRuleLine, toRule, inSection, hasRoutines}
@@ -26,20 +25,21 @@ use Rattle.declarations.specs.Declarations.{namingAt, namingOf, declareState, n
 use Rattle.rules.specs.Heading.{operationOf, targetAt, targetBy, targetTo, targetOf, isNoName, isName, labelBy, labelOf, headingAt, headingBy, headingAfter, headingFrom, headingOf, bodyTo, bodyOf}
 use Rattle.rules.specs.Rules as R
 use Rattle.rules.specs.Rules.{entryFrom, nextEntry, entries, refuses, recordRule, sourceRule, listedRule, rewrittenRule, ruleBody, pattern, ruleAs, rule, line, nextRule, rules, routines, rulesSection}
-use Rattle.parse.specs.Parse.{Contents, Caps, caps, Outcome, longFile, unknownFlag, invalidUtf8, areaFull, faulty, accepted, closed, judge, rulesFrom, opening, file, outcome, leaves, parseCall}
-use Rattle.sheet_check.specs.SheetCheck.{SheetBytes, decoded, all, goodState, goodRule, goodExpected, goodContents, longEnough, sheetCheck}
-use Rattle.accepted.specs.Accepted.{sheetLeftBy}
-use Rattle.link.specs.declared.LinkAnswer.the-variants.{Linked}
-use Rattle.link.specs.Map.{nth, mapEntryFields, mapEntryOf, mapEntryAt, entryOf, entriesOf, findEntry, idAt, idOf, allBelow, distinct, nameInside, mapCheck}
-use Rattle.link.specs.Link.{isNamed, isNone, isUnmapped, hasThatName, isUnused, numbers, unmapped, unused, relaid, fits, linkAll, linkChecked, linkCall}
+use Rattle.parse.specs.Parse.{Caps, caps, closed, judge, rulesFrom, opening, file, outcome, leaves, parseCall}
+use Rattle.sheet_check.specs.SheetCheck.{decoded, all, goodState, goodRule, goodExpected, goodContents, longEnough, sheetCheck}
+use Rattle.accepted.specs.Meaning.{meaning}
+use Rattle.link.specs.Map.{mapEntryFields, mapEntryOf, mapEntryAt, entryOf, entriesOf, findEntry, idAt, idOf, allBelow, distinct, nameInside, mapCheck}
+use Rattle.link.specs.Link as LK
+use Rattle.link.specs.Link.{isNone, isUnmapped, hasThatName, isUnused, numbers, unmapped, unused, relaid, linkAll, linkChecked, linkCall}
 use Rattle.run.specs.declared.Run.{Run}
-use Rattle.run.specs.declared.Begun.the-variants.{Started}
 use Rattle.run.specs.declared.Step.{Step}
 use Rattle.run.specs.declared.Step.the-variants.{RowMismatch, Done, Stopped, Skip, Token}
-use Rattle.run.specs.Winner.{findState, listed, live, weight, greatest, earliest}
-use Rattle.run.specs.Run.{StartLeft, goodStart, startCall, goodRow}
-use Rattle.machine.specs.Machine.{fresh, Answered, stackAfter, movedBy, tokenBy, wins, winner, chooses, machineStep, machineRun}
-use Rattle.machine.specs.Demand.{linkedSheet, calls, Demand, MapHolds, givenBy, DEMAND}
+use Rattle.run.specs.Run.{goodStart, startCall}
+use Rattle.machine.specs.File.{FileRule, operationBy, nameFrom, mapOf, fileOf}
+use Rattle.machine.specs.Machine.{Given, Input, Machine, fresh, lengths, noneAbove, fits, has, isEmpty, isLive, before, winnerOf, idIn, operate, move, token, wins, chooses, step}
+use Rattle.machine.specs.Means.{EntryOf}
+use Rattle.machine.specs.Demand.{Demand, Session, startLeftOf, sessionFile, sessionMap, given, MapHolds, Accepts, sessionCalls, DEMAND}
+use Rattle.machine.proofs.Options.{some-is, none-some}
 use Rattle.machine.proofs.Theorem.{demand}
 
 -- `%x S⏎%%⏎a 'A'⏎b <+S>;⏎<S>c <-S>'C'⏎<S>d <S>;⏎e <-S>'E'⏎`
@@ -56,10 +56,10 @@ names-of-map = 0x41 ∷ 0x43 ∷ 0x45 ∷ []
 abbrev pub entries-of-map : List ℕ
 entries-of-map = 0 ∷ 0 ∷ 1 ∷ 0 ∷ 44 ∷ 1 ∷ 1 ∷ 0 ∷ 1 ∷ 0 ∷ 45 ∷ 1 ∷ 2 ∷ 0 ∷ 1 ∷ 0 ∷ 46 ∷ 1 ∷ []
 
-abbrev pub row : ℕ → ℕ → ℕ → ℕ → ℕ → List ℕ
-row a b c d e = a ∷ 0 ∷ b ∷ 0 ∷ c ∷ 0 ∷ d ∷ 0 ∷ e ∷ 0 ∷ []
+abbrev pub row : ℕ → ℕ → ℕ → ℕ → ℕ → Input
+row a b c d e = record { row = a ∷ 0 ∷ b ∷ 0 ∷ c ∷ 0 ∷ d ∷ 0 ∷ e ∷ 0 ∷ [] }
 
-abbrev pub entry-rows : List (List ℕ)
+abbrev pub entry-rows : List Input
 entry-rows =
     row 2 1 0 0 0
     ∷ row 0 1 0 0 0
@@ -70,64 +70,54 @@ entry-rows =
     ∷ row 1 1 0 0 1
     ∷ row 0 0 1 1 0
     ∷ row 0 0 0 0 1
+    ∷ record { row = [] }
     ∷ []
-    ∷ []
 
-abbrev pub contentsAt : Outcome → Contents
-contentsAt (accepted c) = c
-contentsAt (faulty fs) = record { states = []; rules = []; lists = []; text = []; expected = []; faults = fs }
-contentsAt (areaFull n) = record { states = []; rules = []; lists = []; text = []; expected = []; faults = [] }
-contentsAt longFile = record { states = []; rules = []; lists = []; text = []; expected = []; faults = [] }
-contentsAt unknownFlag = record { states = []; rules = []; lists = []; text = []; expected = []; faults = [] }
-contentsAt invalidUtf8 = record { states = []; rules = []; lists = []; text = []; expected = []; faults = [] }
+-- the file and the map, and the start of an entry of 8 bytes, over a stack of 18 bytes 7
+abbrev pub session : Run → Session
+session r = record {
+  source = lexFile;
+  flags = 0;
+  verdicts = [];
+  capacities = capacities;
+  names = names-of-map;
+  entries = entries-of-map;
+  area7 = [];
+  area8 = [];
+  n = 8;
+  run = r;
+  stack = replicate 18 7;
+}
 
--- what the file has
-abbrev pub found : Contents
-found = contentsAt (outcome lexFile 0 [] capacities)
+-- the machine's answers
+unfoldable pub answers : Given → Machine → List Input → List Step
+answers g m [] = []
+answers g m (i ∷ is) = step g m i .answer ∷ answers g (step g m i .machine) is
 
-abbrev pub answersOf : List Answered → List Step
-answersOf [] = []
-answersOf (o ∷ os) = o .answer ∷ answersOf os
-
--- every hypothesis holds, and these are the machine's answers
-pub record Met (stack : List ℕ) (r : Run) : Type 0 where
-  pub file-accepted : outcome lexFile 0 [] capacities ≡ accepted found
-  pub map-linked : linkCall (sheetLeftBy lexFile (parseCall lexFile 0 [] capacities)) names-of-map entries-of-map [] [] .answer ≡ Linked 0 0
-  pub names-held : MapHolds lexFile found (entriesOf names-of-map entries-of-map)
-  pub run-started : startCall 8 r stack .answer ≡ Started
-  pub answers :
-      answersOf (machineRun (givenBy lexFile found (entriesOf names-of-map entries-of-map) 8) fresh entry-rows)
-      ≡ Token 300 0 2 ∷ Skip ∷ RowMismatch ∷ Skip ∷ Token 301 4 1 ∷ Token 302 5 1 ∷ Token 300 6 1 ∷ Stopped ∷ Token 302 7 1 ∷ Done ∷ []
-
-holds-names : MapHolds lexFile found (entriesOf names-of-map entries-of-map)
-unfolding isLineEnd isBlank isOtherWhitespace isLetter isDigit isHexDigit isMetaCharacter isEscapeLetter isWhitespaceByte isAsciiWhitespace isAlwaysKept part sameBytes sameRange lookaheadIs trimStart trimEnd backslashesBehind backslashesBefore keepEscaped trimEndUnescaped charOf charLen utf8 firstOf first lastOf last repeat skip whitespaceOf lineEndOf whitespaceLen lineEndLen room insertAt append stateOf ruleOf expectedOf faultOf nextNumber addFault startsFault isFault findFault faultEnd addSpan addPair repeatAt addRepeat loop comments isComment pastComment pastLine toDeclaration pastRuleLine toRule inSection hasRoutines allBytes isNameByte isStateName isState N.findState hasName findRule posixEscapes hasEscape isCodeLetter isCode isKeptBy isKept pastEscape pastKept pastAllKept isRewritten lastWhole dropLone rewrittenEnd backspace escapeFrom escaped pieceEnd piece pieces unescaped namingAt namingOf declareState nameTo nextName stateNames isQuoted expectedTo nextExpected expectedNames isAlphanumeric declares statesFrom declarationBy declarationTo declarationOf declareAs declaration nextDeclaration endDeclarations declarations operationOf targetAt targetBy targetTo targetOf isNoName isName labelBy labelOf headingAt headingBy headingAfter headingFrom headingOf bodyTo bodyOf R.entryAt entryFrom nextEntry entries refuses recordRule sourceRule listedRule rewrittenRule ruleBody pattern ruleAs rule line nextRule rules routines rulesSection closed judge rulesFrom opening file outcome two bytes pad fieldAt fieldFrom contents listOf stateFields ruleFields entryFields expectedFields faultFields stateAt ruleAt entryAt expectedAt leaves parseCall decoded all goodState goodRule goodExpected goodContents longEnough sheetCheck mapEntryFields mapEntryOf mapEntryAt entryOf entriesOf findEntry idAt idOf allBelow distinct nameInside mapCheck nameOf isNone isUnmapped hasThatName isUnused numbers unmapped unused relaid fits linkAll linkChecked linkCall goodStart startCall findState listed live weight greatest earliest goodRow stackAfter movedBy tokenBy wins winner chooses machineStep machineRun
-holds-names = record { holds = by }
+holds-names : (r : Run) → MapHolds (sessionFile (session r)) (sessionMap (session r))
+unfolding isLineEnd isBlank isOtherWhitespace isLetter isDigit isHexDigit isMetaCharacter isEscapeLetter isWhitespaceByte isAsciiWhitespace isAlwaysKept part sameBytes sameRange lookaheadIs trimStart trimEnd backslashesBehind backslashesBefore keepEscaped trimEndUnescaped charOf charLen utf8 firstOf first lastOf last repeat skip whitespaceOf lineEndOf whitespaceLen lineEndLen room insertAt append stateOf ruleOf expectedOf faultOf nextNumber addFault startsFault isFault findFault faultEnd addSpan addPair repeatAt addRepeat loop comments isComment pastComment pastLine toDeclaration pastRuleLine toRule inSection hasRoutines allBytes isNameByte isStateName isState N.findState hasName findRule posixEscapes hasEscape isCodeLetter isCode isKeptBy isKept pastEscape pastKept pastAllKept isRewritten lastWhole dropLone rewrittenEnd backspace escapeFrom escaped pieceEnd piece pieces unescaped namingAt namingOf declareState nameTo nextName stateNames isQuoted expectedTo nextExpected expectedNames isAlphanumeric declares statesFrom declarationBy declarationTo declarationOf declareAs declaration nextDeclaration endDeclarations declarations operationOf targetAt targetBy targetTo targetOf isNoName isName labelBy labelOf headingAt headingBy headingAfter headingFrom headingOf bodyTo bodyOf R.entryAt entryFrom nextEntry entries refuses recordRule sourceRule listedRule rewrittenRule ruleBody pattern ruleAs rule line nextRule rules routines rulesSection closed judge rulesFrom opening file outcome two bytes pad fieldAt fieldFrom contents listOf stateFields ruleFields entryFields expectedFields faultFields stateAt ruleAt entryAt expectedAt leaves parseCall decoded all goodState goodRule goodExpected goodContents longEnough sheetCheck mapEntryFields mapEntryOf mapEntryAt entryOf entriesOf findEntry idAt idOf allBelow distinct nameInside mapCheck nameOf isNone isUnmapped hasThatName isUnused numbers unmapped unused relaid LK.fits linkAll linkChecked linkCall goodStart startCall meaning operationBy nameFrom mapOf fileOf lengths noneAbove fits has isEmpty isLive before winnerOf idIn operate move token wins chooses step answers
+holds-names r = record { holds = by }
   where
-    at : (j : ℕ) → j < 3 → j < length (entriesOf names-of-map entries-of-map)
-    at j h = h
+    by : (k : ℕ) (x : FileRule) (name : List ℕ) → getElem? (sessionFile (session r) .rules) k ≡ some x → x .name ≡ some name → (id : ℕ) × EntryOf (sessionMap (session r)) name id
+    by zero x name e q = (300, (0, _, refl, some-is _ name (ap (λ (y : FileRule). y .name) (some-is _ x e) ∙ q), refl))
+    by (suc zero) x name e q = absurd (none-some name (ap (λ (y : FileRule). y .name) (some-is _ x e) ∙ q))
+    by (suc (suc zero)) x name e q = (301, (1, _, refl, some-is _ name (ap (λ (y : FileRule). y .name) (some-is _ x e) ∙ q), refl))
+    by (suc (suc (suc zero))) x name e q = absurd (none-some name (ap (λ (y : FileRule). y .name) (some-is _ x e) ∙ q))
+    by (suc (suc (suc (suc zero)))) x name e q = (302, (2, _, refl, some-is _ name (ap (λ (y : FileRule). y .name) (some-is _ x e) ∙ q), refl))
+    by (suc (suc (suc (suc (suc k))))) x name e q = absurd (none-some x e)
 
-    none-left : (k : ℕ) → suc (suc (suc (suc (suc k)))) < 5 → ⊥
-    none-left k h = omega arith
+-- every hypothesis holds
+pub met : (r : Run) → Accepts (session r)
+unfolding isLineEnd isBlank isOtherWhitespace isLetter isDigit isHexDigit isMetaCharacter isEscapeLetter isWhitespaceByte isAsciiWhitespace isAlwaysKept part sameBytes sameRange lookaheadIs trimStart trimEnd backslashesBehind backslashesBefore keepEscaped trimEndUnescaped charOf charLen utf8 firstOf first lastOf last repeat skip whitespaceOf lineEndOf whitespaceLen lineEndLen room insertAt append stateOf ruleOf expectedOf faultOf nextNumber addFault startsFault isFault findFault faultEnd addSpan addPair repeatAt addRepeat loop comments isComment pastComment pastLine toDeclaration pastRuleLine toRule inSection hasRoutines allBytes isNameByte isStateName isState N.findState hasName findRule posixEscapes hasEscape isCodeLetter isCode isKeptBy isKept pastEscape pastKept pastAllKept isRewritten lastWhole dropLone rewrittenEnd backspace escapeFrom escaped pieceEnd piece pieces unescaped namingAt namingOf declareState nameTo nextName stateNames isQuoted expectedTo nextExpected expectedNames isAlphanumeric declares statesFrom declarationBy declarationTo declarationOf declareAs declaration nextDeclaration endDeclarations declarations operationOf targetAt targetBy targetTo targetOf isNoName isName labelBy labelOf headingAt headingBy headingAfter headingFrom headingOf bodyTo bodyOf R.entryAt entryFrom nextEntry entries refuses recordRule sourceRule listedRule rewrittenRule ruleBody pattern ruleAs rule line nextRule rules routines rulesSection closed judge rulesFrom opening file outcome two bytes pad fieldAt fieldFrom contents listOf stateFields ruleFields entryFields expectedFields faultFields stateAt ruleAt entryAt expectedAt leaves parseCall decoded all goodState goodRule goodExpected goodContents longEnough sheetCheck mapEntryFields mapEntryOf mapEntryAt entryOf entriesOf findEntry idAt idOf allBelow distinct nameInside mapCheck nameOf isNone isUnmapped hasThatName isUnused numbers unmapped unused relaid LK.fits linkAll linkChecked linkCall goodStart startCall meaning operationBy nameFrom mapOf fileOf lengths noneAbove fits has isEmpty isLive before winnerOf idIn operate move token wins chooses step answers
+met r = record { parsed = refl; unmapped = 0; unused = 0; linked = refl; holds = holds-names r; started = refl }
 
-    by : (k : ℕ) → k < length (found .rules) → isNamed (nthRule (found .rules) k) ≡ true
-        → (j : ℕ) × (j < length (entriesOf names-of-map entries-of-map)) × (nth (entriesOf names-of-map entries-of-map) j .name ≡ nameOf lexFile (nthRule (found .rules) k))
-    by zero h e = (0, at 0 (omega arith), refl)
-    by (suc zero) h e = absurd (true≢false (sym e))
-    by (suc (suc zero)) h e = (1, at 1 (omega arith), refl)
-    by (suc (suc (suc zero))) h e = absurd (true≢false (sym e))
-    by (suc (suc (suc (suc zero)))) h e = (2, at 2 (omega arith), refl)
-    by (suc (suc (suc (suc (suc k))))) h e = absurd (none-left k h)
-
-pub met : (r : Run) → Met (replicate 18 7) r
-unfolding isLineEnd isBlank isOtherWhitespace isLetter isDigit isHexDigit isMetaCharacter isEscapeLetter isWhitespaceByte isAsciiWhitespace isAlwaysKept part sameBytes sameRange lookaheadIs trimStart trimEnd backslashesBehind backslashesBefore keepEscaped trimEndUnescaped charOf charLen utf8 firstOf first lastOf last repeat skip whitespaceOf lineEndOf whitespaceLen lineEndLen room insertAt append stateOf ruleOf expectedOf faultOf nextNumber addFault startsFault isFault findFault faultEnd addSpan addPair repeatAt addRepeat loop comments isComment pastComment pastLine toDeclaration pastRuleLine toRule inSection hasRoutines allBytes isNameByte isStateName isState N.findState hasName findRule posixEscapes hasEscape isCodeLetter isCode isKeptBy isKept pastEscape pastKept pastAllKept isRewritten lastWhole dropLone rewrittenEnd backspace escapeFrom escaped pieceEnd piece pieces unescaped namingAt namingOf declareState nameTo nextName stateNames isQuoted expectedTo nextExpected expectedNames isAlphanumeric declares statesFrom declarationBy declarationTo declarationOf declareAs declaration nextDeclaration endDeclarations declarations operationOf targetAt targetBy targetTo targetOf isNoName isName labelBy labelOf headingAt headingBy headingAfter headingFrom headingOf bodyTo bodyOf R.entryAt entryFrom nextEntry entries refuses recordRule sourceRule listedRule rewrittenRule ruleBody pattern ruleAs rule line nextRule rules routines rulesSection closed judge rulesFrom opening file outcome two bytes pad fieldAt fieldFrom contents listOf stateFields ruleFields entryFields expectedFields faultFields stateAt ruleAt entryAt expectedAt leaves parseCall decoded all goodState goodRule goodExpected goodContents longEnough sheetCheck mapEntryFields mapEntryOf mapEntryAt entryOf entriesOf findEntry idAt idOf allBelow distinct nameInside mapCheck nameOf isNone isUnmapped hasThatName isUnused numbers unmapped unused relaid fits linkAll linkChecked linkCall goodStart startCall findState listed live weight greatest earliest goodRow stackAfter movedBy tokenBy wins winner chooses machineStep machineRun
-met r = record { file-accepted = refl; map-linked = refl; names-held = holds-names; run-started = refl; answers = refl }
+-- and these are the answers
+pub met-answers : (r : Run) → answers (given (session r)) fresh entry-rows
+    ≡ Token 300 0 2 ∷ Skip ∷ RowMismatch ∷ Skip ∷ Token 301 4 1 ∷ Token 302 5 1 ∷ Token 300 6 1 ∷ Stopped ∷ Token 302 7 1 ∷ Done ∷ []
+unfolding isLineEnd isBlank isOtherWhitespace isLetter isDigit isHexDigit isMetaCharacter isEscapeLetter isWhitespaceByte isAsciiWhitespace isAlwaysKept part sameBytes sameRange lookaheadIs trimStart trimEnd backslashesBehind backslashesBefore keepEscaped trimEndUnescaped charOf charLen utf8 firstOf first lastOf last repeat skip whitespaceOf lineEndOf whitespaceLen lineEndLen room insertAt append stateOf ruleOf expectedOf faultOf nextNumber addFault startsFault isFault findFault faultEnd addSpan addPair repeatAt addRepeat loop comments isComment pastComment pastLine toDeclaration pastRuleLine toRule inSection hasRoutines allBytes isNameByte isStateName isState N.findState hasName findRule posixEscapes hasEscape isCodeLetter isCode isKeptBy isKept pastEscape pastKept pastAllKept isRewritten lastWhole dropLone rewrittenEnd backspace escapeFrom escaped pieceEnd piece pieces unescaped namingAt namingOf declareState nameTo nextName stateNames isQuoted expectedTo nextExpected expectedNames isAlphanumeric declares statesFrom declarationBy declarationTo declarationOf declareAs declaration nextDeclaration endDeclarations declarations operationOf targetAt targetBy targetTo targetOf isNoName isName labelBy labelOf headingAt headingBy headingAfter headingFrom headingOf bodyTo bodyOf R.entryAt entryFrom nextEntry entries refuses recordRule sourceRule listedRule rewrittenRule ruleBody pattern ruleAs rule line nextRule rules routines rulesSection closed judge rulesFrom opening file outcome two bytes pad fieldAt fieldFrom contents listOf stateFields ruleFields entryFields expectedFields faultFields stateAt ruleAt entryAt expectedAt leaves parseCall decoded all goodState goodRule goodExpected goodContents longEnough sheetCheck mapEntryFields mapEntryOf mapEntryAt entryOf entriesOf findEntry idAt idOf allBelow distinct nameInside mapCheck nameOf isNone isUnmapped hasThatName isUnused numbers unmapped unused relaid LK.fits linkAll linkChecked linkCall goodStart startCall meaning operationBy nameFrom mapOf fileOf lengths noneAbove fits has isEmpty isLive before winnerOf idIn operate move token wins chooses step answers
+met-answers r = refl
 
 -- so demand 3 holds of the calls with these rows
-pub met-demand : (r : Run) → let sheet : SheetBytes = sheetLeftBy lexFile (parseCall lexFile 0 [] capacities) in
-    let start : StartLeft = startCall 8 r (replicate 18 7) in
-    Demand (givenBy lexFile found (entriesOf names-of-map entries-of-map) 8) (replicate 18 7) start entry-rows
-    (calls (linkedSheet sheet (linkCall sheet names-of-map entries-of-map [] [])) (start .run) (start .stack) entry-rows)
+pub met-demand : (r : Run) → Demand (given (session r)) (session r .stack) (startLeftOf (session r)) entry-rows (sessionCalls (session r) entry-rows)
 unfolding DEMAND
-met-demand r =
-    let h = met r in
-    demand lexFile 0 [] capacities found (h .file-accepted) names-of-map entries-of-map [] [] 0 0 (h .map-linked) (h .names-held) 8 r (replicate 18 7) (h .run-started) entry-rows
+met-demand r = demand (session r) (met r) entry-rows

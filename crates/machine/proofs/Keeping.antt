@@ -1,28 +1,38 @@
 -- What holds of the machine and its stack's bytes before a call holds after it: a move goes by at least one byte and the stack grows by at most
 -- one id, which is the winner's target or state 0, so that depth and moves never pass the position.
 use mathlib.Core.Path.{_≡_, refl}
-use mathlib.Core.Bool.{Bool, true, false, cond}
-use mathlib.Core.List.{List, [], _∷_, _++_}
+use mathlib.Core.Bool.{Bool, true}
+use mathlib.Core.List.{List, [], _∷_}
 use Prim.Native.Nat.{ℕ, zero, suc, _+_, _*_, _-_, _≤_, _<_}
 use native.Mathlib.Omega.{arith}
 use borrow.Author.Tests.{lt-ltb}
-use lib.Dec.{eqb}
 use lib.ListN.{length, take, length-append}
 use lib.Seq.{length-take-le}
 use Rattle.text.proofs.Tests.{and-left, and-right}
-use Rattle.area.specs.declared.Rule.{Rule}
 use Rattle.area.specs.Records.{entryWidth}
 use Rattle.sheet_check.specs.SheetCheck.{all, declared}
 use Rattle.accepted.proofs.ByteLists.{all-append}
-use Rattle.machine.specs.Machine.{Machine, Given, orInitial, withoutLast, stackAfter, movedBy}
-use Rattle.machine.specs.Demand.{stackAs}
-use Rattle.machine.proofs.Stacks.{laid-again, laid-begins, laid-length}
-use Rattle.machine.proofs.Stepping.{Runs}
+use Rattle.run.specs.Run.{mostBytes, stackBytes}
+use Rattle.machine.specs.File.{Operation, keep, replace, push, pop}
+use Rattle.machine.specs.Machine.{Given, Machine, orInitial, operate, Winner, move}
+use Rattle.machine.proofs.Laid.{stackAs}
+use Rattle.machine.proofs.Stacks.{Begins, laid-again, laid-begins, laid-length}
+
+-- what holds of the machine and of the bytes that its stack is laid over, before each call
+pub record Runs (g : Given) (m : Machine) (b : List ℕ) : Type 0 where
+  pub small : g .n ≤ mostBytes
+  pub inside : m .position ≤ g .n
+  pub some : 1 ≤ length (m .stack)
+  pub depth : length (m .stack) ≤ m .position + 1
+  pub moves : m .moves ≤ m .position
+  pub ids : all (declared (length (g .file .states))) (m .stack) ≡ true
+  pub begins : Begins (m .stack) b
+  pub long : stackBytes (g .n) ≤ length b
 
 -- ---- the stack
 
 -- a stack that follows one of d ids: not empty, at most one id longer, and all its ids pass
-record Follows (test : ℕ → Bool) (d : ℕ) (z : List ℕ) : Type 0 where
+record Succeeds (test : ℕ → Bool) (d : ℕ) (z : List ℕ) : Type 0 where
   some : 1 ≤ length z
   few : length z ≤ d + 1
   pass : all test z ≡ true
@@ -33,29 +43,33 @@ all-take test zero xs e = refl
 all-take test (suc k) [] e = refl
 all-take test (suc k) (x ∷ xs) e = rw (and-left (test x) (all test xs) e) (all-take test k xs (and-right (test x) (all test xs) e))
 
-module _ (test : ℕ → Bool) where
-  one-follows : (d v : ℕ) → test v ≡ true → Follows test d (v ∷ [])
+-- the state that an operation puts on the stack is declared
+abbrev pub Aims : ℕ → Operation → Type 0
+Aims states keep = Unit {0}
+Aims states (replace target) = target < states
+Aims states (push target) = target < states
+Aims states pop = Unit {0}
+
+module _ (states : ℕ) where
+  one-succeeds : (d v : ℕ) → v < states → Succeeds (declared states) d (v ∷ [])
   unfolding all
-  one-follows d v t = record { some = omega arith; few = omega arith; pass = rw t refl }
+  one-succeeds d v t = record { some = omega arith; few = omega arith; pass = rw (lt-ltb v states t) refl }
 
-  initial-follows : (d : ℕ) (z : List ℕ) → test 0 ≡ true → all test z ≡ true → length z ≤ d + 1 → Follows test d (orInitial z)
-  initial-follows d [] t e h = one-follows d 0 t
-  initial-follows d (x ∷ xs) t e h = record { some = omega arith; few = h; pass = e }
+  initial-succeeds : (d : ℕ) (z : List ℕ) → 0 < states → all (declared states) z ≡ true → length z ≤ d + 1 → Succeeds (declared states) d (orInitial z)
+  initial-succeeds d [] t e h = one-succeeds d 0 t
+  initial-succeeds d (x ∷ xs) t e h = record { some = omega arith; few = h; pass = e }
 
-  after-follows : (x : Rule) (st : List ℕ) → 1 ≤ length st → all test st ≡ true → test 0 ≡ true → test (x .target) ≡ true → Follows test (length st) (stackAfter x st)
-  unfolding stackAfter all
-  after-follows x st h e z t = go (eqb (x .operation) 1) (eqb (x .operation) 2) (eqb (x .operation) 3)
-    where
-      go : (p q r : Bool) → Follows test (length st) (cond p (x .target ∷ []) (cond q (st ++ (x .target ∷ [])) (cond r (orInitial (withoutLast st)) st)))
-      go true q r = one-follows (length st) (x .target) t
-      go false true r = record {
-        some = omega (arith, length-append st (x .target ∷ []));
-        few = omega (arith, length-append st (x .target ∷ []));
-        pass = all-append test st (x .target ∷ []) e (one-follows 0 (x .target) t .pass);
-      }
-      go false false true =
-          initial-follows (length st) (withoutLast st) z (all-take test (length st - 1) st e) (omega (arith, length-take-le (length st - 1) st (omega arith)))
-      go false false false = record { some = h; few = omega arith; pass = e }
+  after-succeeds : (o : Operation) (st : List ℕ) → 1 ≤ length st → all (declared states) st ≡ true → 0 < states → Aims states o → Succeeds (declared states) (length st) (operate o st)
+  unfolding operate
+  after-succeeds keep st h e z t = record { some = h; few = omega arith; pass = e }
+  after-succeeds (replace v) st h e z t = one-succeeds (length st) v t
+  after-succeeds (push v) st h e z t = record {
+    some = omega (arith, length-append st (v ∷ []));
+    few = omega (arith, length-append st (v ∷ []));
+    pass = all-append (declared states) st (v ∷ []) e (one-succeeds 0 v t .pass);
+  }
+  after-succeeds pop st h e z t =
+      initial-succeeds (length st) (take (length st - 1) st) z (all-take (declared states) (length st - 1) st e) (omega (arith, length-take-le (length st - 1) st (omega arith)))
 
 -- ---- the run
 
@@ -63,13 +77,13 @@ module _ (test : ℕ → Bool) where
 pub still-runs : (g : Given) (m : Machine) (b : List ℕ) → Runs g m b → Runs g m (stackAs b m)
 still-runs g m b h = rw (← laid-again (m .stack) b (h .begins)) h
 
-pub moved-runs : (g : Given) (m : Machine) (b : List ℕ) (x : Rule) (bytes : ℕ) → Runs g m b → 0 < length (g .contents .states) → x .target < length (g .contents .states)
-    → 0 < bytes → m .position + bytes ≤ g .n → Runs g (movedBy x bytes m) (stackAs b (movedBy x bytes m))
-unfolding movedBy
-moved-runs g m b x bytes h z t p l =
-    let states : ℕ = length (g .contents .states) in
-    let f = after-follows (declared states) x (m .stack) (h .some) (h .ids) (lt-ltb 0 states z) (lt-ltb (x .target) states t) in
-    let fits : length (stackAfter x (m .stack)) * entryWidth ≤ length b = omega (arith, f .few, h .depth, h .long) in
+pub moved-runs : (g : Given) (m : Machine) (b : List ℕ) (w : Winner) → Runs g m b → 0 < length (g .file .states) → Aims (length (g .file .states)) (w .rule .operation)
+    → 0 < w .bytes → m .position + w .bytes ≤ g .n → Runs g (move w m) (stackAs b (move w m))
+unfolding move
+moved-runs g m b w h z t p l =
+    let st : List ℕ = operate (w .rule .operation) (m .stack) in
+    let f = after-succeeds (length (g .file .states)) (w .rule .operation) (m .stack) (h .some) (h .ids) z t in
+    let fits : length st * entryWidth ≤ length b = omega (arith, f .few, h .depth, h .long) in
     record {
       small = h .small;
       inside = l;
@@ -77,6 +91,6 @@ moved-runs g m b x bytes h z t p l =
       depth = omega (arith, f .few, h .depth);
       moves = omega (arith, h .moves);
       ids = f .pass;
-      begins = laid-begins b (stackAfter x (m .stack)) fits;
-      long = omega (arith, laid-length b (stackAfter x (m .stack)) fits, h .long);
+      begins = laid-begins b st fits;
+      long = omega (arith, laid-length b st fits, h .long);
     }

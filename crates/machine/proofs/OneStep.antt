@@ -1,117 +1,96 @@
--- What one step of the machine does, by the answer that it gives: it stays, or moves by the winner. The map holds the name of each named rule, so
+-- What one step of the machine does, by what its answer means: it stays, or moves by the winner. The map holds the name of each named rule, so
 -- that a named winner is always a token.
-use mathlib.Core.Path.{_≡_, refl, sym, ap, _∙_}
-use mathlib.Core.Bool.{true, false}
-use mathlib.Core.List.{List}
-use mathlib.Core.Logic.{⊎-elim}
+use mathlib.Core.Path.{_≡_, refl, sym, ap, subst, subst⁻¹}
+use mathlib.Core.List.{List, [], _∷_, _++_}
 use mathlib.Core.Option.{some}
 use Prim.Native.Nat.{ℕ, _+_, _-_, _≤_, _<_}
 use native.Mathlib.Omega.{arith}
-use borrow.Author.Tests.{eqb-false, le-ltb, lt-ltb, lt-leb}
-use lib.Dec.{eqb, leb}
-use lib.ListN.{length}
-use Rattle.text.proofs.Tests.{by-test, le-or-lt, and-false}
-use Rattle.text.proofs.Ranges.{same-self}
-use Rattle.text.specs.Range.{sameBytes}
-use Rattle.area.specs.Records.{nthRule}
-use Rattle.link.specs.Map.{Entry, nth, findEntry, idAt, idOf}
-use Rattle.names.specs.Names.{nameOf}
-use Rattle.link.specs.Link.{isNamed}
+use lib.ListN.{length, getElem?}
 use Rattle.run.specs.declared.Step.{Step}
-use Rattle.run.specs.declared.Step.the-variants.{RowMismatch, Done, Stopped, Skip, Token}
-use Rattle.run.specs.Run.{goodRow}
-use Rattle.run.proofs.Places.{first-low}
-use Rattle.machine.specs.Machine.{Machine, Given, Answered, answered, currentState, movedBy, tokenBy, wins, winner, chooses, machineStep}
-use Rattle.machine.specs.Demand.{Fine, moving, among, covering, Wins, IdOf, Moves, MapHolds, stackAs}
-use Rattle.machine.proofs.Stepping.{Runs}
-use Rattle.machine.proofs.Winners.{winner-wins, winner-low}
-use Rattle.machine.proofs.Keeping.{still-runs, moved-runs}
+use Rattle.run.specs.declared.Step.the-variants.{BrokenSheet, BrokenRun, RowMismatch, Done, Stopped, Unlinked, Skip, Token}
+use Rattle.machine.specs.File.{FileRule}
+use Rattle.machine.specs.Machine.{Given, Machine, Winner, move}
+use Rattle.machine.specs.Means.{Won, Means}
+use Rattle.machine.specs.Demand.{Allowed, Piece, piece, pieceOf, Adjoin, MapHolds}
+use Rattle.machine.proofs.Laid.{stackAs}
+use Rattle.machine.proofs.Options.{place-inside}
+use Rattle.machine.proofs.Only.{Distinct}
+use Rattle.machine.proofs.Keeping.{Runs, Aims, still-runs, moved-runs}
 
--- ---- ids
+-- the answer a, and the machine that is next, where the machine was m over the stack's bytes b: it goes on by so many bytes, and its piece stands
+-- between the position and what comes behind
+pub record Stepped (g : Given) (m : Machine) (b : List ℕ) (a : Step) (next : Machine) : Type 0 where
+  pub bytes : ℕ
+  pub position : next .position ≡ m .position + bytes
+  pub allowed : Allowed a
+  pub few : length (pieceOf (m .position) (m .position + bytes) a) ≤ bytes
+  pub adjoins : (xs : List Piece) (e : ℕ) → Adjoin (m .position + bytes) xs e → Adjoin (m .position) (pieceOf (m .position) (m .position + bytes) a ++ xs) e
+  pub runs : Runs g next (stackAs b next)
 
--- an entry with that name gives it an id
-pub found-id : (es : List Entry) (name : List ℕ) (j : ℕ) → j < length es → nth es j .name ≡ name → (i : ℕ) × (idOf es name ≡ some i)
-unfolding idOf idAt findEntry
-found-id es name j h e =
-    let k : ℕ = findEntry es name in
-    let low : k ≤ j = first-low (λ m. sameBytes (nth es m .name) name) 0 (length es) (omega arith) j (omega arith) (ap (λ (n : List ℕ). sameBytes n name) e ∙ same-self name) in
-    (nth es k .id, rw (lt-ltb k (length es) (omega arith)) refl)
+-- ---- answers that are not refusals
 
--- ---- bytes that are covered
+abbrev IsAllowed : Step → Type 0
+IsAllowed BrokenSheet = ⊥
+IsAllowed BrokenRun = ⊥
+IsAllowed RowMismatch = Unit {0}
+IsAllowed Done = Unit {0}
+IsAllowed Stopped = Unit {0}
+IsAllowed Unlinked = ⊥
+IsAllowed Skip = Unit {0}
+IsAllowed (Token id start bytes) = Unit {0}
 
-pub among-none : (y p : ℕ) → among y p 0 ≡ 0
-unfolding among
-among-none y p = ⊎-elim (λ h. rw (le-ltb y (p + 0) (omega arith), and-false (leb p y)) refl) (λ h. rw (lt-leb p y h) refl) (le-or-lt p y)
+is-allowed : (a : Step) → IsAllowed a → Allowed a
+is-allowed a h = record { not-unlinked = λ e. subst IsAllowed e h; not-6 = λ e. subst IsAllowed e h; not-9 = λ e. subst IsAllowed e h }
 
 -- ---- one step
 
--- the answer o to a row, where the machine was m over the stack's bytes b
-pub record Stepped (g : Given) (m : Machine) (b row : List ℕ) (o : Answered) : Type 0 where
-  pub bytes : ℕ
-  pub position : o .machine .position ≡ m .position + bytes
-  pub enough : moving (o .answer) ≤ bytes
-  pub fine : Fine (o .answer)
-  pub cover : (y : ℕ) → covering y (m .position) (m .position + bytes) (o .answer) ≡ among y (m .position) bytes
-  pub moves : Moves g m row (o .answer)
-  pub runs : Runs g (o .machine) (stackAs b (o .machine))
-
--- what the file has: a state, and targets that are declared; and what the map has: an id for the name of each named rule
+-- what the file has: a state, and targets that are declared; and what the map has: an id for the name of each named rule, and one only
 pub record Usable (g : Given) : Type 0 where
-  pub some-state : 0 < length (g .contents .states)
-  pub targets : (k : ℕ) → k < length (g .contents .rules) → nthRule (g .contents .rules) k .target < length (g .contents .states)
-  pub names : MapHolds (g .source) (g .contents) (g .map)
+  pub some-state : 0 < length (g .file .states)
+  pub targets : (k : ℕ) (x : FileRule) → getElem? (g .file .rules) k ≡ some x → Aims (length (g .file .states)) (x .operation)
+  pub names : MapHolds (g .file) (g .map)
+  pub differ : Distinct (g .map)
 
 module _ (g : Given) (usable : Usable g) (m : Machine) (b row : List ℕ) (h : Runs g m b) where
-  stays : (a : Step) → moving a ≡ 0 → Fine a → ((y : ℕ) → covering y (m .position) (m .position + 0) a ≡ 0)
-      → IdOf g (nthRule (g .contents .rules) (winner g m row .rule)) a → Stepped g m b row (answered a m)
-  stays a z f c i = record {
-    bytes = 0;
-    position = omega arith;
-    enough = omega arith;
-    fine = f;
-    cover = λ y. c y ∙ sym (among-none y (m .position));
-    moves = record { wins = λ e. absurd (omega (arith, z, e)); id = i };
-    runs = still-runs g m b h;
-  }
+  stays : (a : Step) (next : Machine) → pieceOf (m .position) (m .position + 0) a ≡ [] → IsAllowed a → next ≡ m → Stepped g m b a next
+  stays a next none f q =
+      let here : m .position + 0 ≡ m .position = omega arith in
+      subst⁻¹ (Stepped g m b a) q
+      (record {
+        bytes = 0;
+        position = sym here;
+        allowed = is-allowed a f;
+        few = omega (arith, ap length none);
+        adjoins = λ xs e r. subst⁻¹ (λ (ys : List Piece). Adjoin (m .position) (ys ++ xs) e) none (subst (λ (k : ℕ). Adjoin k xs e) here r);
+        runs = still-runs g m b h;
+      })
 
-  module _ (some-bytes : 0 < winner g m row .length) (left : m .position + winner g m row .length ≤ g .n) where
-    won : Wins (g .contents) (currentState (m .stack)) row (winner g m row)
-    won = winner-wins g m row some-bytes
+  goes : (a : Step) (next : Machine) (w : Winner) → Won g m row w → pieceOf (m .position) (m .position + w .bytes) a ≡ piece (m .position) (w .bytes) ∷ [] → IsAllowed a
+      → next ≡ move w m → Stepped g m b a next
+  unfolding move Adjoin
+  goes a next w won one f q =
+      let low = won .fitting .low (won .place) (place-inside (g .file .rules) (won .place) (w .rule) (won .rule)) in
+      subst⁻¹ (Stepped g m b a) q
+      (record {
+        bytes = w .bytes;
+        position = refl;
+        allowed = is-allowed a f;
+        few = omega (arith, ap length one, won .some-bytes);
+        adjoins = λ xs e r. subst⁻¹ (λ (ys : List Piece). Adjoin (m .position) (ys ++ xs) e) one (refl, r);
+        runs = moved-runs g m b w h (usable .some-state) (usable .targets (won .place) (w .rule) (won .rule)) (won .some-bytes) (omega (arith, low, won .has, won .some-bytes, h .inside));
+      })
 
-    goes : (a : Step) → moving a ≡ 1 → Fine a → ((y : ℕ) → covering y (m .position) (m .position + winner g m row .length) a ≡ among y (m .position) (winner g m row .length))
-        → IdOf g (nthRule (g .contents .rules) (winner g m row .rule)) a
-        → Stepped g m b row (answered a (movedBy (nthRule (g .contents .rules) (winner g m row .rule)) (winner g m row .length) m))
-    unfolding movedBy
-    goes a e f c i = record {
-      bytes = winner g m row .length;
-      position = refl;
-      enough = omega (arith, e);
-      fine = f;
-      cover = c;
-      moves = record { wins = λ _. won; id = i };
-      runs = moved-runs g m b (nthRule (g .contents .rules) (winner g m row .rule)) (winner g m row .length) h (usable .some-state) (usable .targets (winner g m row .rule) (won .inside)) some-bytes left;
-    }
-
-    wins-stepped : Stepped g m b row (wins g (nthRule (g .contents .rules) (winner g m row .rule)) (winner g m row .length) m)
-    unfolding wins tokenBy
-    wins-stepped = by-test (λ o. Stepped g m b row o) (isNamed (nthRule (g .contents .rules) (winner g m row .rule))) _ _ named unnamed
-      where
-        named : isNamed (nthRule (g .contents .rules) (winner g m row .rule)) ≡ true
-            → Stepped g m b row (tokenBy (idOf (g .map) (nameOf (g .source) (nthRule (g .contents .rules) (winner g m row .rule)))) (nthRule (g .contents .rules) (winner g m row .rule)) (winner g m row .length) m)
-        named e =
-            let k = usable .names .holds (winner g m row .rule) (won .inside) e in
-            let q = found-id (g .map) (nameOf (g .source) (nthRule (g .contents .rules) (winner g m row .rule))) (k .0) (k .1) (k .2) in
-            rw (q .1) (goes (Token (q .0) (m .position) (winner g m row .length)) refl tt (λ y. refl) (e, q .1))
-
-        unnamed : isNamed (nthRule (g .contents .rules) (winner g m row .rule)) ≡ false
-            → Stepped g m b row (answered Skip (movedBy (nthRule (g .contents .rules) (winner g m row .rule)) (winner g m row .length) m))
-        unnamed e = goes Skip refl tt (λ y. ap (among y (m .position)) (omega arith)) tt
-
-  pub one-step : Stepped g m b row (machineStep g m row)
-  unfolding machineStep chooses
-  one-step =
-      by-test (λ o. Stepped g m b row o) (eqb (m .position) (g .n)) _ _ (λ _. stays Done refl tt (λ y. refl) tt)
-      (λ e. by-test (λ o. Stepped g m b row o) (goodRow (length (g .contents .rules)) (g .n - m .position) row) _ _
-      (λ fit. by-test (λ o. Stepped g m b row o) (eqb (winner g m row .length) 0) _ _ (λ _. stays Stopped refl tt (λ y. refl) tt)
-      (λ d. wins-stepped (omega (arith, eqb-false (winner g m row .length) 0 d)) (omega (arith, winner-low g m row (g .n - m .position) fit, h .inside))))
-      (λ _. stays RowMismatch refl tt (λ y. refl) tt))
+  pub stepped : (a : Step) (next : Machine) → Means g m row a next → Stepped g m b a next
+  stepped BrokenSheet next e = absurd e
+  stepped BrokenRun next e = absurd e
+  stepped RowMismatch next e = stays RowMismatch next refl tt (e .2)
+  stepped Done next e = stays Done next refl tt (e .1)
+  stepped Stopped next e = stays Stopped next refl tt (e .2)
+  stepped Unlinked next (w, won, name, named, none, q) =
+      let r = usable .names .holds (won .place) (w .rule) name (won .rule) named in
+      absurd (none (r .0) (r .1))
+  stepped Skip next (w, won, unnamed, q) =
+      let long : m .position + w .bytes - m .position ≡ w .bytes = omega arith in
+      goes Skip next w won (ap (λ (k : ℕ). piece (m .position) k ∷ []) long) tt q
+  stepped (Token id start bytes) next (w, won, name, named, entry, from, long, q) =
+      goes (Token id start bytes) next w won (λ i. piece (from i) (long i) ∷ []) tt q

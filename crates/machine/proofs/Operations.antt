@@ -2,7 +2,7 @@
 -- changes a rule's mark and id alone, so everything but the answer is as without it.
 use mathlib.Core.Path.{_≡_, refl, sym, ap, ap₂, _∙_}
 use mathlib.Core.Bool.{Bool, true, false, cond}
-use mathlib.Core.List.{List, [], _∷_, _++_, map}
+use mathlib.Core.List.{List, [], _∷_}
 use mathlib.Core.Option.{Option, none, some}
 use Prim.Native.Nat.{ℕ, suc, _+_, _*_, _-_, _≤_}
 use native.Mathlib.Omega.{arith}
@@ -10,10 +10,12 @@ use borrow.Author.Tests.{ne-eqb}
 use lib.Dec.{eqb}
 use lib.ListN.{length, take, length-append}
 use lib.Seq.{length-take-le}
+use Rattle.text.specs.Range.{part}
 use Rattle.area.specs.declared.State.{State}
 use Rattle.area.specs.declared.Rule.{Rule}
 use Rattle.area.specs.Records.{entryWidth, nthRule}
 use Rattle.area.specs.Contents.{entryFormat}
+use Rattle.parse.specs.Parse.{Contents}
 use Rattle.link.specs.Map.{Entry, idOf}
 use Rattle.names.specs.Names.{nameOf}
 use Rattle.link.specs.Link.{relaid, isNamed, withId, withFound, linkRule, linkRules}
@@ -23,8 +25,10 @@ use Rattle.run.specs.declared.Step.{Step}
 use Rattle.run.specs.declared.Step.the-variants.{Unlinked, Skip, Token}
 use Rattle.run.specs.Winner.{listed, live, lengthIn, weight}
 use Rattle.run.specs.Run.{Stacked, stacked, popped, operated, putState, moveBy, stepLeft, wonBy}
-use Rattle.machine.specs.Machine.{Machine, Given, orInitial, withoutLast, stackAfter, movedBy, answered, tokenBy, wins}
-use Rattle.machine.specs.Demand.{runAs, leftAs}
+use Rattle.machine.specs.File.{keep, replace, push, pop, operationBy, nameFrom, fileRule}
+use Rattle.machine.specs.Machine.{Given, Machine, orInitial, operate, Winner, winner, move, answered, token, wins}
+use Rattle.machine.proofs.Laid.{runAs, leftAs}
+use Rattle.machine.proofs.Reading.{id-same}
 use Rattle.machine.proofs.Stacks.{Begins, laid-again, laid-shorter, laid-push, laid-bottom}
 
 -- ---- operations
@@ -36,7 +40,7 @@ stackedAs b z = stacked (length z) (relaid entryFormat b z)
 kept : (st b : List ℕ) → Begins st b → stacked (length st) b ≡ stackedAs b st
 kept st b h = ap (stacked (length st)) (laid-again st b h)
 
-pop-as : (st b : List ℕ) → Begins st b → 1 ≤ length st → entryWidth ≤ length b → popped (length st) b ≡ stackedAs b (orInitial (withoutLast st))
+pop-as : (st b : List ℕ) → Begins st b → 1 ≤ length st → entryWidth ≤ length b → popped (length st) b ≡ stackedAs b (orInitial (take (length st - 1) st))
 unfolding popped
 pop-as [] b h l w = absurd (omega arith)
 pop-as (x ∷ []) b h l w = ap (stacked 1) (laid-bottom b 0 w)
@@ -48,8 +52,8 @@ pop-as (x ∷ y ∷ ys) b h l w =
     ∙ kept (take (suc (length ys)) st) b (laid-shorter st b h (suc (length ys)) (omega arith)))
 
 pub operated-as : (x : Rule) (st b : List ℕ) → Begins st b → 1 ≤ length st → length st * entryWidth + entryWidth ≤ length b
-    → operated x (length st) b ≡ stackedAs b (stackAfter x st)
-unfolding operated stackAfter
+    → operated x (length st) b ≡ stackedAs b (operate (operationBy (x .operation) (x .target)) st)
+unfolding operated operate operationBy
 operated-as x st b h l w = go (eqb (x .operation) 1) (eqb (x .operation) 2) (eqb (x .operation) 3)
   where
     t : ℕ
@@ -57,7 +61,7 @@ operated-as x st b h l w = go (eqb (x .operation) 1) (eqb (x .operation) 2) (eqb
 
     go : (p q r : Bool)
         → cond p (stacked 1 (putState b 0 t)) (cond q (stacked (length st + 1) (putState b (length st) t)) (cond r (popped (length st) b) (stacked (length st) b)))
-        ≡ stackedAs b (cond p (t ∷ []) (cond q (st ++ (t ∷ [])) (cond r (orInitial (withoutLast st)) st)))
+        ≡ stackedAs b (operate (cond p (replace t) (cond q (push t) (cond r pop keep))) st)
     go true q r = ap (stacked 1) (laid-bottom b t (omega arith))
     go false true r = ap₂ stacked (sym (length-append st (t ∷ []))) (laid-push st b h t w)
     go false false true = pop-as st b h l (omega arith)
@@ -81,19 +85,31 @@ module _ (s : List ℕ) (es : List Entry) where
 pub still-as : (n : ℕ) (m : Machine) (b : List ℕ) → Begins (m .stack) b → (a : Step) → stepLeft a (runAs n m) b ≡ leftAs n b (answered a m)
 still-as n m b h a = ap (stepLeft a (runAs n m)) (laid-again (m .stack) b h)
 
--- the bytes b begin with the stack, with room for one id more
-module _ (n : ℕ) (m : Machine) (b : List ℕ) (begins : Begins (m .stack) b) (some-id : 1 ≤ length (m .stack)) (room : length (m .stack) * entryWidth + entryWidth ≤ length b) where
-  move-as : (a : Step) (x : Rule) (bytes : ℕ) → stepLeft a (moveBy x bytes (runAs n m) b .run) (moveBy x bytes (runAs n m) b .stack) ≡ leftAs n b (answered a (movedBy x bytes m))
-  unfolding moveBy movedBy
+-- the bytes b begin with the stack, with room for one id more; s is the source, and c what stands in the areas
+module _ (n : ℕ) (m : Machine) (b : List ℕ) (begins : Begins (m .stack) b) (some-id : 1 ≤ length (m .stack)) (room : length (m .stack) * entryWidth + entryWidth ≤ length b) (s : List ℕ) (c : Contents) where
+  move-as : (a : Step) (x : Rule) (bytes : ℕ)
+      → stepLeft a (moveBy x bytes (runAs n m) b .run) (moveBy x bytes (runAs n m) b .stack) ≡ leftAs n b (answered a (move (winner (fileRule s c x) bytes) m))
+  unfolding moveBy move
   move-as a x bytes =
       ap (λ (z : Stacked). stepLeft a (record { n = n; position = m .position + bytes; depth = z .depth; moves = m .moves + 1 }) (z .stack))
       (operated-as x (m .stack) b begins some-id room)
 
-  pub won-as : (g : Given) (x : Rule) (bytes : ℕ) → wonBy (linkRule (g .source) (g .map) x) bytes (runAs n m) b ≡ leftAs n b (wins g x bytes m)
-  unfolding wonBy linkRule wins withFound withId tokenBy moveBy operated
-  won-as g x bytes = go (isNamed x) refl (idOf (g .map) (nameOf (g .source) x))
+  -- the id of a named winner is the map's
+  named-as : (g : Given) (x : Rule) (w : Winner) → cond (isNamed x) (token (idOf (g .map) (nameOf s x)) w m) (answered Skip (move w m)) ≡ wins g (nameFrom s x) w m
+  unfolding wins nameFrom nameOf
+  named-as g x w = go (isNamed x)
     where
-      go : (t : Bool) → isNamed x ≡ t → (o : Option ℕ) → wonBy (cond t (withFound o x) x) bytes (runAs n m) b ≡ leftAs n b (cond t (tokenBy o x bytes m) (answered Skip (movedBy x bytes m)))
+      go : (t : Bool) → cond t (token (idOf (g .map) (nameOf s x)) w m) (answered Skip (move w m)) ≡ wins g (cond t (some (part s (x .«name_from») (x .«name_from» + x .«name_length»))) none) w m
+      go true = ap (λ (o : Option ℕ). token o w m) (id-same (g .map) (nameOf s x))
+      go false = refl
+
+  pub won-as : (g : Given) (x : Rule) (bytes : ℕ) → wonBy (linkRule s (g .map) x) bytes (runAs n m) b ≡ leftAs n b (wins g (nameFrom s x) (winner (fileRule s c x) bytes) m)
+  unfolding wonBy linkRule withFound withId token moveBy operated
+  won-as g x bytes = go (isNamed x) refl (idOf (g .map) (nameOf s x)) ∙ ap (leftAs n b) (named-as g x (winner (fileRule s c x) bytes))
+    where
+      go : (t : Bool) → isNamed x ≡ t → (o : Option ℕ)
+          → wonBy (cond t (withFound o x) x) bytes (runAs n m) b
+          ≡ leftAs n b (cond t (token o (winner (fileRule s c x) bytes) m) (answered Skip (move (winner (fileRule s c x) bytes) m)))
       go true e (some i) = rw e (move-as (Token i (m .position) bytes) x bytes)
       go true e none = rw e (still-as n m b begins Unlinked)
       go false e o = rw e (move-as Skip x bytes)

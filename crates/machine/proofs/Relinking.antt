@@ -1,19 +1,26 @@
 -- An accepted link wrote the linked rules over area 2, so the linked sheet is the sheet with linked rules.
-use mathlib.Core.Path.{_≡_, refl, ap}
-use mathlib.Core.Bool.{Bool, true, false, cond}
-use mathlib.Core.List.{List}
-use Prim.Native.Nat.{ℕ}
+use mathlib.Core.Path.{_≡_, refl, sym, ap, _∙_}
+use mathlib.Core.Bool.{Bool, true, false, cond, _&&_}
+use mathlib.Core.List.{List, []}
+use mathlib.Core.Option.{some}
+use Prim.Native.Nat.{ℕ, _*_, _%_}
 use native.Mathlib.Omega.{arith}
+use lib.Dec.{eqb, leb}
 use lib.ListN.{length}
-use Rattle.area.specs.Contents.{ruleFormat}
+use Rattle.area.specs.Contents.{contents, ruleFormat}
 use Rattle.parse.specs.Parse.{Contents}
-use Rattle.sheet_check.specs.SheetCheck.{SheetBytes, decoded, sheetCheck}
+use Rattle.sheet_check.specs.SheetCheck.{SheetBytes, decoded, all, sheetCheck}
 use Rattle.link.specs.declared.LinkAnswer.{LinkAnswer}
 use Rattle.link.specs.declared.LinkAnswer.the-variants.{Linked, BrokenSheet, BrokenMap, AreaFull}
-use Rattle.link.specs.Map.{Entry, entriesOf, mapCheck}
+use Rattle.link.specs.Map.{Entry, entry, nth, mapWidth, mostEntries, mapFormat, entryCount, entriesOf, idOf, nameInside, distinct, mapCheck}
 use Rattle.link.specs.Link.{LinkLeft, linkLeft, linkRules, relaid, fits, unmapped, unused, linkAll, linkChecked, linkCall}
-use Rattle.link.proofs.LinkLaws.{linked-contents, linked-passes}
+use Rattle.link.proofs.LinkLaws.{linked-contents, linked-passes, entry-id}
+use borrow.Author.Tests.{eqb-true}
+use Rattle.text.proofs.Tests.{and-left, and-right}
+use Rattle.machine.specs.Means.{EntryOf}
 use Rattle.machine.specs.Demand.{linkedSheet}
+use Rattle.machine.proofs.Options.{some-is, place-inside, place-has}
+use Rattle.machine.proofs.Only.{Distinct}
 
 isLinked : LinkAnswer → ℕ
 isLinked (Linked p q) = 1
@@ -60,3 +67,39 @@ module _ (b : SheetBytes) (names entries x7 x8 : List ℕ) (p q : ℕ) (accepted
 
     pub linked-decodes : decoded (linkedSheet b (linkCall b names entries x7 x8)) ≡ relinked
     linked-decodes = rw linked-area (linked-contents (b .source) (entriesOf names entries) b passed)
+
+-- the map of an accepted link has one id for a name
+module _ (b : SheetBytes) (names entries x7 x8 : List ℕ) (p q : ℕ) (accepted : linkCall b names entries x7 x8 .answer ≡ Linked p q) where
+  map-checked : mapCheck names entries ≡ true
+  unfolding linkCall isLinked
+  map-checked = go (sheetCheck b) (mapCheck names entries) accepted
+    where
+      go : (t u : Bool)
+          → cond t (cond u (linkChecked (b .source) (decoded b .rules) (entriesOf names entries) (b .area2) x7 x8) (linkLeft BrokenMap (b .area2) x7 x8)) (linkLeft BrokenSheet (b .area2) x7 x8) .answer ≡ Linked p q
+          → u ≡ true
+      go t true e = refl
+      go true false e = absurd (omega (arith, ap isLinked e))
+      go false false e = absurd (omega (arith, ap isLinked e))
+
+  map-distinct : distinct (entriesOf names entries) ≡ true
+  unfolding mapCheck
+  map-distinct =
+      and-right (eqb (length entries % mapWidth) 0 && leb (entryCount entries) mostEntries && all (nameInside (length names)) (contents mapFormat entries (entryCount entries))) (distinct (entriesOf names entries))
+      map-checked
+
+  -- its bytes are whole entries
+  pub linked-whole : length entries ≡ entryCount entries * 6
+  unfolding mapCheck
+  linked-whole =
+      let front = and-left (eqb (length entries % mapWidth) 0 && leb (entryCount entries) mostEntries && all (nameInside (length names)) (contents mapFormat entries (entryCount entries))) (distinct (entriesOf names entries)) map-checked in
+      let z = eqb-true (length entries % mapWidth) 0 (and-left (eqb (length entries % mapWidth) 0) (leb (entryCount entries) mostEntries) (and-left (eqb (length entries % mapWidth) 0 && leb (entryCount entries) mostEntries) _ front)) in
+      omega (arith, z)
+
+  pub linked-differ : Distinct (entriesOf names entries)
+  linked-differ = record { one = λ name x y u v. some-is x y (sym (id-is name x u) ∙ id-is name y v) }
+    where
+      id-is : (name : List ℕ) (x : ℕ) → EntryOf (entriesOf names entries) name x → idOf (entriesOf names entries) name ≡ some x
+      id-is name x (j, e, at, same, is) =
+          let es : List Entry = entriesOf names entries in
+          let here : nth es j ≡ e = place-has es j e (entry [] 0) at in
+          ap (idOf es) (sym (ap (λ (y : Entry). y .name) here ∙ same)) ∙ entry-id es map-distinct j (place-inside es j e at) ∙ ap some (ap (λ (y : Entry). y .id) here ∙ is)

@@ -37,7 +37,22 @@ front-read st t k h =
     let high : getD l (k * entryWidth + 2 * 0 + 1) 0 ≡ v / 256 = ap (λ (i : ℕ). getD l i 0) {x = k * entryWidth + 2 * 0 + 1} {y = k * entryWidth + 1} (omega arith) ∙ bytes-at entryBytes entryWidth entry-wide 0 st t k 1 h (omega arith) ∙ ap (λ (b : List ℕ). getD b 1 0) (entry-bytes v) in
     ap₂ (λ (x y : ℕ). x + y * 256) low high ∙ omega arith
 
+-- its two bytes
+pub front-bytes : (st t : List ℕ) (k : ℕ) → k < length st
+    → (getD (bytes entryBytes st ++ t) (k * 2) 0 ≡ nthEntry st k % 256) × (getD (bytes entryBytes st ++ t) (k * 2 + 1) 0 ≡ nthEntry st k / 256)
+unfolding two
+front-bytes st t k h =
+    let l : List ℕ = bytes entryBytes st ++ t in
+    let v : ℕ = nthEntry st k in (
+      ap (λ (i : ℕ). getD l i 0) {x = k * 2} {y = k * entryWidth + 0} (omega arith) ∙ bytes-at entryBytes entryWidth entry-wide 0 st t k 0 h (omega arith) ∙ ap (λ (b : List ℕ). getD b 0 0) (entry-bytes v),
+      bytes-at entryBytes entryWidth entry-wide 0 st t k 1 h (omega arith) ∙ ap (λ (b : List ℕ). getD b 1 0) (entry-bytes v),
+    )
+
 module _ (s st : List ℕ) where
+  pub laid-bytes : (k : ℕ) → k < length st → (getD (relaid entryFormat s st) (k * 2) 0 ≡ nthEntry st k % 256) × (getD (relaid entryFormat s st) (k * 2 + 1) 0 ≡ nthEntry st k / 256)
+  unfolding relaid
+  laid-bytes k h = front-bytes st (drop (length st * entryWidth) s) k h
+
   pub laid-read : (k : ℕ) → k < length st → entryAt (relaid entryFormat s st) k ≡ nthEntry st k
   unfolding relaid
   laid-read k h = front-read st (drop (length st * entryWidth) s) k h

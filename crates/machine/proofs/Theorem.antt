@@ -1,41 +1,47 @@
--- Demand 3 (S8). An accepted parse leaves a sheet that decodes to the file's contents and passes the check; a link keeps it so and gives each
--- named rule the map's id; an accepted start leaves the machine's first run. So every call is a step of the machine, and `Whole` has the rest.
-use mathlib.Core.Path.{_≡_, refl, ap, subst⁻¹, _∙_}
+-- Demand 3 (S8). An accepted parse leaves a sheet that decodes to the file's contents and passes the check, and these are what the file means; a
+-- link keeps it so and gives each named rule the map's id; an accepted start leaves the machine's first run. So every call is a step of the
+-- machine, and `Whole` has the rest.
+use mathlib.Core.Path.{_≡_, refl, ap, subst, subst⁻¹, _∙_}
 use mathlib.Core.Bool.{Bool, true, false, cond}
-use mathlib.Core.List.{List}
-use mathlib.Core.Logic.{⊎-elim}
+use mathlib.Core.List.{List, [], _∷_, map}
+use mathlib.Core.Option.{some}
 use Prim.Native.Nat.{ℕ, _+_, _*_, _-_, _≤_, _<_}
 use native.Mathlib.Omega.{arith}
-use borrow.Author.Tests.{leb-true, le-leb, lt-ltb, le-ltb}
-use lib.Dec.{leb, ltb}
-use lib.ListN.{length}
-use Rattle.text.proofs.Tests.{and-left, and-right, le-or-lt}
-use Rattle.area.specs.Records.{entryWidth}
-use Rattle.parse.specs.Parse.{Contents, parseCall}
+use borrow.Author.Tests.{leb-true, lt-ltb}
+use lib.Dec.{eqb, leb}
+use lib.ListN.{length, getElem?, length-map}
+use Rattle.text.proofs.Tests.{and-left, and-right}
+use Rattle.area.specs.Records.{entryWidth, nthRule}
+use Rattle.parse.specs.Parse.{Contents, Caps, outcome, accepted, parseCall}
 use Rattle.sheet_check.specs.SheetCheck.{SheetBytes, sheetCheck, decoded, all, declared}
 use Rattle.accepted.specs.Accepted.{sheetLeftBy}
 use Rattle.accepted.proofs.Accepting.{accepted-holds}
-use Rattle.accepted.proofs.Decoding.{accepted-decodes, accepted-checks}
+use Rattle.accepted.proofs.Decoding.{accepted-decodes, accepted-checks, answer-accepted}
+use Rattle.accepted.proofs.Growing.{accepted-meaning}
 use Rattle.link.specs.declared.LinkAnswer.the-variants.{Linked}
 use Rattle.link.specs.Map.{Entry, entriesOf}
 use Rattle.link.specs.Link.{linkRules, linkCall}
 use Rattle.run.specs.declared.Run.{Run}
 use Rattle.run.specs.declared.Begun.the-variants.{Started, StartRefused}
-use Rattle.run.specs.Run.{mostBytes, stackBytes, goodStart, startCall, StartLeft, startLeft, firstRun, putState, startWord, stepCall, stepRun}
-use Rattle.machine.specs.Machine.{fresh, Given, machineRun}
-use Rattle.machine.specs.Demand.{linkedSheet, calls, runAs, stackAs, among, Demand, givenBy, DEMAND}
+use Rattle.run.specs.Run.{mostBytes, stackBytes, goodStart, startCall, StartLeft, startLeft, firstRun, putState, startFields, startWord, stepCall, stepRun}
+use Rattle.machine.specs.File.{keep, replace, push, pop, operationBy, FileRule, File, fileState, fileRule, fileIn, fileBy, mapOf, fileOf}
+use Rattle.machine.specs.Machine.{Given, fresh}
+use Rattle.machine.specs.Demand.{lastHeld, PlaceHolds, Demand, sheetParsed, linkLeftOf, linkedSheet, startLeftOf, sessionFile, sessionMap, MapHolds, calls, sessionCalls, DEMAND}
+use Rattle.machine.proofs.Laid.{runAs, stackAs}
 use Rattle.machine.proofs.Stacks.{laid-bottom, laid-begins, laid-length}
-use Rattle.machine.proofs.Relinking.{linked-decodes, linked-checks}
-use Rattle.machine.proofs.Stepping.{Runs}
+use Rattle.machine.proofs.Relinking.{linked-decodes, linked-checks, linked-differ, linked-whole}
+use Rattle.machine.proofs.Mapping.{map-same}
+use Rattle.machine.proofs.Keeping.{Runs, Aims}
 use Rattle.machine.proofs.OneStep.{Usable}
-use Rattle.machine.proofs.Whole.{Sheet, calls-as, current-declared, whole}
-use Rattle.machine.proofs.Places.{all-stand}
+use Rattle.machine.proofs.Places.{place-next, place-first}
+use Rattle.machine.proofs.Reading.{Sound, map-is}
+use Rattle.machine.proofs.Whole.{Sheet, as-machine, sheet-calls, whole}
 
 -- ---- the start
 
 module _ (n : ℕ) (r : Run) (stack : List ℕ) (started : startCall n r stack .answer ≡ Started) where
   start-good : goodStart n stack ≡ true
-  unfolding startCall startWord
+  unfolding startCall startFields
   start-good = go (goodStart n stack) started
     where
       go : (t : Bool) → cond t (startLeft Started (firstRun n) (putState stack 0 0)) (startLeft StartRefused r stack) .answer ≡ Started → t ≡ true
@@ -54,7 +60,7 @@ module _ (n : ℕ) (r : Run) (stack : List ℕ) (started : startCall n r stack .
   unfolding startCall
   start-left = rw start-good (ap (startLeft Started (firstRun n)) (laid-bottom stack 0 (omega (arith, start-long))))
 
-  module _ (g : Given) (is : g .n ≡ n) (some-state : 0 < length (g .contents .states)) where
+  module _ (g : Given) (is : g .n ≡ n) (some-state : 0 < length (g .file .states)) where
     fits : length (fresh .stack) * entryWidth ≤ length stack
     fits = omega (arith, start-long)
 
@@ -66,7 +72,7 @@ module _ (n : ℕ) (r : Run) (stack : List ℕ) (started : startCall n r stack .
       some = omega arith;
       depth = omega arith;
       moves = omega arith;
-      ids = rw (lt-ltb 0 (length (g .contents .states)) some-state) refl;
+      ids = rw (lt-ltb 0 (length (g .file .states)) some-state) refl;
       begins = laid-begins stack (fresh .stack) fits;
       long = omega (arith, start-long, laid-length stack (fresh .stack) fits);
     }
@@ -90,49 +96,79 @@ checked-step : (e : SheetBytes) (r : Run) (s row : List ℕ) → sheetCheck e �
 unfolding stepCall
 checked-step e r s row t = rw t refl
 
-relinked-steps : (g : Given) (b e : SheetBytes) → b .source ≡ g .source → decoded b ≡ g .contents → Relinked b (g .map) e → Sheet g e
-relinked-steps g b e is d h = record {
-  steps = λ r s row.
-      calling r s row
-      ∙ ap (λ (c : Contents). stepRun (c .states) (linkRules (b .source) (g .map) (c .rules)) (c .lists) r s row) d
-      ∙ ap (λ (t : List ℕ). stepRun (g .contents .states) (linkRules t (g .map) (g .contents .rules)) (g .contents .lists) r s row) is;
+relinked-steps : (s : List ℕ) (c : Contents) (es : List Entry) (b e : SheetBytes) → b .source ≡ s → decoded b ≡ c → Relinked b es e → Sheet s c es e
+relinked-steps s c es b e is d h = record {
+  steps = λ r l row.
+      calling r l row
+      ∙ ap (λ (x : Contents). stepRun (x .states) (linkRules (b .source) es (x .rules)) (x .lists) r l row) d
+      ∙ ap (λ (t : List ℕ). stepRun (c .states) (linkRules t es (c .rules)) (c .lists) r l row) is;
 }
   where
-    calling : (r : Run) (s row : List ℕ) → stepCall e r s row ≡ stepRun (decoded b .states) (linkRules (b .source) (g .map) (decoded b .rules)) (decoded b .lists) r s row
-    calling r s row = checked-step e r s row (h .checks) ∙ (λ i. stepRun (h .states i) (h .rules i) (h .lists i) r s row)
+    calling : (r : Run) (l row : List ℕ) → stepCall e r l row ≡ stepRun (decoded b .states) (linkRules (b .source) es (decoded b .rules)) (decoded b .lists) r l row
+    calling r l row = checked-step e r l row (h .checks) ∙ (λ i. stepRun (h .states i) (h .rules i) (h .lists i) r l row)
 
 -- ---- the demand
 
-below-among : (y e : ℕ) → among y 0 (e - 0) ≡ cond (ltb y e) 1 0
-unfolding among
-below-among y e = ⊎-elim (λ h. rw (le-leb 0 y (omega arith), le-ltb y (0 + (e - 0)) (omega arith), le-ltb y e h) refl) (λ h. rw (le-leb 0 y (omega arith), lt-ltb y (0 + (e - 0)) (omega arith), lt-ltb y e h) refl) (le-or-lt e y)
+-- the file's meaning has these states and rules
+file-is : (s : List ℕ) (flags : ℕ) (verdicts : List ℕ) (k : Caps) (c : Contents) → outcome s flags verdicts k ≡ accepted c → fileOf s flags verdicts ≡ fileIn s c
+unfolding fileOf
+file-is s flags verdicts k c e = ap (fileBy s) (accepted-meaning s flags verdicts k c e)
+
+-- an operation's target is declared where the rule's is
+aims : (states number target : ℕ) → target < states → Aims states (operationBy number target)
+unfolding operationBy
+aims states number target h = go (eqb number 1) (eqb number 2) (eqb number 3)
+  where
+    go : (p q r : Bool) → Aims states (cond p (replace target) (cond q (push target) (cond r pop keep)))
+    go true q r = h
+    go false true r = h
+    go false false true = tt
+    go false false false = tt
+
+file-targets : (s : List ℕ) (c : Contents) → ((k : ℕ) → k < length (c .rules) → nthRule (c .rules) k .target < length (c .states))
+    → (k : ℕ) (x : FileRule) → getElem? (fileIn s c .rules) k ≡ some x → Aims (length (fileIn s c .states)) (x .operation)
+file-targets s c h k x e =
+    let r = map-is (fileRule s c) (c .rules) k (nthRule [] 0) x e in
+    subst⁻¹ (λ (y : FileRule). Aims (length (map fileState (c .states))) (y .operation)) (r .1)
+    (aims (length (map fileState (c .states))) (nthRule (c .rules) k .operation) (nthRule (c .rules) k .target) (omega (arith, h k (r .0), length-map (c .states) fileState)))
 
 pub demand : DEMAND
 unfolding DEMAND
-demand s flags verdicts k c is names entries x7 x8 a b linked holds n r stack started rows =
-    let sheet : SheetBytes = sheetLeftBy s (parseCall s flags verdicts k) in
-    let es : List Entry = entriesOf names entries in
-    let g : Given = givenBy s c es n in
-    let e : SheetBytes = linkedSheet sheet (linkCall sheet names entries x7 x8) in
-    let h = accepted-holds s flags verdicts k c is in
-    let usable : Usable g = record { some-state = h .states .some; targets = λ j l. h .rules .each .at j l .target; names = holds } in
-    let runs : Runs g fresh (stackAs stack fresh) = start-runs n r stack started g refl (h .states .some) in
-    let steps : Sheet g e = relinked-steps g sheet e refl (accepted-decodes s flags verdicts k c is) (relink sheet names entries x7 x8 a b linked (accepted-checks s flags verdicts k c is)) in
-    let same = calls-as g usable e steps rows fresh (stackAs stack fresh) runs in
-    let w = whole g usable rows fresh (stackAs stack fresh) runs in
-    let at : StartLeft → Type 0 = λ f. Demand g stack f rows (calls e (f .run) (f .stack) rows) in
-    subst⁻¹ at (start-left n r stack started)
-    (subst⁻¹ (λ os. Demand g stack (startLeft Started (runAs n fresh) (stackAs stack fresh)) rows os) same
+demand q ok is =
+    let s : List ℕ = q .source in
+    let got = answer-accepted s (q .flags) (q .verdicts) (q .capacities) (ok .parsed) in
+    let c : Contents = got .0 in
+    let accepts : outcome s (q .flags) (q .verdicts) (q .capacities) ≡ accepted c = got .1 in
+    let same : sessionFile q ≡ fileIn s c = file-is s (q .flags) (q .verdicts) (q .capacities) c accepts in
+    let sheet : SheetBytes = sheetParsed q in
+    let es : List Entry = entriesOf (q .names) (q .entries) in
+    let maps : es ≡ sessionMap q = map-same (q .names) (q .entries) (linked-whole sheet (q .names) (q .entries) (q .area7) (q .area8) (ok .unmapped) (ok .unused) (ok .linked)) in
+    let g : Given = record { file = fileIn s c; map = es; limit = mostBytes; n = q .n } in
+    let e : SheetBytes = linkedSheet sheet (linkLeftOf q) in
+    let h = accepted-holds s (q .flags) (q .verdicts) (q .capacities) c accepts in
+    let sound : Sound c = record { exclusive = λ j l. h .states .each .at j l .exclusive; lists = λ j l. h .rules .each .at j l .list } in
+    let some : 0 < length (map fileState (c .states)) = omega (arith, h .states .some, length-map (c .states) fileState) in
+    let usable : Usable g = record {
+      some-state = some;
+      targets = file-targets s c (λ j l. h .rules .each .at j l .target);
+      names = subst (λ (f : File). MapHolds f es) same (subst⁻¹ (λ (z : List Entry). MapHolds (sessionFile q) z) maps (ok .holds));
+      differ = linked-differ sheet (q .names) (q .entries) (q .area7) (q .area8) (ok .unmapped) (ok .unused) (ok .linked);
+    } in
+    let first : List ℕ = stackAs (q .stack) fresh in
+    let runs : Runs g fresh first = start-runs (q .n) (q .run) (q .stack) (ok .started) g refl some in
+    let relinked = relink sheet (q .names) (q .entries) (q .area7) (q .area8) (ok .unmapped) (ok .unused) (ok .linked) (accepted-checks s (q .flags) (q .verdicts) (q .capacities) c accepts) in
+    let steps : Sheet s c es e = relinked-steps s c es sheet e refl (accepted-decodes s (q .flags) (q .verdicts) (q .capacities) c accepts) relinked in
+    let long : length first ≡ length (q .stack) = laid-length (q .stack) (fresh .stack) (fits (q .n) (q .run) (q .stack) (ok .started) g refl some) in
+    let held : ((p : ℕ) → PlaceHolds (lastHeld p (fresh .stack ∷ [])) p (q .stack) first) = λ p. place-next [] (fresh .stack) (q .stack) (q .stack) p (place-first (q .stack) p) in
+    let w = whole g usable e (sheet-calls s c es mostBytes (q .n) sound e steps) (q .stack) is fresh [] first runs held long in
+    let left : StartLeft = startLeft Started (runAs (q .n) fresh) first in
+    subst (λ (z : List Entry). Demand (record { file = sessionFile q; map = z; limit = mostBytes; n = q .n }) (q .stack) (startLeftOf q) is (sessionCalls q is)) maps
+    (subst⁻¹ (λ (f : StartLeft). Demand (record { file = sessionFile q; map = es; limit = mostBytes; n = q .n }) (q .stack) f is (calls e (f .run) (f .stack) is)) (start-left (q .n) (q .run) (q .stack) (ok .started))
+    (subst⁻¹ (λ (f : File). Demand (record { file = f; map = es; limit = mostBytes; n = q .n }) (q .stack) left is (calls e (left .run) (left .stack) is)) same
     (record {
-      run-first = refl;
-      stack-first = refl;
-      same = refl;
-      stands = all-stand n (fresh .stack) (machineRun g fresh rows) stack;
-      size = w .size ∙ laid-length stack (fresh .stack) (fits n r stack started g refl (h .states .some));
-      fine = w .fine;
-      declared-first = current-declared g fresh (stackAs stack fresh) runs;
-      declared = w .states;
-      cover = λ y. w .cover y ∙ below-among y _;
-      moves = w .moves;
+      small = start-small (q .n) (q .run) (q .stack) (ok .started);
+      first = as-machine g fresh [] (q .stack) first runs held long;
+      each = w .each;
+      cover = w .cover;
       few = omega (arith, w .few, w .inside);
-    }))
+    })))

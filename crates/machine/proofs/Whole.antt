@@ -1,104 +1,89 @@
--- A whole list of calls, by induction on its rows: each call is one step of the machine, and what holds of one step adds up.
-use mathlib.Core.Path.{_≡_, refl, sym, ap, ap₂, _∙_}
-use mathlib.Core.List.{List, [], _∷_}
-use mathlib.Core.Logic.{⊎-elim}
-use Prim.Native.Nat.{ℕ, _+_, _-_, _≤_, _<_}
+-- A whole list of calls, by induction on its inputs: each call is one step of the machine, and what holds of one step adds up.
+use mathlib.Core.Path.{_≡_, refl, subst, subst⁻¹, _∙_}
+use mathlib.Core.List.{List, [], _∷_, _++_}
+use Prim.Native.Nat.{ℕ, _+_, _-_, _≤_}
 use native.Mathlib.Omega.{arith}
-use borrow.Author.Tests.{le-leb, lt-leb, lt-ltb, le-ltb, ltb-true}
-use lib.ListN.{length}
-use Rattle.text.proofs.Tests.{le-or-lt}
+use borrow.Author.Tests.{ltb-true}
+use lib.ListN.{length, length-append}
+use Rattle.parse.specs.Parse.{Contents}
 use Rattle.sheet_check.specs.SheetCheck.{SheetBytes, declared}
 use Rattle.sheet_check.proofs.Checked.{all-at}
+use Rattle.link.specs.Map.{Entry}
 use Rattle.link.specs.Link.{linkRules}
 use Rattle.run.specs.declared.Run.{Run}
-use Rattle.run.specs.Run.{StepLeft, stepCall, stepRun, current}
-use Rattle.machine.specs.Machine.{Machine, Given, currentState, machineStep, machineRun}
-use Rattle.machine.specs.Demand.{calls, runAs, stackAs, leftAs, leftAll, lastPosition, lastStack, All, Fine, moved, among, covering, covered, AllMoves}
+use Rattle.run.specs.Run.{StepLeft, stepCall, stepRun}
+use Rattle.machine.specs.File.{fileIn}
+use Rattle.machine.specs.Machine.{Given, Input, Machine, currentState, step}
+use Rattle.machine.specs.Demand.{calls, lastHeld, PlaceHolds, AsMachine, Follows, Piece, pieceOf, pieces, Adjoin, lastPosition}
+use Rattle.machine.proofs.Laid.{runAs, stackAs, leftAs}
 use Rattle.machine.proofs.Stacks.{laid-length}
-use Rattle.machine.proofs.Stepping.{Runs, step-as, current-as}
-use Rattle.machine.proofs.OneStep.{Usable, one-step, among-none}
-
--- ---- bytes that are covered, one range behind the other
-
-among-join : (y p k l : ℕ) → among y p k + among y (p + k) l ≡ among y p (k + l)
-unfolding among
-among-join y p k l =
-    ⊎-elim (λ a. ⊎-elim
-    (λ c. ⊎-elim
-    (λ d. rw (le-leb p y a, le-ltb y (p + k) c, le-leb (p + k) y c, le-ltb y (p + k + l) d, le-ltb y (p + (k + l)) (omega arith)) refl)
-    (λ d. rw (le-leb p y a, le-ltb y (p + k) c, le-leb (p + k) y c, lt-ltb y (p + k + l) d, lt-ltb y (p + (k + l)) (omega arith)) refl)
-    (le-or-lt (p + k + l) y))
-    (λ c. rw (le-leb p y a, lt-ltb y (p + k) c, lt-leb (p + k) y c, lt-ltb y (p + (k + l)) (omega arith)) refl)
-    (le-or-lt (p + k) y))
-    (λ a. rw (lt-leb p y a, lt-leb (p + k) y (omega arith)) refl)
-    (le-or-lt p y)
-
--- ---- the calls are the machine's steps
+use Rattle.machine.proofs.Keeping.{Runs}
+use Rattle.machine.proofs.Stepping.{step-as}
+use Rattle.machine.proofs.OneStep.{Usable, stepped}
+use Rattle.machine.proofs.Places.{place-next}
+use Rattle.machine.proofs.Meanings.{means}
+use Rattle.machine.proofs.Only.{only}
+use Rattle.machine.proofs.Reading.{Sound}
 
 -- a call with the sheet b goes by the file's states, linked rules and lists
-pub record Sheet (g : Given) (b : SheetBytes) : Type 0 where
-  pub steps : (r : Run) (s row : List ℕ) → stepCall b r s row ≡ stepRun (g .contents .states) (linkRules (g .source) (g .map) (g .contents .rules)) (g .contents .lists) r s row
+pub record Sheet (s : List ℕ) (c : Contents) (es : List Entry) (b : SheetBytes) : Type 0 where
+  pub steps : (r : Run) (l row : List ℕ) → stepCall b r l row ≡ stepRun (c .states) (linkRules s es (c .rules)) (c .lists) r l row
 
-module _ (g : Given) (usable : Usable g) where
-  pub calls-as : (b : SheetBytes) → Sheet g b → (rows : List (List ℕ)) (m : Machine) (s : List ℕ) → Runs g m s
-      → calls b (runAs (g .n) m) s rows ≡ leftAll (g .n) s (machineRun g m rows)
-  unfolding calls leftAll machineRun
-  calls-as b sheet [] m s h = refl
-  calls-as b sheet (row ∷ rows) m s h =
-      let e = sheet .steps (runAs (g .n) m) s row ∙ step-as g m s h row in
-      ap (λ (o : StepLeft). o ∷ calls b (o .run) (o .stack) rows) e
-      ∙ ap (λ (os : List StepLeft). leftAs (g .n) s (machineStep g m row) ∷ os)
-      (calls-as b sheet rows (machineStep g m row .machine) (stackAs s (machineStep g m row .machine)) (one-step g usable m s row h .runs))
-
--- ---- what holds of all of them
-
-pub current-declared : (g : Given) (m : Machine) (s : List ℕ) → Runs g m s → current (runAs (g .n) m) s < length (g .contents .states)
-current-declared g m s h =
-    rw (current-as g m s h)
-    (ltb-true (currentState (m .stack)) (length (g .contents .states)) (all-at (declared (length (g .contents .states))) (m .stack) 0 (length (m .stack) - 1) (h .ids) (omega (arith, h .some))))
-
--- calls that left os, from the machine m and the stack's bytes s on
-pub record Whole (g : Given) (m : Machine) (s : List ℕ) (rows : List (List ℕ)) (os : List StepLeft) : Type 0 where
-  pub fine : All (λ o. Fine (o .answer)) os
-  pub states : All (λ o. current (o .run) (o .stack) < length (g .contents .states)) os
+-- calls that left os, from the machine m on, which held these stacks before, over a stack whose bytes were s before the start call
+pub record Whole (g : Given) (s : List ℕ) (m : Machine) (held : List (List ℕ)) (is : List Input) (os : List StepLeft) : Type 0 where
+  pub each : Follows g s m held is os
   pub inside : lastPosition (m .position) os ≤ g .n
   pub on : m .position ≤ lastPosition (m .position) os
-  pub cover : (y : ℕ) → covered y (m .position) os ≡ among y (m .position) (lastPosition (m .position) os - m .position)
-  pub moves : AllMoves g m rows os
-  pub few : moved os + m .position ≤ lastPosition (m .position) os
-  pub size : length (lastStack s os) ≡ length s
+  pub cover : Adjoin (m .position) (pieces (m .position) os) (lastPosition (m .position) os)
+  pub few : length (pieces (m .position) os) + m .position ≤ lastPosition (m .position) os
 
-module _ (g : Given) (usable : Usable g) where
-  pub whole : (rows : List (List ℕ)) (m : Machine) (s : List ℕ) → Runs g m s → Whole g m s rows (leftAll (g .n) s (machineRun g m rows))
-  unfolding leftAll machineRun All lastPosition lastStack covered AllMoves moved
-  whole [] m s h = record {
-    fine = tt;
-    states = tt;
+-- the run and the bytes are as the machine has them
+pub as-machine : (g : Given) (m : Machine) (held : List (List ℕ)) (s l : List ℕ) → Runs g m l → ((p : ℕ) → PlaceHolds (lastHeld p (m .stack ∷ held)) p s l) → length l ≡ length s → AsMachine g m held s (runAs (g .n) m) l
+as-machine g m held s l h places size = record {
+  run = refl;
+  places = places;
+  size = size;
+  declared = ltb-true (currentState (m .stack)) (length (g .file .states)) (all-at (declared (length (g .file .states))) (m .stack) 0 (length (m .stack) - 1) (h .ids) (omega (arith, h .some)));
+}
+
+-- calls that are the machine's steps wherever its run is as it has it
+pub record Calls (g : Given) (b : SheetBytes) : Type 0 where
+  pub called : (m : Machine) (l : List ℕ) (i : Input) → Runs g m l → stepCall b (runAs (g .n) m) l (i .row) ≡ leftAs (g .n) l (step g m i)
+
+pub sheet-calls : (s : List ℕ) (c : Contents) (es : List Entry) (limit n : ℕ) → Sound c → (b : SheetBytes) → Sheet s c es b → Calls (record { file = fileIn s c; map = es; limit = limit; n = n }) b
+sheet-calls s c es limit n sound b sheet = record { called = λ m l i h. sheet .steps (runAs n m) l (i .row) ∙ step-as s c es limit n sound m l h i }
+
+module _ (g : Given) (usable : Usable g) (b : SheetBytes) (by-machine : Calls g b) where
+  pub whole : (s : List ℕ) (is : List Input) (m : Machine) (held : List (List ℕ)) (l : List ℕ) → Runs g m l
+      → ((p : ℕ) → PlaceHolds (lastHeld p (m .stack ∷ held)) p s l) → length l ≡ length s → Whole g s m held is (calls b (runAs (g .n) m) l is)
+  unfolding calls Follows lastPosition pieces Adjoin
+  whole s [] m held l h places size = record {
+    each = tt;
     inside = h .inside;
     on = omega arith;
-    cover = λ y. sym (among-none y (m .position)) ∙ ap (among y (m .position)) (omega arith);
-    moves = tt;
+    cover = refl;
     few = omega arith;
-    size = refl;
   }
-  whole (row ∷ rows) m s h =
-      let t = one-step g usable m s row h in
-      let next : Machine = machineStep g m row .machine in
-      let a = machineStep g m row .answer in
-      let w = whole rows next (stackAs s next) (t .runs) in
-      let os : List StepLeft = leftAll (g .n) (stackAs s next) (machineRun g next rows) in
+  whole s (i ∷ is) m held l h places size =
+      let t = stepped g usable m l (i .row) h (step g m i .answer) (step g m i .machine) (means g m i) in
+      let next : Machine = step g m i .machine in
+      let a = step g m i .answer in
+      let l2 : List ℕ = stackAs l next in
+      let long : length l2 ≡ length s = laid-length l (next .stack) (omega (arith, t .runs .depth, t .runs .inside, h .long)) ∙ size in
+      let stand : ((p : ℕ) → PlaceHolds (lastHeld p (next .stack ∷ m .stack ∷ held)) p s l2) = λ p. place-next (m .stack ∷ held) (next .stack) s l p (places p) in
+      let w = whole s is next (m .stack ∷ held) l2 (t .runs) stand long in
+      let os : List StepLeft = calls b (runAs (g .n) next) l2 is in
       let end : ℕ = lastPosition (next .position) os in
-      record {
-        fine = (t .fine, w .fine);
-        states = (current-declared g next (stackAs s next) (t .runs), w .states);
+      let behind : List Piece = pieces (next .position) os in
+      let here : (e : ℕ) → Adjoin (m .position) (pieceOf (m .position) (m .position + t .bytes) a ++ behind) e → Adjoin (m .position) (pieceOf (m .position) (next .position) a ++ behind) e =
+      λ e r. subst⁻¹ (λ (k : ℕ). Adjoin (m .position) (pieceOf (m .position) k a ++ behind) e) (t .position) r in
+      let few : length (pieceOf (m .position) (next .position) a) ≤ t .bytes = subst⁻¹ (λ (k : ℕ). length (pieceOf (m .position) k a) ≤ t .bytes) (t .position) (t .few) in
+      let long-both = length-append (pieceOf (m .position) (next .position) a) behind in
+      subst⁻¹ (λ (o : StepLeft). Whole g s m held (i ∷ is) (o ∷ calls b (o .run) (o .stack) is)) (by-machine .called m l i h)
+      (record {
+        each = (record { answer = refl; means = means g m i; only = λ x y q. only g m (i .row) (usable .differ) x y a next q (means g m i); allowed = t .allowed; leaves = as-machine g next (m .stack ∷ held) s l2 (t .runs) stand long }, w .each);
         inside = w .inside;
         on = omega (arith, t .position, w .on);
-        cover = λ y.
-            let here : covering y (m .position) (next .position) a ≡ among y (m .position) (t .bytes) = ap (λ (q : ℕ). covering y (m .position) q a) (t .position) ∙ t .cover y in
-            let there : covered y (next .position) os ≡ among y (m .position + t .bytes) (end - next .position) = w .cover y ∙ ap (λ (q : ℕ). among y q (end - next .position)) (t .position) in
-            let sum : t .bytes + (end - next .position) ≡ end - m .position = omega (arith, t .position, w .on) in
-            ap₂ (λ (u v : ℕ). u + v) here there ∙ among-join y (m .position) (t .bytes) (end - next .position) ∙ ap (among y (m .position)) sum;
-        moves = (t .moves, w .moves);
-        few = omega (arith, t .position, t .enough, w .few);
-        size = w .size ∙ laid-length s (next .stack) (omega (arith, t .runs .depth, t .runs .inside, h .long));
-      }
+        cover = here end (t .adjoins behind end (subst (λ (k : ℕ). Adjoin k behind end) (t .position) (w .cover)));
+        few = omega (arith, long-both, t .position, w .few, few);
+      })

@@ -1,67 +1,82 @@
--- The winner of a row is live, its length is the greatest among live rules, and no earlier live rule has it; it is not above the bytes that are left.
+-- The scan's winner is the machine's: the greatest weight is the winner's length, and the first rule that has it is the winner's.
 use mathlib.Core.Path.{_≡_, refl, sym, ap, _∙_}
 use mathlib.Core.Bool.{Bool, true, false, cond}
-use mathlib.Core.List.{List}
-use Prim.Native.Nat.{ℕ, _*_, _-_, _≤_, _<_}
+use mathlib.Core.List.{List, [], map}
+use mathlib.Core.Logic.{⊎-elim}
+use mathlib.Core.Option.{some}
+use Prim.Native.Nat.{ℕ, _*_, _≤_, _<_}
 use native.Mathlib.Omega.{arith}
-use borrow.Author.Tests.{leb-true}
-use lib.Dec.{eqb, leb}
-use lib.ListN.{length}
-use Rattle.text.proofs.Tests.{and-right}
-use Rattle.area.specs.Records.{entryWidth, nthRule}
-use Rattle.area.specs.Contents.{contents, entryFormat}
-use Rattle.sheet_check.proofs.Checked.{contents-read, all-at}
-use Rattle.sheet_check.proofs.Judging.{contents-count}
+use lib.ListN.{length, getD, getElem?, length-map}
+use Rattle.text.proofs.Tests.{le-or-lt}
+use Rattle.area.specs.Records.{nthRule}
 use Rattle.parse.specs.Parse.{Contents}
-use Rattle.run.specs.Winner.{live, lengthIn, weight, greatest, earliest, best}
-use Rattle.run.specs.Run.{goodRow}
-use Rattle.run.proofs.Winning.{below-greatest, earliest-has, earliest-first, winner-inside, weights-low}
-use Rattle.machine.specs.Machine.{Machine, Given, currentState, winner}
-use Rattle.machine.specs.Demand.{Wins}
+use Rattle.run.specs.Winner.{live, lengthIn, weight, greatest, earliest}
+use Rattle.run.proofs.Winning.{below-greatest, greatest-low, earliest-has, earliest-first}
+use Rattle.machine.specs.File.{FileRule, fileState, fileRule}
+use Rattle.machine.specs.Machine.{Machine, currentState, lengths, isLive, Winner}
+use Rattle.machine.proofs.Options.{some-is, place-inside}
+use Rattle.machine.proofs.Meanings.{lengths-at, Found}
+use Rattle.machine.proofs.Reading.{Sound, live-same, entry-length, map-at}
 
--- a weight that is not 0 is the length of a live rule
-weighs : (t : Bool) (l v : ℕ) → cond t l 0 ≡ v → 0 < v → (t ≡ true) × (l ≡ v)
-weighs true l v e h = (refl, e)
-weighs false l v e h = absurd (omega arith)
+module _ (s : List ℕ) (c : Contents) (sound : Sound c) (m : Machine) (row : List ℕ) (size : length row ≡ length (c .rules) * 2) where
+  abbrev pub f : ℕ → ℕ
+  f = weight (c .states) (c .rules) (c .lists) (currentState (m .stack)) row
 
-module _ (c : Contents) (state : ℕ) (row : List ℕ) where
-  f : ℕ → ℕ
-  f = weight (c .states) (c .rules) (c .lists) state row
+  abbrev pub rules : List FileRule
+  rules = map (fileRule s c) (c .rules)
 
-  live-weight : (k : ℕ) → live (c .states) (c .lists) state (nthRule (c .rules) k) ≡ true → f k ≡ lengthIn row k
-  unfolding f weight
-  live-weight k e = rw e refl
+  abbrev pub alive : FileRule → Bool
+  alive = isLive (map fileState (c .states)) (currentState (m .stack))
 
-  best-wins : 0 < greatest f (length (c .rules)) → Wins c state row (best f (length (c .rules)))
-  unfolding f weight
-  best-wins h =
-      let n : ℕ = length (c .rules) in
-      let j : ℕ = earliest f n in
-      let inside : j < n = winner-inside f n (λ z. omega (arith, h, z)) in
-      let u = weighs (live (c .states) (c .lists) state (nthRule (c .rules) j)) (lengthIn row j) (greatest f n) (earliest-has f n (omega (arith, inside))) h in
-      record {
-        inside = inside;
-        is-live = u .0;
-        has = u .1;
-        greatest = λ k g e. omega (arith, below-greatest f n k g, live-weight k e);
-        earliest = λ k g e. omega (arith, earliest-first f n k g (omega arith), live-weight k e);
-      }
+  rule-at : (k : ℕ) → k < length (c .rules) → getElem? rules k ≡ some (fileRule s c (nthRule (c .rules) k))
+  rule-at k h = map-at (fileRule s c) (c .rules) k (nthRule [] 0) h
 
-  -- a bound of the row's lengths is one of the winner's
-  best-low : (left : ℕ) → goodRow (length (c .rules)) left row ≡ true → greatest f (length (c .rules)) ≤ left
-  unfolding goodRow f weight
-  best-low left e = weights-low (c .states) (c .rules) (c .lists) state row left (length (c .rules)) each
+  live-at : (k : ℕ) → k < length (c .rules) → alive (fileRule s c (nthRule (c .rules) k)) ≡ live (c .states) (c .lists) (currentState (m .stack)) (nthRule (c .rules) k)
+  live-at k h = live-same c sound s (currentState (m .stack)) (nthRule (c .rules) k) (sound .lists k h)
+
+  length-at : (k : ℕ) → k < length (c .rules) → getD (lengths row) k 0 ≡ lengthIn row k
+  length-at k h = lengths-at row k (omega (arith, size, h)) ∙ sym (entry-length row k)
+
+  -- a bound of the live rules' lengths is one of the weights
+  pub weights-under : (q : ℕ) → ((k : ℕ) (x : FileRule) → getElem? rules k ≡ some x → alive x ≡ true → getD (lengths row) k 0 ≤ q) → (k : ℕ) → k < length (c .rules) → f k ≤ q
+  unfolding weight
+  weights-under q low k h = go (live (c .states) (c .lists) (currentState (m .stack)) (nthRule (c .rules) k)) refl
     where
-      each : (k : ℕ) → k < length (c .rules) → lengthIn row k ≤ left
-      each k g =
-          let t = all-at (λ x. leb x left) (contents entryFormat row (length (c .rules))) 0 k (and-right (eqb (length row) (length (c .rules) * entryWidth)) _ e) (omega (arith, contents-count entryFormat row (length (c .rules)))) in
-          leb-true (lengthIn row k) left (ap (λ (x : ℕ). leb x left) (sym (contents-read entryFormat row (length (c .rules)) k g)) ∙ t)
+      go : (t : Bool) → live (c .states) (c .lists) (currentState (m .stack)) (nthRule (c .rules) k) ≡ t → cond t (lengthIn row k) 0 ≤ q
+      go true e = omega (arith, length-at k h, low k (fileRule s c (nthRule (c .rules) k)) (rule-at k h) (live-at k h ∙ e))
+      go false e = omega arith
 
-module _ (g : Given) (m : Machine) (row : List ℕ) where
-  pub winner-wins : 0 < winner g m row .length → Wins (g .contents) (currentState (m .stack)) row (winner g m row)
-  unfolding winner f
-  winner-wins h = best-wins (g .contents) (currentState (m .stack)) row h
+  module _ (w : Winner) (p : Found alive rules (lengths row) w) where
+    inside : p .place < length (c .rules)
+    inside = omega (arith, place-inside rules (p .place) (w .rule) (p .rule), length-map (c .rules) (fileRule s c))
 
-  pub winner-low : (left : ℕ) → goodRow (length (g .contents .rules)) left row ≡ true → winner g m row .length ≤ left
-  unfolding winner f
-  winner-low left e = best-low (g .contents) (currentState (m .stack)) row left e
+    pub is-rule : w .rule ≡ fileRule s c (nthRule (c .rules) (p .place))
+    is-rule = some-is (w .rule) (fileRule s c (nthRule (c .rules) (p .place))) (sym (p .rule) ∙ rule-at (p .place) inside)
+
+    is-live : live (c .states) (c .lists) (currentState (m .stack)) (nthRule (c .rules) (p .place)) ≡ true
+    is-live = sym (live-at (p .place) inside) ∙ ap alive (sym is-rule) ∙ p .is-live
+
+    weighs : f (p .place) ≡ w .bytes
+    unfolding weight
+    weighs = rw is-live (sym (length-at (p .place) inside) ∙ p .has)
+
+    pub top : greatest f (length (c .rules)) ≡ w .bytes
+    top = omega (arith, weighs, below-greatest f (length (c .rules)) (p .place) inside, greatest-low f (w .bytes) (length (c .rules)) (weights-under (w .bytes) (p .greatest)))
+
+    -- an earlier rule weighs less
+    lighter : 0 < w .bytes → (k : ℕ) → k < p .place → f k < w .bytes
+    unfolding weight
+    lighter h k l = go (live (c .states) (c .lists) (currentState (m .stack)) (nthRule (c .rules) k)) refl
+      where
+        go : (t : Bool) → live (c .states) (c .lists) (currentState (m .stack)) (nthRule (c .rules) k) ≡ t → cond t (lengthIn row k) 0 < w .bytes
+        go true e =
+            let i : k < length (c .rules) = omega (arith, inside, l) in
+            omega (arith, length-at k i, p .earliest k (fileRule s c (nthRule (c .rules) k)) l (rule-at k i) (live-at k i ∙ e))
+        go false e = h
+
+    pub place-same : 0 < w .bytes → earliest f (length (c .rules)) ≡ p .place
+    place-same h =
+        ⊎-elim
+        (λ l. ⊎-elim (λ q. omega arith) (λ q. absurd (omega (arith, earliest-first f (length (c .rules)) (p .place) q inside, weighs, top))) (le-or-lt (earliest f (length (c .rules))) (p .place)))
+        (λ l. absurd (omega (arith, lighter h (earliest f (length (c .rules))) l, earliest-has f (length (c .rules)) (omega (arith, inside)), top)))
+        (le-or-lt (p .place) (earliest f (length (c .rules))))

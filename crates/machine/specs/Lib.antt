@@ -1,2 +1,5 @@
+pub mod File
 pub mod Machine
+pub mod Means
 pub mod Demand
+pub mod Words

@@ -1,62 +1,115 @@
--- The run machine: over the states and rules that a file has and the ids of a map. It reads neither sheet nor run (01, The run machine).
-use Prim.Native.Nat.{ℕ, _+_, _-_}
-use mathlib.Core.Bool.{cond}
+-- The run machine (01, The run machine). It knows a file's states and rules, a map and n, and reads neither sheet nor run.
+use Prim.Native.Nat.{ℕ, _+_, _*_, _-_}
+use mathlib.Core.Bool.{Bool, true, false, cond, not, _&&_, _||_}
 use mathlib.Core.List.{List, [], _∷_, _++_}
 use mathlib.Core.Option.{Option, none, some}
-use lib.Dec.{eqb}
-use lib.ListN.{length, take}
-use Rattle.area.specs.declared.Rule.{Rule}
-use Rattle.area.specs.Records.{nthRule, nthEntry}
-use Rattle.parse.specs.Parse.{Contents}
-use Rattle.link.specs.Map.{Entry, idOf}
-use Rattle.names.specs.Names.{nameOf}
-use Rattle.link.specs.Link.{isNamed}
-use Rattle.run.specs.declared.Best.{Best}
+use lib.Dec.{eqb, ltb, leb}
+use lib.ListN.{length, getD, take}
+use Rattle.text.specs.Range.{sameBytes}
+use Rattle.link.specs.Map.{Entry}
 use Rattle.run.specs.declared.Step.{Step}
 use Rattle.run.specs.declared.Step.the-variants.{RowMismatch, Done, Stopped, Unlinked, Skip, Token}
-use Rattle.run.specs.Winner.{weight, best}
-use Rattle.run.specs.Run.{goodRow}
+use Rattle.machine.specs.File.{Operation, keep, replace, push, pop, FileState, FileRule, File}
 
--- what the machine holds: its position, its moves, and a stack of state ids whose last is the current state
+-- ---- what it is given, and what it holds
+
+-- for a whole run
+pub record Given : Type 0 where
+  pub file : File
+  pub map : List Entry
+  pub limit : ℕ
+  pub n : ℕ
+
+-- for a step
+pub record Input : Type 0 where
+  pub row : List ℕ
+
+-- the last of the stack is the current state
 pub record Machine : Type 0 where
   pub position : ℕ
   pub moves : ℕ
   pub stack : List ℕ
 
--- at first state 0 alone
 abbrev pub fresh : Machine
 fresh = record { position = 0; moves = 0; stack = 0 ∷ [] }
 
--- what it is given for a whole run: the source, its states and rules, the map and n
-pub record Given : Type 0 where
-  pub source : List ℕ
-  pub contents : Contents
-  pub map : List Entry
-  pub n : ℕ
-
--- the last of a stack
 abbrev pub currentState : List ℕ → ℕ
-currentState st = nthEntry st (length st - 1)
+currentState st = getD st (length st - 1) 0
 
--- a stack without its last
-abbrev pub withoutLast : List ℕ → List ℕ
-withoutLast st = take (length st - 1) st
+-- ---- a row
+
+-- two bytes for each length, the low one first
+unfoldable pub lengths : List ℕ → List ℕ
+lengths [] = []
+lengths (low ∷ []) = []
+lengths (low ∷ high ∷ row) = (low + high * 256) ∷ lengths row
+
+unfoldable pub noneAbove : ℕ → List ℕ → Bool
+noneAbove most [] = true
+noneAbove most (l ∷ ls) = leb l most && noneAbove most ls
+
+-- two bytes for each rule, and no length above what is left
+unfoldable pub fits : ℕ → ℕ → List ℕ → Bool
+fits rules left row = eqb (length row) (rules * 2) && noneAbove left (lengths row)
+
+-- ---- the winner
+
+unfoldable pub has : List ℕ → ℕ → Bool
+has [] id = false
+has (x ∷ xs) id = eqb x id || has xs id
+
+unfoldable pub isEmpty : List ℕ → Bool
+isEmpty [] = true
+isEmpty (x ∷ xs) = false
+
+abbrev pub isExclusive : List FileState → ℕ → Bool
+isExclusive states id = getD states id (record { exclusive = false }) .exclusive
+
+-- its list has the state, or is empty and the state is not exclusive
+unfoldable pub isLive : List FileState → ℕ → FileRule → Bool
+isLive states state x = has (x .list) state || (isEmpty (x .list) && not (isExclusive states state))
+
+-- a rule, and its length in the row
+pub record Winner : Type 0 where
+  pub rule : FileRule
+  pub bytes : ℕ
+
+abbrev pub winner : FileRule → ℕ → Winner
+winner x l = record { rule = x; bytes = l }
+
+-- a live rule before others wins unless one of them is longer
+unfoldable pub before : FileRule → ℕ → Option Winner → Option Winner
+before x l none = some (winner x l)
+before x l (some w) = cond (ltb l (w .bytes)) (some w) (some (winner x l))
+
+-- the greatest length among live rules, the earlier rule at a tie
+unfoldable pub winnerOf : List FileState → ℕ → List FileRule → List ℕ → Option Winner
+winnerOf states state [] ls = none
+winnerOf states state (x ∷ xs) [] = none
+winnerOf states state (x ∷ xs) (l ∷ ls) =
+    let w = winnerOf states state xs ls in
+    cond (isLive states state x) (before x l w) w
+
+-- ---- a step
+
+-- the id of the entry with that name
+unfoldable pub idIn : List Entry → List ℕ → Option ℕ
+idIn [] name = none
+idIn (e ∷ es) name = cond (sameBytes (e .name) name) (some (e .id)) (idIn es name)
 
 -- an emptied stack becomes state 0 alone
 abbrev pub orInitial : List ℕ → List ℕ
 orInitial [] = 0 ∷ []
 orInitial (x ∷ xs) = x ∷ xs
 
--- replace leaves the target alone, push adds it at the end, pop drops the last, none keeps the stack
-unfoldable pub stackAfter : Rule → List ℕ → List ℕ
-stackAfter x st =
-    cond (eqb (x .operation) 1) (x .target ∷ [])
-    (cond (eqb (x .operation) 2) (st ++ (x .target ∷ []))
-    (cond (eqb (x .operation) 3) (orInitial (withoutLast st)) st))
+unfoldable pub operate : Operation → List ℕ → List ℕ
+operate keep st = st
+operate (replace target) st = target ∷ []
+operate (push target) st = st ++ (target ∷ [])
+operate pop st = orInitial (take (length st - 1) st)
 
--- the winner moves it by so many bytes
-unfoldable pub movedBy : Rule → ℕ → Machine → Machine
-movedBy x bytes m = record { position = m .position + bytes; moves = m .moves + 1; stack = stackAfter x (m .stack) }
+unfoldable pub move : Winner → Machine → Machine
+move w m = record { position = m .position + w .bytes; moves = m .moves + 1; stack = operate (w .rule .operation) (m .stack) }
 
 -- an answer, and what the machine holds then
 pub record Answered : Type 0 where
@@ -66,33 +119,22 @@ pub record Answered : Type 0 where
 abbrev pub answered : Step → Machine → Answered
 answered a m = record { answer = a; machine = m }
 
--- a named winner is a token by the id of its name, and 'unlinked' where the map has no such entry
-unfoldable pub tokenBy : Option ℕ → Rule → ℕ → Machine → Answered
-tokenBy (some id) x bytes m = answered (Token id (m .position) bytes) (movedBy x bytes m)
-tokenBy none x bytes m = answered Unlinked m
+unfoldable pub token : Option ℕ → Winner → Machine → Answered
+token none w m = answered Unlinked m
+token (some id) w m = answered (Token id (m .position) (w .bytes)) (move w m)
 
--- the winner wins by so many bytes: a token if it is named, else a skip
-unfoldable pub wins : Given → Rule → ℕ → Machine → Answered
-wins g x bytes m = cond (isNamed x) (tokenBy (idOf (g .map) (nameOf (g .source) x)) x bytes m) (answered Skip (movedBy x bytes m))
+unfoldable pub wins : Given → Option (List ℕ) → Winner → Machine → Answered
+wins g none w m = answered Skip (move w m)
+wins g (some name) w m = token (idIn (g .map) name) w m
 
--- the greatest length among the live rules of a row, and the earliest rule that has it
-unfoldable pub winner : Given → Machine → List ℕ → Best
-winner g m row =
-    let c = g .contents in
-    best (weight (c .states) (c .rules) (c .lists) (currentState (m .stack)) row) (length (c .rules))
+unfoldable pub chooses : Given → Option Winner → Machine → Answered
+chooses g none m = answered Stopped m
+chooses g (some w) m = cond (eqb (w .bytes) 0) (answered Stopped m) (wins g (w .rule .name) w m)
 
--- 'stopped' where the greatest length is 0, else the winner
-unfoldable pub chooses : Given → Best → Machine → Answered
-chooses g b m = cond (eqb (b .length) 0) (answered Stopped m) (wins g (nthRule (g .contents .rules) (b .rule)) (b .length) m)
-
--- a row gets the first that holds: 'done', 10, 'stopped', 'unlinked', a move
-unfoldable pub machineStep : Given → Machine → List ℕ → Answered
-machineStep g m row =
-    cond (eqb (m .position) (g .n))
-    (answered Done m)
-    (cond (goodRow (length (g .contents .rules)) (g .n - m .position) row) (chooses g (winner g m row) m) (answered RowMismatch m))
-
--- the rows in turn
-unfoldable pub machineRun : Given → Machine → List (List ℕ) → List Answered
-machineRun g m [] = []
-machineRun g m (row ∷ rows) = machineStep g m row ∷ machineRun g (machineStep g m row .machine) rows
+unfoldable pub step : Given → Machine → Input → Answered
+step g m i =
+    let f = g .file in
+    cond (eqb (m .position) (g .n)) (answered Done m)
+    (cond (fits (length (f .rules)) (g .n - m .position) (i .row))
+    (chooses g (winnerOf (f .states) (currentState (m .stack)) (f .rules) (lengths (i .row))) m)
+    (answered RowMismatch m))

@@ -3,3 +3,4 @@ pub mod Extending
 pub mod RuleLines
 pub mod Files
 pub mod Calls
+pub mod AnswerWords

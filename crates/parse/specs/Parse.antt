@@ -11,6 +11,7 @@ use Rattle.area.specs.declared.Rule.{Rule}
 use Rattle.area.specs.declared.Expected.{Expected}
 use Rattle.area.specs.declared.Fault.{Fault}
 use Rattle.area.specs.Bytes.{bytes, pad, zeros}
+use Rattle.area.specs.Words.{Fields, fields, word}
 use Rattle.area.specs.Contents.{Format, append, stateFormat, ruleFormat, entryFormat, textFormat, expectedFormat, faultFormat}
 use Rattle.fault.specs.Step.{Out, go, bad, full, next, onto, written}
 use Rattle.fault.specs.Faults.{addFault}
@@ -161,15 +162,16 @@ leaves k (accepted b) = sheetLeft b k
 unfoldable pub parseCall : List ℕ → ℕ → List ℕ → Caps → Left
 parseCall s flags verdicts k = leaves k (outcome s flags verdicts k)
 
--- four two-byte fields as one word: the number of an answer, and its values
-abbrev pub word : ℕ → ℕ → ℕ → ℕ → ℕ
-word number a b c = number + 65536 * a + 65536 * 65536 * b + 65536 * 65536 * 65536 * c
+-- ---- the answers as words
 
--- the number and the value of each answer
-unfoldable pub wordOf : Answer → ℕ
-wordOf Accepted = word 0 0 0 0
-wordOf LongFile = word 1 0 0 0
-wordOf UnknownFlag = word 2 0 0 0
-wordOf InvalidUtf8 = word 3 0 0 0
-wordOf (AreaFull n) = word 4 n 0 0
-wordOf (FaultyFile n) = word 5 n 0 0
+-- the number and the value of each answer (01, Numbers given at the counter)
+unfoldable pub parseFields : Answer → Fields
+parseFields Accepted = fields 0 0 0 0
+parseFields LongFile = fields 1 0 0 0
+parseFields UnknownFlag = fields 2 0 0 0
+parseFields InvalidUtf8 = fields 3 0 0 0
+parseFields (AreaFull n) = fields 4 n 0 0
+parseFields (FaultyFile n) = fields 5 n 0 0
+
+abbrev pub parseWord : Answer → ℕ
+parseWord x = word (parseFields x)

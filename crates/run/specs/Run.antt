@@ -11,7 +11,7 @@ use Rattle.area.specs.Bytes.{two}
 use Rattle.area.specs.Records.{entryAt, nthRule, stateWidth, ruleWidth, entryWidth, ruleAt}
 use Rattle.area.specs.Contents.{contents, entryFormat}
 use Rattle.sheet_check.specs.SheetCheck.{SheetBytes, decoded, sheetCheck, all, declared}
-use Rattle.parse.specs.Parse.{word}
+use Rattle.area.specs.Words.{Fields, fields, word}
 use Rattle.run.specs.declared.Run.{Run}
 use Rattle.run.specs.declared.Best.{Best}
 use Rattle.run.specs.declared.Begun.{Begun}
@@ -165,16 +165,22 @@ pub record Readable (area1 area2 area3 : List ℕ) (states rules entries : ℕ) 
 -- ---- the answers as words
 
 -- the number of each answer, and its values (01, Numbers given at the counter)
-unfoldable pub startWord : Begun → ℕ
-startWord Started = word 0 0 0 0
-startWord StartRefused = word 8 0 0 0
+unfoldable pub startFields : Begun → Fields
+startFields Started = fields 0 0 0 0
+startFields StartRefused = fields 8 0 0 0
 
-unfoldable pub stepWord : Step → ℕ
-stepWord BrokenSheet = word 6 0 0 0
-stepWord BrokenRun = word 9 0 0 0
-stepWord RowMismatch = word 10 0 0 0
-stepWord Done = word 256 0 0 0
-stepWord Stopped = word 257 0 0 0
-stepWord Unlinked = word 258 0 0 0
-stepWord Skip = word 259 0 0 0
-stepWord (Token id start bytes) = word 260 id start bytes
+unfoldable pub stepFields : Step → Fields
+stepFields BrokenSheet = fields 6 0 0 0
+stepFields BrokenRun = fields 9 0 0 0
+stepFields RowMismatch = fields 10 0 0 0
+stepFields Done = fields 256 0 0 0
+stepFields Stopped = fields 257 0 0 0
+stepFields Unlinked = fields 258 0 0 0
+stepFields Skip = fields 259 0 0 0
+stepFields (Token id start bytes) = fields 260 id start bytes
+
+abbrev pub startWord : Begun → ℕ
+startWord x = word (startFields x)
+
+abbrev pub stepWord : Step → ℕ
+stepWord x = word (stepFields x)

@@ -1,3 +1,4 @@
 pub mod Judging
 pub mod Checked
 pub mod Patterns
+pub mod PatternWords

@@ -6,7 +6,7 @@ use lib.Dec.{eqb, ltb}
 use lib.ListN.{length, take, drop}
 use Rattle.area.specs.declared.Rule.{Rule}
 use Rattle.area.specs.Records.{nthRule}
-use Rattle.parse.specs.Parse.{word}
+use Rattle.area.specs.Words.{Fields, fields, word}
 use Rattle.sheet_check.specs.declared.Located.{Located}
 use Rattle.sheet_check.specs.declared.Located.the-variants.{Part, BrokenSheet}
 use Rattle.sheet_check.specs.SheetCheck.{SheetBytes, decoded, sheetCheck}
@@ -54,7 +54,10 @@ unfoldable pub numberOf : Located → ℕ
 numberOf (Part place from len) = 0
 numberOf BrokenSheet = 6
 
--- the number and the values of each answer, as one word
-unfoldable pub wordOf : Located → ℕ
-wordOf (Part place from len) = word 0 place from len
-wordOf BrokenSheet = word 6 0 0 0
+-- the number and the values of each answer
+unfoldable pub patternFields : Located → Fields
+patternFields (Part place from len) = fields 0 place from len
+patternFields BrokenSheet = fields 6 0 0 0
+
+abbrev pub patternWord : Located → ℕ
+patternWord x = word (patternFields x)

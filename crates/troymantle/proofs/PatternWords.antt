@@ -5,19 +5,19 @@ use native.Mathlib.Nat.{zero-add}
 use borrow.Author.Needs.{needs}
 use Rattle.sheet_check.specs.declared.Located.{Located}
 use Rattle.sheet_check.specs.declared.Located.the-variants.{Part, BrokenSheet}
-use Rattle.sheet_check.specs.Pattern.{wordOf}
+use Rattle.sheet_check.specs.Pattern.{patternWord, patternFields}
 
 module _ (a : Located) where
-  pub word-part : (place from len : ℕ) → a ≡ Part place from len → 65536 * place + 4294967296 * from + 281474976710656 * len ≡ wordOf a
-  unfolding wordOf
+  pub word-part : (place from len : ℕ) → a ≡ Part place from len → 65536 * place + 4294967296 * from + 281474976710656 * len ≡ patternWord a
+  unfolding patternFields
   word-part place from len z =
-      ap (λ (x : ℕ). x + 4294967296 * from + 281474976710656 * len) (sym (zero-add (65536 * place))) ∙ ap wordOf (sym z)
+      ap (λ (x : ℕ). x + 4294967296 * from + 281474976710656 * len) (sym (zero-add (65536 * place))) ∙ ap patternWord (sym z)
 
-  pub word-broken : a ≡ BrokenSheet → 6 ≡ wordOf a
-  unfolding wordOf
-  word-broken z = ap wordOf (sym z)
+  pub word-broken : a ≡ BrokenSheet → 6 ≡ patternWord a
+  unfolding patternFields
+  word-broken z = ap patternWord (sym z)
 
-  pub word-located : (p : Located) (r : ℕ) → r ≡ wordOf p → p ≡ a → r ≡ wordOf a
-  word-located p r w e = w ∙ ap wordOf e
+  pub word-located : (p : Located) (r : ℕ) → r ≡ patternWord p → p ≡ a → r ≡ patternWord a
+  word-located p r w e = w ∙ ap patternWord e
 
 pub ruleset pattern-words = (needs, word-part, word-broken, word-located)

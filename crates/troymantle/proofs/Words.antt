@@ -4,11 +4,12 @@ use mathlib.Core.List.{List}
 use Prim.Native.Nat.{ℕ, _+_, _*_}
 use native.Mathlib.Omega.{arith}
 use Rattle.parse.specs.declared.Answer.{Answer}
-use Rattle.parse.specs.Parse.{Left, left, word, wordOf}
+use Rattle.area.specs.Words.{fields, word}
+use Rattle.parse.specs.Parse.{Left, left, parseWord}
 use Rattle.troymantle.specs.Words.{leftInWords, inWords}
 
-pub one-value : (number n : ℕ) → number + 65536 * n ≡ word number n 0 0
+pub one-value : (number n : ℕ) → number + 65536 * n ≡ word (fields number n 0 0)
 one-value number n = omega arith
 
-pub word-left : (a : Answer) (r : ℕ) → r ≡ wordOf a → (n x1 x2 x3 x4 x5 x6 : List ℕ) (y : Left) → left a n x1 x2 x3 x4 x5 x6 ≡ y → leftInWords r n x1 x2 x3 x4 x5 x6 ≡ inWords y
+pub word-left : (a : Answer) (r : ℕ) → r ≡ parseWord a → (n x1 x2 x3 x4 x5 x6 : List ℕ) (y : Left) → left a n x1 x2 x3 x4 x5 x6 ≡ y → leftInWords r n x1 x2 x3 x4 x5 x6 ≡ inWords y
 word-left a r w n x1 x2 x3 x4 x5 x6 y e = ap (λ (k : ℕ). leftInWords k n x1 x2 x3 x4 x5 x6) w ∙ ap inWords e

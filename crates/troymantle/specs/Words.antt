@@ -1,7 +1,7 @@
 -- What a call leaves, with its answer as a word (01, Numbers given at the counter).
 use Prim.Native.Nat.{ℕ}
 use mathlib.Core.List.{List}
-use Rattle.parse.specs.Parse.{Left, wordOf}
+use Rattle.parse.specs.Parse.{Left, parseWord}
 
 -- what a call leaves: its word, the six counts and the six areas (01, Numbers given at the counter)
 pub record LeftInWords : Type 0 where
@@ -20,4 +20,4 @@ leftInWords r n x1 x2 x3 x4 x5 x6 = record { answer = r; counts = n; area1 = x1;
 
 -- the same, its answer as a word
 abbrev pub inWords : Left → LeftInWords
-inWords x = leftInWords (wordOf (x .answer)) (x .counts) (x .area1) (x .area2) (x .area3) (x .area4) (x .area5) (x .area6)
+inWords x = leftInWords (parseWord (x .answer)) (x .counts) (x .area1) (x .area2) (x .area3) (x .area4) (x .area5) (x .area6)

@@ -1,7 +1,7 @@
 // The calls of the host, as C functions (01, Numbers given at the counter). An answer is one word of four two-byte fields: its number, then its values.
 ghost use mathlib.Core.Path.{_≡_};
 ghost use lib.ListN.{length};
-ghost use Rattle.parse.specs.Parse.{caps, parseCall, wordOf};
+ghost use Rattle.parse.specs.Parse.{caps, parseCall, parseWord};
 ghost use Rattle.troymantle.specs.Words.{inWords, leftInWords};
 use parse::Answer;
 use parse::call::parse;
@@ -11,7 +11,7 @@ mod pattern;
 mod running;
 
 fn word_of(answer: Answer) -> u64
-    ensures { λ r. ⌜ r ≡ wordOf answer ⌝ }
+    ensures { λ r. ⌜ r ≡ parseWord answer ⌝ }
 {
     match answer {
         Answer::Accepted => 0,

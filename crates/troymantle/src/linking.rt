@@ -1,13 +1,13 @@
 // The link call as a C function (01, Linking).
 ghost use mathlib.Core.Path.{_≡_};
 ghost use Rattle.sheet_check.specs.SheetCheck.{sheetBytes};
-ghost use Rattle.link.specs.Link.{linkCall, wordOf};
+ghost use Rattle.link.specs.Link.{linkCall, linkWord};
 ghost use Rattle.troymantle.specs.LinkWords.{inLinkWords, linkInWords};
 use link::LinkAnswer;
 use link::call::set_rule_ids_spanned;
 
 fn link_word(answer: LinkAnswer) -> u64
-    ensures { λ r. ⌜ r ≡ wordOf answer ⌝ }
+    ensures { λ r. ⌜ r ≡ linkWord answer ⌝ }
 {
     match answer {
         LinkAnswer::Linked(missing, idle) => 65536 * (missing as u64) + 4294967296 * (idle as u64),

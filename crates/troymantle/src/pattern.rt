@@ -1,13 +1,13 @@
 // The pattern of a rule, as numbers: no exported function may hand back a reference, so the host takes the part itself (01, Areas, 4).
 ghost use mathlib.Core.Path.{_≡_};
 ghost use Rattle.sheet_check.specs.SheetCheck.{sheetBytes};
-ghost use Rattle.sheet_check.specs.Pattern.{patternPart, numberOf, wordOf};
+ghost use Rattle.sheet_check.specs.Pattern.{patternPart, numberOf, patternWord};
 use sheet_check::Located;
 use sheet_check::pattern::locate;
 use sheet_check::pattern::pattern_test;
 
 fn located_word(part: Located) -> u64
-    ensures { λ r. ⌜ r ≡ wordOf part ⌝ }
+    ensures { λ r. ⌜ r ≡ patternWord part ⌝ }
 {
     match part {
         Located::Part(place, from, length) => {
@@ -29,7 +29,7 @@ pub extern "C" fn troymantle_pattern(
     counts: &[u16; 6],
     rule: u64,
 ) -> u64
-    ensures { λ r. ⌜ r ≡ wordOf (patternPart (sheetBytes (now (src .entry)) (now (area1 .entry)) (now (area2 .entry)) (now (area3 .entry)) (now (area4 .entry)) (now (area5 .entry)) (now (counts .entry))) rule) ⌝ }
+    ensures { λ r. ⌜ r ≡ patternWord (patternPart (sheetBytes (now (src .entry)) (now (area1 .entry)) (now (area2 .entry)) (now (area3 .entry)) (now (area4 .entry)) (now (area5 .entry)) (now (counts .entry))) rule) ⌝ }
 {
     located_word(locate(src, area1, area2, area3, area4, area5, counts, rule))
 }

@@ -1,12 +1,12 @@
 -- `troymantle::running::step_word` meets its contract: each answer has its word, a token its three values too.
 use mathlib.Core.Path.{sym, ap}
 use borrow.Author.Needs.{needs}
-use Rattle.run.specs.Run.{stepWord}
+use Rattle.run.specs.Run.{stepFields, stepWord}
 use Rattle.troymantle.proofs.running.step_word.Statement.{statement}
 use Rattle.troymantle.proofs.running.step_word.Tie as tie
 
 pub step-word-spec : {M : Type 1} → statement M
-unfolding stepWord
+unfolding stepFields
 step-word-spec =
     tie.close
     (tie.spec

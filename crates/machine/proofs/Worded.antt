@@ -1,0 +1,129 @@
+-- Demand 3 in words: an accepted call's word is told from the others, and the values of the machine's answers have two bytes, so that the words of
+-- the step calls are those of its answers and of no others.
+use mathlib.Core.Path.{_≡_, refl, sym, ap, subst⁻¹, _∙_}
+use mathlib.Core.List.{List, [], _∷_, map}
+use mathlib.Core.Option.{some}
+use Prim.Native.Nat.{ℕ, zero, suc, _+_, _%_, _<_}
+use native.Mathlib.Omega.{arith}
+use lib.ListN.{length, getD, drop, getElem?}
+use Rattle.area.specs.Words.{fields, TwoBytes, AllBytes}
+use Rattle.area.proofs.Words.{two-bytes}
+use Rattle.parse.specs.declared.Answer.{Answer}
+use Rattle.parse.specs.declared.Answer.the-variants as P
+use Rattle.parse.specs.Parse.{parseFields, parseWord}
+use Rattle.sheet_check.specs.SheetCheck.{SheetBytes}
+use Rattle.link.specs.declared.LinkAnswer.{LinkAnswer}
+use Rattle.link.specs.declared.LinkAnswer.the-variants as L
+use Rattle.link.specs.Map.{Entry}
+use Rattle.link.specs.Link.{linkFields, linkWord}
+use Rattle.run.specs.declared.Run.{Run}
+use Rattle.run.specs.declared.Begun.{Begun}
+use Rattle.run.specs.declared.Begun.the-variants.{Started, StartRefused}
+use Rattle.run.specs.declared.Step.{Step}
+use Rattle.run.specs.declared.Step.the-variants.{BrokenSheet, BrokenRun, RowMismatch, Done, Stopped, Unlinked, Skip, Token}
+use Rattle.run.specs.Run.{StepLeft, stepCall, startFields, startWord, stepFields, stepWord}
+use Rattle.run.proofs.RunWords.{step-tells}
+use Rattle.troymantle.specs.RunWords.{RunInWords, stepInWords}
+use Rattle.machine.specs.File.{mapOf}
+use Rattle.machine.specs.Machine.{Given, Input, Machine, fresh, step}
+use Rattle.machine.specs.Means.{Means}
+use Rattle.machine.specs.Demand.{Follows, Session, sheetParsed, linkLeftOf, linkedSheet, startLeftOf, given, Accepts, calls, DEMAND}
+use Rattle.machine.specs.Words.{AcceptsInWords, FollowsInWords, callsInWords, IN-WORDS}
+use Rattle.machine.proofs.Options.{some-is, none-some, place-inside}
+use Rattle.machine.proofs.Theorem.{demand}
+
+plain-small : (number : ℕ) → number < 65536 → TwoBytes (fields number 0 0 0)
+plain-small number h = two-bytes number 0 0 0 h (omega arith) (omega arith) (omega arith)
+
+-- ---- the words of accepted calls
+
+parse-zero : (x : Answer) → parseWord x ≡ 0 → x ≡ P.Accepted
+unfolding parseFields
+parse-zero P.Accepted e = refl
+parse-zero P.LongFile e = absurd (omega (arith, e))
+parse-zero P.UnknownFlag e = absurd (omega (arith, e))
+parse-zero P.InvalidUtf8 e = absurd (omega (arith, e))
+parse-zero (P.AreaFull n) e = absurd (omega (arith, e))
+parse-zero (P.FaultyFile n) e = absurd (omega (arith, e))
+
+link-zero : (x : LinkAnswer) → linkWord x % 65536 ≡ 0 → (a : ℕ) × (b : ℕ) × (x ≡ L.Linked a b)
+unfolding linkFields
+link-zero (L.Linked a b) e = (a, b, refl)
+link-zero L.BrokenSheet e = absurd (omega (arith, e))
+link-zero L.BrokenMap e = absurd (omega (arith, e))
+link-zero (L.AreaFull n) e = absurd (omega (arith, e))
+
+start-zero : (x : Begun) → startWord x ≡ 0 → x ≡ Started
+unfolding startFields
+start-zero Started e = refl
+start-zero StartRefused e = absurd (omega (arith, e))
+
+accepts : (q : Session) → AcceptsInWords q → Accepts q
+accepts q h =
+    let l = link-zero (linkLeftOf q .answer) (h .linked) in
+    record { parsed = parse-zero _ (h .parsed); unmapped = l .0; unused = l .1; linked = l .2; holds = h .holds; started = start-zero _ (h .started) }
+
+-- ---- ids of a map of bytes
+
+abbrev LowIds : List Entry → Type 0
+LowIds es = (j : ℕ) (e : Entry) → getElem? es j ≡ some e → e .id < 65536
+
+behind-six : (a b c d e f : ℕ) (l : List ℕ) → AllBytes (a ∷ b ∷ c ∷ d ∷ e ∷ f ∷ l) → AllBytes l
+behind-six a b c d e f l h = record { small = λ k. h .small (suc (suc (suc (suc (suc (suc k)))))) }
+
+ids-low : (names entries : List ℕ) → AllBytes entries → LowIds (mapOf names entries)
+unfolding mapOf
+ids-low names [] h j x q = absurd (none-some x q)
+ids-low names (a ∷ []) h j x q = absurd (none-some x q)
+ids-low names (a ∷ b ∷ []) h j x q = absurd (none-some x q)
+ids-low names (a ∷ b ∷ c ∷ []) h j x q = absurd (none-some x q)
+ids-low names (a ∷ b ∷ c ∷ d ∷ []) h j x q = absurd (none-some x q)
+ids-low names (a ∷ b ∷ c ∷ d ∷ e ∷ []) h j x q = absurd (none-some x q)
+ids-low names (a ∷ b ∷ c ∷ d ∷ e ∷ f ∷ l) h zero x q = omega (arith, ap (λ (k : Entry). k .id) (some-is _ x q), h .small 4, h .small 5)
+ids-low names (a ∷ b ∷ c ∷ d ∷ e ∷ f ∷ l) h (suc j) x q = ids-low names l (behind-six a b c d e f l h) j x q
+
+-- ---- the machine's answers
+
+means-small : (g : Given) (m : Machine) (row : List ℕ) (a : Step) (next : Machine) → g .n < 65536 → LowIds (g .map) → Means g m row a next → TwoBytes (stepFields a)
+unfolding stepFields
+means-small g m row BrokenSheet next h l e = absurd e
+means-small g m row BrokenRun next h l e = absurd e
+means-small g m row RowMismatch next h l e = plain-small 10 (omega arith)
+means-small g m row Done next h l e = plain-small 256 (omega arith)
+means-small g m row Stopped next h l e = plain-small 257 (omega arith)
+means-small g m row Unlinked next h l e = plain-small 258 (omega arith)
+means-small g m row Skip next h l e = plain-small 259 (omega arith)
+means-small g m row (Token id start bytes) next h l (w, won, name, named, (j, x, at, same, is), from, long, _) =
+    let low = won .fitting .low (won .place) (place-inside (g .file .rules) (won .place) (w .rule) (won .rule)) in
+    two-bytes 260 id start bytes (omega arith) (omega (arith, is, l j x at)) (omega (arith, from, low, won .has, won .some-bytes, h)) (omega (arith, long, low, won .has, h))
+
+module _ (g : Given) (s : List ℕ) (b : SheetBytes) (small : g .n < 65536) (ids : LowIds (g .map)) where
+  in-words-follows : (is : List Input) (r : Run) (l : List ℕ) (m : Machine) (held : List (List ℕ)) → Follows g s m held is (calls b r l is) → FollowsInWords g s m held is (callsInWords b r l is)
+  unfolding Follows FollowsInWords calls callsInWords
+  in-words-follows [] r l m held f = tt
+  in-words-follows (i ∷ is) r l m held f =
+      let o : StepLeft = stepCall b r l (i .row) in
+      let c = f .0 in
+      let fits : TwoBytes (stepFields (step g m i .answer)) = means-small g m (i .row) (step g m i .answer) (step g m i .machine) small ids (c .means) in
+      let same : stepWord (o .answer) ≡ stepWord (step g m i .answer) = ap stepWord (c .answer) in (
+        record { word = same; only = λ a h e. step-tells .same a (step g m i .answer) h fits (sym e ∙ same); leaves = c .leaves },
+        in-words-follows is (o .run) (o .stack) (step g m i .machine) (m .stack ∷ held) (f .1),
+      )
+
+same-words : (b : SheetBytes) (is : List Input) (r : Run) (l : List ℕ) → callsInWords b r l is ≡ map stepInWords (calls b r l is)
+unfolding calls callsInWords
+same-words b [] r l = refl
+same-words b (i ∷ is) r l =
+    let o : StepLeft = stepCall b r l (i .row) in
+    ap (λ (os : List RunInWords). stepInWords o ∷ os) (same-words b is (o .run) (o .stack))
+
+pub in-words : IN-WORDS
+unfolding IN-WORDS DEMAND
+in-words q bytes h is =
+    let d = demand q (accepts q h) is in
+    let b : SheetBytes = linkedSheet (sheetParsed q) (linkLeftOf q) in
+    record {
+      same = same-words b is (startLeftOf q .run) (startLeftOf q .stack);
+      demand = d;
+      each = in-words-follows (given q) (q .stack) b (omega (arith, d .small)) (ids-low (q .names) (q .entries) bytes) is (startLeftOf q .run) (startLeftOf q .stack) fresh [] (d .each);
+    }
