@@ -21,7 +21,7 @@ use Rattle.text.specs.declared.Found.{Found}
 use Rattle.text.specs.declared.Found.the-variants.{At, Nothing}
 use Rattle.text.proofs.Tests.{le-or-lt, and-right, and-false, by-test}
 use Rattle.text.proofs.Walks.{first-here, first-next, first-from, first-to, repeat-stop, repeat-go, repeat-stays, skip-stays, skip-stops, skip-from, skip-to}
-use Rattle.text.proofs.Spaces.{byte-inside, white-inside, end-inside}
+use Rattle.text.proofs.Spaces.{end-one, white-inside, end-inside}
 use Rattle.text.proofs.Ranges.{ahead-short, same-equal}
 use Rattle.section.specs.Section.{comments, found, percents, slashes, isComment, pastComment, pastLine, toDeclaration, pastRuleLine, toRule, inSection, hasRoutines}
 
@@ -98,9 +98,9 @@ no-end-at-slash : (s : List ℕ) (k : ℕ) → byte s k ≡ 0x2f → atLineEnd s
 unfolding lineEndLen lineEndOf isLineEnd
 no-end-at-slash s k e = rw e refl
 
-end-at-line-feed : (s : List ℕ) (k : ℕ) → byte s k ≡ 0x0a → atLineEnd s k ≡ true
-unfolding lineEndLen lineEndOf isLineEnd
-end-at-line-feed s k e = rw e refl
+end-at-byte : (s : List ℕ) (k : ℕ) → isLineEnd (byte s k) ≡ true → 1 ≡ lineEndLen s k
+unfolding lineEndLen
+end-at-byte s k e = end-one (byte s k) (byte s (k + 1)) (byte s (k + 2)) e
 
 pub slashes-told : (s : List ℕ) (flags i : ℕ) (r : Bool) → r ≡ isComment s flags i → r ≡ true → found (lookaheadIs s slashes i) ≡ true
 unfolding isComment
@@ -121,11 +121,12 @@ module _ (s : List ℕ) (i : ℕ) (stand : found (lookaheadIs s slashes i) ≡ t
       ∙ first-next (atLineEnd s) (i + 1) (length s) (omega (arith, slashes-inside)) (no-end-at-slash s (i + 1) (slash-at (i + 1) 1 refl (omega arith)))
       ∙ ap (lineEnd s) q
 
-  pub comment-empty : (b : ℕ) → b ≡ byte s (i + 2) → b ≡ 0x0a → Between (i + 2) (length s) (lineEnd s i) (i + 2)
-  comment-empty b e f =
-      let z : byte s (i + 2) ≡ 0x0a = sym e ∙ f in
-      let l : i + 2 < length s = byte-inside s (i + 2) (λ q. omega arith) in
-      record { is = first-here (atLineEnd s) (i + 2) (length s) l (end-at-line-feed s (i + 2) z) ∙ sym slashes-passed; from = omega arith; to = slashes-inside }
+  pub comment-empty : (b : ℕ) (r : Bool) → b ≡ byte s (i + 2) → r ≡ isLineEnd b → r ≡ true → Between (i + 2) (length s) (lineEnd s i) (i + 2)
+  comment-empty b r e f t =
+      let one = end-at-byte s (i + 2) (ap isLineEnd (sym e) ∙ sym f ∙ t) in
+      let here : atLineEnd s (i + 2) ≡ true = rw (← one) refl in
+      let l = end-inside s (i + 2) (omega arith) in
+      record { is = first-here (atLineEnd s) (i + 2) (length s) (omega arith) here ∙ sym slashes-passed; from = omega arith; to = slashes-inside }
 
   pub comment-ends : (r : ℕ) → Between (i + 2) (length s) (lineEnd s (i + 2)) r → Between (i + 2) (length s) (lineEnd s i) r
   comment-ends r b = record { is = b .is ∙ sym slashes-passed; from = b .from; to = b .to }

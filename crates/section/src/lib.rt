@@ -12,6 +12,7 @@ ghost use Rattle.section.specs.Section.{found, slashes, isComment, toDec
 use crate::reader::next_declaration;
 use crate::reader::next_rule;
 use text::Found;
+use text::class::is_line_end;
 use text::range::lookahead_is;
 use text::scan::line_end;
 use text::scan::parse_nl;
@@ -44,7 +45,7 @@ fn comment_end(src: &[u8], i: usize) -> usize
     ensures { λ r. ⌜ Between (i + 2) (length (now (src .entry))) (lineEnd (now (src .entry)) i) r ⌝ }
 {
     let k = i + 2;
-    if byte_at(src, k) == 0x0a {
+    if is_line_end(byte_at(src, k)) {
         return k;
     }
     line_end(src, k)

@@ -1,7 +1,7 @@
 -- Positions that are looked at together: where none of a block passes, the walk for the first that does goes on behind the block, and the walk
 -- for the last in front of it; where one may, the walk within the block answers, or it goes on as well.
 use mathlib.Core.Path.{_≡_, refl, sym, ap, _∙_}
-use mathlib.Core.Bool.{Bool, true, false, cond, not, _||_, true≢false}
+use mathlib.Core.Bool.{Bool, true, false, cond, not, _||_}
 use mathlib.Core.List.{List}
 use mathlib.Core.Logic.{⊎-elim}
 use Prim.Native.Nat.{ℕ, zero, suc, _+_, _-_, _≤_, _<_}
@@ -9,24 +9,22 @@ use native.Mathlib.Nat.{eq-or-lt-of-le, le-of-suc-le-suc, eq-zero-or-pos}
 use native.Mathlib.Numerals.{add-one}
 use native.Mathlib.Omega.{arith}
 use borrow.Author.Needs.{needs}
-use borrow.Author.Tests.{ne-eqb, eq-eqb, leb-false}
-use lib.Dec.{eqb, leb}
+use borrow.Author.Tests.{eq-eqb, leb-false}
+use lib.Dec.{leb}
 use lib.ListN.{length}
-use Rattle.text.specs.Class.{isLineEnd, isBlank}
+use Rattle.text.specs.Class.{isBlank}
 use Rattle.text.specs.Walk.{any, firstOf, first, Between}
-use Rattle.text.specs.Whitespace.{byte, mayEndLine, lineEndOf, lineEndLen, atLineEnd}
+use Rattle.text.specs.Whitespace.{byte, atLineEnd}
 use Rattle.text.specs.Scan.{findLineEnd, lineEnd, lastBlank}
-use Rattle.text.specs.Utf8.{charLen, skipChars, utf8, isAscii}
-use Rattle.text.proofs.Tests.{answer, le-or-lt}
-use Rattle.text.proofs.Settled.{none-blank-above}
+use Rattle.text.specs.Utf8.{charLen, skipChars, utf8}
+use Rattle.text.specs.Shortcuts.{RulesOut, Tells}
+use Rattle.text.proofs.Tests.{le-or-lt, or-none, not-true}
+use Rattle.text.proofs.Shortcuts.{told}
+use Rattle.text.proofs.Spaces.{end-may-start}
 use Rattle.text.proofs.Walks.{first-here, first-over, first-from, last-none, last-over, scanning-down, skip-stays, skip-goes}
 use Rattle.text.proofs.Chars.{char-one, char-fits, char-inside, walking}
 
 -- ---- all of the first n positions
-
-or-none : (p q : Bool) → p || q ≡ false → (p ≡ false) × (q ≡ false)
-or-none true q e = absurd (true≢false e)
-or-none false q e = (refl, e)
 
 module _ (test : ℕ → Bool) where
   pub none-passes : (n m : ℕ) → any test n ≡ false → m < n → test m ≡ false
@@ -36,19 +34,19 @@ module _ (test : ℕ → Bool) where
       let p = or-none (any test n) (test n) e in
       ⊎-elim (λ q. ap test q ∙ p .1) (λ l. none-passes n m (p .0) l) (eq-or-lt-of-le (le-of-suc-le-suc h))
 
-  pub any-none : false ≡ any test 0
+  pub none-ruled-out : RulesOut (any test 0) false
   unfolding any
-  any-none = refl
+  none-ruled-out = record { none = λ e. refl }
 
   -- the loop has looked at k positions
-  pub any-again : (found : Bool) (k : ℕ) → found ≡ any test k → found || test k ≡ any test (k + 1)
+  pub rules-out-again : (found r : Bool) (k : ℕ) → RulesOut (any test k) found → RulesOut (test k) r → RulesOut (any test (k + 1)) (found || r)
   unfolding any
-  any-again found k e = rw (add-one, e) refl
+  rules-out-again found r k f g = record { none = λ e. rw (add-one, f .none (or-none found r e .0), g .none (or-none found r e .1)) refl }
 
-  pub any-ended : (found : Bool) (k n : ℕ) → found ≡ any test k → n ≤ k → k ≤ n → found ≡ any test n
-  any-ended found k n e a b =
+  pub rules-out-ended : (found : Bool) (k n : ℕ) → RulesOut (any test k) found → n ≤ k → k ≤ n → RulesOut (any test n) found
+  rules-out-ended found k n f a b =
       let q : k ≡ n = omega arith in
-      e ∙ ap (any test) q
+      rw (← q) f
 
 -- none of the block from k on passes
 block-fails : (test : ℕ → Bool) (k m : ℕ) → any (λ j. test (k + j)) 16 ≡ false → k ≤ m → m < k + 16 → test m ≡ false
@@ -113,25 +111,13 @@ module _ (test : ℕ → Bool) (i m e : ℕ) (h : i ≤ m) (l : m ≤ e) where
 
 -- ---- line ends
 
-may-end : (a b c : ℕ) → mayEndLine a ≡ false → lineEndOf a b c ≡ 0
-unfolding lineEndOf isLineEnd
-may-end a b c e = simp (other 0x0a refl, other 0x0b refl, other 0x0d refl, other 0xe2 refl)
-  where
-    other : (x : ℕ) → mayEndLine x ≡ true → eqb a x ≡ false
-    other x t = ne-eqb a x (λ q. true≢false (sym t ∙ ap mayEndLine (sym q) ∙ e))
-
-pub none-at : (s : List ℕ) (m : ℕ) → mayEndLine (byte s m) ≡ false → atLineEnd s m ≡ false
-unfolding lineEndLen
-none-at s m e = rw (may-end (byte s m) (byte s (m + 1)) (byte s (m + 2)) e) refl
-
 -- the loop began at i and stands at k
 module _ (s : List ℕ) (i k : ℕ) (before : lineEnd s i ≡ lineEnd s k) where
   module _ (next : ℕ) (is : next ≡ k + 16) (l : k + 16 ≤ length s) where
-    pub block-without : (r : Bool) → r ≡ any (λ j. mayEndLine (byte s (k + j))) 16 → r ≡ false → lineEnd s i ≡ lineEnd s next
+    pub block-without : (r : Bool) → RulesOut (any (λ j. atLineEnd s (k + j)) 16) r → r ≡ false → lineEnd s i ≡ lineEnd s next
     block-without r e f =
         before
-        ∙ first-over (atLineEnd s) k next (length s) (omega arith) (omega arith)
-        (λ m a b. none-at s m (block-fails (λ x. mayEndLine (byte s x)) k m (sym e ∙ f) a (omega arith)))
+        ∙ first-over (atLineEnd s) k next (length s) (omega arith) (omega arith) (λ m a b. block-fails (atLineEnd s) k m (e .none f) a (omega arith))
 
     module _ (end : ℕ) (f : Between k next (findLineEnd s k next) end) where
       pub block-ends : end < next → i ≤ k → Between i (length s) (lineEnd s i) end
@@ -150,12 +136,9 @@ module _ (s : List ℕ) (i k : ℕ) (before : lineEnd s i ≡ lineEnd s k) where
 
 pub ruleset passing-blocks = (needs, block-without, block-ends, block-passed, rest-ends)
 
-pub ruleset looking = (needs, any-none, any-again, any-ended)
+pub ruleset looking = (needs, none-ruled-out, rules-out-again, rules-out-ended, end-may-start)
 
 -- ---- blanks, from the end
-
-pub none-blank : (b : ℕ) → 0x20 < b → isBlank b ≡ false
-none-blank b h = sym (none-blank-above b h)
 
 -- the loop came down from e and stands at k
 pub block-blankless :
@@ -163,32 +146,23 @@ pub block-blankless :
     → lastBlank s i e ≡ lastBlank s i k
     → next ≡ k - 16
     → i + 16 ≤ k
-    → r ≡ any (λ j. leb (byte s (next + j)) 0x20) 16
+    → RulesOut (any (λ j. isBlank (byte s (next + j))) 16) r
     → r ≡ false
     → lastBlank s i e ≡ lastBlank s i next
 block-blankless s i k e next r before is l f g =
     before
     ∙ last-over (λ x. isBlank (byte s x)) i next k (omega arith) (omega arith)
-    (λ m a b. none-blank (byte s m) (leb-false (byte s m) 0x20 (block-fails (λ x. leb (byte s x) 0x20) next m (sym f ∙ g) a (omega arith))))
+    (λ m a b. block-fails (λ x. isBlank (byte s x)) next m (f .none g) a (omega arith))
 
 pub ruleset passing-blankless = (needs, block-blankless)
 
-pub ruleset scanning-blanks = (scanning-down, last-none, none-blank)
+pub ruleset scanning-blanks = (scanning-down, last-none)
 
 -- ---- a text of ASCII bytes is well formed
 
-not-true : (b : Bool) → not b ≡ true → b ≡ false
-not-true true e = absurd (true≢false (sym e))
-not-true false e = refl
-
-pub ascii-told : (s : List ℕ) (above : Bool) (k : ℕ) → above ≡ any (λ m. leb 0x80 (byte s m)) k → length s ≤ k → k ≤ length s → not above ≡ isAscii s
-unfolding isAscii
-ascii-told s above k e a b = ap not (any-ended (λ m. leb 0x80 (byte s m)) above k (length s) e a b)
-
-module _ (s : List ℕ) (ascii : isAscii s ≡ true) where
+module _ (s : List ℕ) (ascii : any (λ k. leb 0x80 (byte s k)) (length s) ≡ false) where
   below : (k : ℕ) → k < length s → byte s k < 0x80
-  unfolding isAscii
-  below k h = leb-false 0x80 (byte s k) (none-passes (λ j. leb 0x80 (byte s j)) (length s) k (not-true _ ascii) h)
+  below k h = leb-false 0x80 (byte s k) (none-passes (λ j. leb 0x80 (byte s j)) (length s) k ascii h)
 
   one : (k : ℕ) → k < length s → 1 ≡ charLen s k
   one k h =
@@ -204,10 +178,17 @@ module _ (s : List ℕ) (ascii : isAscii s ≡ true) where
       skip-goes (charLen s) (length s) (char-inside s) k (rw (← one k (omega arith)) (omega arith))
       ∙ rw (← one k (omega arith)) (to-the-end n (k + 1) (omega arith))
 
-  pub ascii-well-formed : true ≡ utf8 s
+  pub ascii-well-formed : utf8 s ≡ true
   unfolding utf8
-  ascii-well-formed = sym (eq-eqb (skipChars s 0) (length s) (to-the-end (length s) 0 (omega arith)))
+  ascii-well-formed = eq-eqb (skipChars s 0) (length s) (to-the-end (length s) 0 (omega arith))
 
-pub ruleset looking-for-ascii = (looking, ascii-told)
+pub ascii-tells : (s : List ℕ) (above : Bool) (k : ℕ) → RulesOut (any (λ m. leb 0x80 (byte s m)) k) above → length s ≤ k → k ≤ length s → Tells (utf8 s) (not above)
+ascii-tells s above k f a b =
+    record { holds = λ t. ascii-well-formed s (rules-out-ended (λ m. leb 0x80 (byte s m)) above k (length s) f a b .none (not-true above t)) }
 
-pub ruleset walking-by-characters = (walking, answer, ascii-well-formed)
+pub rules-itself-out : (p : Bool) → RulesOut p p
+rules-itself-out p = record { none = λ e. e }
+
+pub ruleset looking-for-ascii = (needs, none-ruled-out, rules-out-again, rules-itself-out, ascii-tells)
+
+pub ruleset walking-by-characters = (walking, told)

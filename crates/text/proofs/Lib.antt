@@ -1,7 +1,7 @@
 pub mod Tests
 pub mod Walks
 pub mod Table
-pub mod Settled
+pub mod Shortcuts
 pub mod Spaces
 pub mod Ranges
 pub mod Trims

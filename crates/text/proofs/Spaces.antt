@@ -1,22 +1,22 @@
 -- Whitespace and line ends at an offset: a law for each branch of the definitions, and that what is measured stands within the text, since no
 -- whitespace character has a byte 0. A line end is a whitespace character, so what holds of whitespace is not proved again for line ends.
 use mathlib.Core.Path.{_≡_, refl, sym, ap, _∙_}
-use mathlib.Core.Bool.{Bool, true, false, _&&_, _||_, true≢false}
+use mathlib.Core.Bool.{Bool, true, false, _&&_, _||_, not, true≢false}
 use mathlib.Core.List.{List, [], _∷_}
 use mathlib.Core.Logic.{_⊎_, inl, inr, ⊎-elim}
 use Prim.Native.Nat.{ℕ, zero, suc, _+_, _≤_, _<_, zero-le, suc-le-suc}
 use native.Mathlib.Nat.{eq-zero-or-pos}
 use native.Mathlib.Omega.{arith}
 use borrow.Author.Needs.{needs}
-use borrow.Author.Tests.{ne-eqb, eqb-true}
-use lib.Dec.{eqb}
+use borrow.Author.Tests.{ne-eqb, eqb-true, leb-false}
+use lib.Dec.{eqb, leb}
 use lib.ListN.{length}
 use Rattle.text.specs.Class.{isWhitespaceByte, isLineEnd, isBlank, isOtherWhitespace}
 use Rattle.text.specs.Walk.{skip}
-use Rattle.text.specs.Whitespace.{byte, isNextLine, isMark, isSeparator, whitespaceOf, lineEndOf, whitespaceLen, lineEndLen, Width}
-use Rattle.text.proofs.Tests.{by-test, answer, and-left, and-false, or-true}
+use Rattle.text.specs.Shortcuts.{RulesOut, mayEndLine, mayBeWhitespace}
+use Rattle.text.specs.Whitespace.{byte, isNextLine, isMark, isSeparator, whitespaceOf, lineEndOf, whitespaceLen, lineEndLen, atLineEnd, Width}
+use Rattle.text.proofs.Tests.{by-test, answer, and-left, and-false, or-true, or-none, not-true}
 use Rattle.text.proofs.Walks.{skip-ended, skip-again}
-use Rattle.text.proofs.Settled.{line-feed-ends, none-ends-above, none-white-above}
 
 -- ---- the branches
 
@@ -49,25 +49,20 @@ module _ (a b c : ℕ) where
   unfolding lineEndOf
   end-none e f = simp (e, f)
 
-  -- an ASCII byte is measured by itself
-  pub white-ascii : a < 0x80 → whitespaceOf a 0 0 ≡ whitespaceOf a b c
+  -- a byte that the quick test rules out starts no character
+  pub white-ruled-out : mayBeWhitespace a ≡ false → 0 ≡ whitespaceOf a b c
   unfolding whitespaceOf
-  white-ascii h = simp (ne-eqb a 0xc2 (omega arith), ne-eqb a 0xe2 (omega arith))
+  white-ruled-out e =
+      let f = or-none (isWhitespaceByte a) (leb 0x80 a) e in
+      let h = leb-false 0x80 a (f .1) in
+      simp (f .0, ne-eqb a 0xc2 (omega arith), ne-eqb a 0xe2 (omega arith))
 
-  pub end-ascii : a < 0x80 → lineEndOf a 0 0 ≡ lineEndOf a b c
+  pub end-ruled-out : mayEndLine a ≡ false → 0 ≡ lineEndOf a b c
   unfolding lineEndOf
-  end-ascii h = simp (ne-eqb a 0xe2 (omega arith))
-
--- a byte by itself that is measured without its classes
-module _ (a : ℕ) where
-  pub white-above : 0x20 < a → 0 ≡ whitespaceOf a 0 0
-  white-above h = white-none a 0 0 (sym (none-white-above a h)) (and-false (eqb a 0xc2)) (simp (and-false (eqb a 0xe2)))
-
-  pub end-above : 0x0d < a → 0 ≡ lineEndOf a 0 0
-  end-above h = end-none a 0 0 (sym (none-ends-above a h)) (and-false (eqb a 0xe2))
-
-  pub end-line-feed : a ≡ 0x0a → 1 ≡ lineEndOf a 0 0
-  end-line-feed e = end-one a 0 0 (sym (line-feed-ends a e))
+  end-ruled-out e =
+      let f = or-none (isLineEnd a) (leb 0x80 a) e in
+      let h = leb-false 0x80 a (f .1) in
+      simp (f .0, ne-eqb a 0xe2 (omega arith))
 
 -- ---- a line end is a whitespace character
 
@@ -155,17 +150,26 @@ module _ (s : List ℕ) (i n a b c : ℕ) (ea : a ≡ byte s i) (eb : b ≡ byte
       let q : n ≡ lineEndLen s i = cc in
       record { is = q; fits = rw q (fits s i (lineEndLen s i) (end-inside s i) h) }
 
--- the same from the first byte alone, where that is ASCII
-module _ (s : List ℕ) (i n a : ℕ) (ea : a ≡ byte s i) (l : a < 0x80) (h : i ≤ length s) where
-  pub white-ascii-width : n ≡ whitespaceOf a 0 0 → Width s i (whitespaceLen s i) n
-  white-ascii-width e =
-      white-width s i n a (byte s (i + 1)) (byte s (i + 2)) ea refl refl h (e ∙ white-ascii a (byte s (i + 1)) (byte s (i + 2)) l)
+-- the same from the first byte alone
+module _ (s : List ℕ) (i a : ℕ) (r : Bool) (ea : a ≡ byte s i) (h : i ≤ length s) where
+  pub white-one-width : r ≡ isWhitespaceByte a → r ≡ true → Width s i (whitespaceLen s i) 1
+  white-one-width e t = white-width s i 1 a _ _ ea refl refl h (white-one a _ _ (sym e ∙ t))
 
-  pub end-ascii-width : n ≡ lineEndOf a 0 0 → Width s i (lineEndLen s i) n
-  end-ascii-width e =
-      end-width s i n a (byte s (i + 1)) (byte s (i + 2)) ea refl refl h (e ∙ end-ascii a (byte s (i + 1)) (byte s (i + 2)) l)
+  pub white-none-width : RulesOut (mayBeWhitespace a) r → not r ≡ true → Width s i (whitespaceLen s i) 0
+  white-none-width f e = white-width s i 0 a _ _ ea refl refl h (white-ruled-out a _ _ (f .none (not-true r e)))
 
-pub ruleset measuring = (needs, answer, white-one, white-two, white-three, white-none, white-above, white-width, white-ascii-width, end-one, end-three, end-none, end-above, end-line-feed, end-width, end-ascii-width)
+  pub end-one-width : r ≡ isLineEnd a → r ≡ true → Width s i (lineEndLen s i) 1
+  end-one-width e t = end-width s i 1 a _ _ ea refl refl h (end-one a _ _ (sym e ∙ t))
+
+  pub end-none-width : RulesOut (mayEndLine a) r → not r ≡ true → Width s i (lineEndLen s i) 0
+  end-none-width f e = end-width s i 0 a _ _ ea refl refl h (end-ruled-out a _ _ (f .none (not-true r e)))
+
+-- what rules the byte at i out rules out that a line end starts there
+pub end-may-start : (s : List ℕ) (i : ℕ) (r : Bool) → RulesOut (mayEndLine (byte s i)) r → RulesOut (atLineEnd s i) r
+unfolding lineEndLen
+end-may-start s i r f = record { none = λ e. rw (← end-ruled-out (byte s i) (byte s (i + 1)) (byte s (i + 2)) (f .none e)) refl }
+
+pub ruleset measuring = (needs, answer, white-two, white-three, white-none, white-width, white-one-width, white-none-width, end-three, end-none, end-width, end-one-width, end-none-width)
 
 -- ---- the loops that skip: the walk began at i and stands at k, where n bytes of whitespace, or of a line end, stand
 

@@ -15,7 +15,7 @@ use Rattle.text.specs.Class.{Classes, ClassTable, has, isLineEnd, isBlan
 use Rattle.text.proofs.Tests.{and-left, and-right}
 
 -- the test passes at each number below n
-abbrev allBelow : (ℕ → Bool) → ℕ → Bool
+abbrev pub allBelow : (ℕ → Bool) → ℕ → Bool
 allBelow test zero = true
 allBelow test (suc n) = test n && allBelow test n
 
@@ -79,10 +79,14 @@ unfoldable pub table : List ℕ
 unfolding masks entries isLineEnd isBlank isOtherWhitespace isLetter isDigit isHexDigit isMetaCharacter isEscapeLetter
 table = entries 256 0
 
+-- what is computed at each byte and its entry in the table
+pub at-each-entry : (test : ℕ → ℕ → Bool) → allBelow (λ k. test k (getD table k 0)) 256 ≡ true → (b : ℕ) → b < 256 → test b (getD table b 0) ≡ true
+at-each-entry test e b h = at-each (λ k. test k (getD table k 0)) 256 b e h
+
 -- S1: at each byte the table tells the byte's classes
 pub table-rule : (b : ℕ) → b < 256 → Classes b (getD table b 0)
 unfolding right table
-table-rule b h = right-says b (getD table b 0) (at-each (λ k. right k (getD table k 0)) 256 b refl h)
+table-rule b h = right-says b (getD table b 0) (at-each-entry right refl b h)
 
 pub class-table : ClassTable table
 class-table = record { rule = table-rule }

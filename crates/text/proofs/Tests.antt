@@ -1,6 +1,6 @@
 -- What a test that is made of tests says, and what a callee's answer says of its definition. Each law goes by cases on the tests.
 use mathlib.Core.Path.{_≡_, refl, sym, ap, _∙_}
-use mathlib.Core.Bool.{Bool, true, false, _&&_, _||_, cond, not, false≢true}
+use mathlib.Core.Bool.{Bool, true, false, _&&_, _||_, cond, not, true≢false, false≢true}
 use mathlib.Core.Logic.{_⊎_, inl, inr, ⊎-elim}
 use Prim.Native.Nat.{ℕ, zero, suc, _≤_, _<_, zero-le, suc-le-suc}
 use borrow.Author.Tests.{le-leb, lt-leb, leb-true, eq-eqb, ne-eqb}
@@ -22,6 +22,14 @@ and-false false = refl
 pub or-true : (p : Bool) → p || true ≡ true
 or-true true = refl
 or-true false = refl
+
+pub or-none : (p q : Bool) → p || q ≡ false → (p ≡ false) × (q ≡ false)
+or-none true q e = absurd (true≢false e)
+or-none false q e = (refl, e)
+
+pub not-true : (b : Bool) → not b ≡ true → b ≡ false
+not-true true e = absurd (false≢true e)
+not-true false e = refl
 
 pub or-cases : {A : Type 0} (p q : Bool) → p || q ≡ true → (p ≡ true → A) → (q ≡ true → A) → A
 or-cases true q e f g = f refl

@@ -1,23 +1,23 @@
 -- Trimming. The end of a trimmed text is the first position from which only whitespace stands up to e; the loop jumps over each run of
 -- whitespace, which is right because no whitespace character starts inside another, so that a walk from inside the run ends where the run does.
 use mathlib.Core.Path.{_≡_, refl, sym, ap, _∙_}
-use mathlib.Core.Bool.{Bool, true, false, not, _&&_, _||_, true≢false}
+use mathlib.Core.Bool.{Bool, true, false, not, _&&_, _||_, true≢false, false≢true}
 use mathlib.Core.List.{List}
 use mathlib.Core.Logic.{⊎-elim}
 use Prim.Native.Nat.{ℕ, zero, suc, _+_, _-_, _%_, _≤_, _<_}
 use native.Mathlib.Nat.{le-refl, lt-irrefl, lt-of-lt-of-le, lt-of-le-of-lt, eq-or-lt-of-le, eq-zero-or-pos}
 use native.Mathlib.Omega.{arith}
 use borrow.Author.Needs.{needs}
-use borrow.Author.Tests.{le-leb, lt-leb, le-ltb, lt-ltb, eq-eqb, ne-eqb, eqb-true, ltb-true}
-use lib.Dec.{eqb, ltb}
+use borrow.Author.Tests.{le-leb, lt-leb, eq-eqb, ne-eqb, eqb-true, leb-false}
+use lib.Dec.{eqb, leb}
 use lib.ListN.{length}
 use Rattle.text.specs.Class.{isWhitespaceByte, isLineEnd, isBlank, isOtherWhitespace}
 use Rattle.text.specs.Walk.{last, skip, Between}
 use Rattle.text.specs.Whitespace.{byte, isNextLine, isMark, isSeparator, whitespaceOf, whitespaceLen, Width}
-use Rattle.text.specs.Scan.{skipWhitespace, trimStart, trimEnd, endsPlainly, backslashesBehind, backslashesBefore, keepEscaped, trimEndUnescaped}
-use Rattle.text.proofs.Tests.{answer, and-left, and-right, or-cases, by-test, le-or-lt, equal, unequal}
+use Rattle.text.specs.Shortcuts.{RulesOut, Tells, mayBeWhitespace}
+use Rattle.text.specs.Scan.{skipWhitespace, trimStart, trimEnd, backslashesBehind, backslashesBefore, keepEscaped, trimEndUnescaped}
+use Rattle.text.proofs.Tests.{and-left, and-right, or-cases, or-none, not-true, by-test, le-or-lt, equal, unequal}
 use Rattle.text.proofs.Walks.{first-here, first-none, first-over, last-found, last-again, last-ended, skip-stays, skip-goes, repeat-keeps}
-use Rattle.text.proofs.Settled.{none-white-above}
 use Rattle.text.proofs.Spaces.{white-inside}
 
 -- ---- no whitespace character starts inside another
@@ -127,18 +127,21 @@ module _ (s : List ℕ) where
 
 pub ruleset trimming = (needs, trim-found, trim-again, trim-ended)
 
--- ---- a byte that is above space and ASCII is no part of a whitespace character, so what ends with it is not trimmed
+-- ---- a byte that no whitespace character has: what ends with it is not trimmed
 
 three-first : (a b c : ℕ) → isMark a b c || isSeparator a b c ≡ true → a ≡ 0xe2
 three-first a b c e =
     or-cases (isMark a b c) (isSeparator a b c) e (λ t. eqb-true a 0xe2 (and-left (eqb a 0xe2) _ t)) (λ t. eqb-true a 0xe2 (and-left (eqb a 0xe2) _ t))
 
-module _ (s : List ℕ) (p : ℕ) (above : 0x20 < byte s p) (ascii : byte s p < 0x80) where
+module _ (s : List ℕ) (p : ℕ) (plain : mayBeWhitespace (byte s p) ≡ false) where
+  none : (isWhitespaceByte (byte s p) ≡ false) × (leb 0x80 (byte s p) ≡ false)
+  none = or-none (isWhitespaceByte (byte s p)) (leb 0x80 (byte s p)) plain
+
   not-one : (j : ℕ) → isWhitespaceByte (byte s j) ≡ true → j ≡ p → ⊥
-  not-one j e q = true≢false (sym e ∙ ap (λ (x : ℕ). isWhitespaceByte (byte s x)) q ∙ sym (none-white-above (byte s p) above))
+  not-one j e q = true≢false (sym e ∙ ap (λ (x : ℕ). isWhitespaceByte (byte s x)) q ∙ none .0)
 
   not-high : (m : ℕ) → 0x80 ≤ byte s m → m ≡ p → ⊥
-  not-high m h q = omega (arith, ap (byte s) q)
+  not-high m h q = omega (arith, ap (byte s) q, leb-false 0x80 (byte s p) (none .1))
 
   stays-before : (j : ℕ) → j ≤ p → j + whitespaceLen s j ≤ p
   unfolding whitespaceOf whitespaceLen
@@ -169,29 +172,23 @@ module _ (s : List ℕ) (p : ℕ) (above : 0x20 < byte s p) (ascii : byte s p < 
   stops-before k h = repeat-keeps (λ j. j ≤ p) (λ j. j + whitespaceLen s j) stays-before (length s) k h
 
 module _ (s : List ℕ) (i e : ℕ) where
-  pub empty-not-plain : e ≤ i → false ≡ endsPlainly s i e
-  unfolding endsPlainly
-  empty-not-plain h = rw (le-ltb i e h)
-
-  pub plain-by-last-byte : i < e → ltb 0x20 (byte s (e - 1)) && ltb (byte s (e - 1)) 0x80 ≡ endsPlainly s i e
-  unfolding endsPlainly
-  plain-by-last-byte h = rw (lt-ltb i e h)
-
-  nothing-behind : i < e → 0x20 < byte s (e - 1) → byte s (e - 1) < 0x80 → e ≡ trimEnd s i e
+  nothing-behind : i < e → mayBeWhitespace (byte s (e - 1)) ≡ false → trimEnd s i e ≡ e
   unfolding trimEnd
-  nothing-behind l above ascii =
-      first-none _ e e (le-refl e)
-      ∙ sym (first-over _ i e e (omega arith) (le-refl e) (λ m a b. lt-leb e (skipWhitespace s m) (omega (arith, stops-before s (e - 1) above ascii m (omega arith)))))
+  nothing-behind l plain =
+      first-over _ i e e (omega arith) (le-refl e) (λ m a b. lt-leb e (skipWhitespace s m) (omega (arith, stops-before s (e - 1) plain m (omega arith))))
+      ∙ sym (first-none _ e e (le-refl e))
 
-  pub plain-end : endsPlainly s i e ≡ true → e ≡ trimEnd s i e
-  unfolding endsPlainly
-  plain-end t =
-      let b = byte s (e - 1) in
-      let u = and-right (ltb i e) (ltb 0x20 b && ltb b 0x80) t in
-      nothing-behind (ltb-true i e (and-left (ltb i e) (ltb 0x20 b && ltb b 0x80) t)) (ltb-true 0x20 b (and-left (ltb 0x20 b) (ltb b 0x80) u))
-      (ltb-true b 0x80 (and-right (ltb 0x20 b) (ltb b 0x80) u))
+  -- where nothing stands from i to e there is no last byte
+  pub nothing-told : Tells (eqb (trimEnd s i e) e) false
+  nothing-told = record { holds = λ t. absurd (false≢true t) }
 
-pub ruleset ending-plainly = (needs, answer, empty-not-plain, plain-by-last-byte, plain-end)
+  pub told-by-last-byte : (r : Bool) → i < e → RulesOut (mayBeWhitespace (byte s (e - 1))) r → Tells (eqb (trimEnd s i e) e) (not r)
+  told-by-last-byte r h f = record { holds = λ t. eq-eqb (trimEnd s i e) e (nothing-behind h (f .none (not-true r t))) }
+
+  pub plain-end : (r : Bool) → Tells (eqb (trimEnd s i e) e) r → r ≡ true → e ≡ trimEnd s i e
+  plain-end r f t = sym (eqb-true (trimEnd s i e) e (f .holds t))
+
+pub ruleset ending-plainly = (needs, nothing-told, told-by-last-byte, plain-end)
 
 -- ---- at the start
 
@@ -241,8 +238,9 @@ module _ (s : List ℕ) (i e u : ℕ) (f : Between i e (trimEnd s i e) u) (l : e
     unfolding trimEndUnescaped keepEscaped
     all-trimmed o = record { is = rw (← f .is, ne-eqb u e d, ← c, ne-eqb (n % 2) 1 o); from = f .from; to = omega (arith, f .to) }
 
-pub plain-end-kept : (s : List ℕ) (i e : ℕ) → endsPlainly s i e ≡ true → i ≤ e → e ≤ length s → Between i (length s) (trimEndUnescaped s i e) e
-plain-end-kept s i e t h l =
-    nothing-trimmed s i e e (record { is = plain-end s i e t; from = h; to = le-refl e }) l refl h
+pub plain-end-kept :
+    (s : List ℕ) (i e : ℕ) (r : Bool) → Tells (eqb (trimEnd s i e) e) r → r ≡ true → i ≤ e → e ≤ length s → Between i (length s) (trimEndUnescaped s i e) e
+plain-end-kept s i e r f t h l =
+    nothing-trimmed s i e e (record { is = plain-end s i e r f t; from = h; to = le-refl e }) l refl h
 
-pub ruleset trimming-escaped = (needs, answer, plain-end-kept, nothing-trimmed, escaped-kept, all-trimmed)
+pub ruleset trimming-escaped = (needs, plain-end-kept, nothing-trimmed, escaped-kept, all-trimmed)

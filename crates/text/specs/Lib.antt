@@ -4,4 +4,5 @@ pub mod Whitespace
 pub mod Range
 pub mod Scan
 pub mod Utf8
+pub mod Shortcuts
 pub mod Unicode

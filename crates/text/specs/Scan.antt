@@ -1,8 +1,8 @@
 -- The scanners that declarations and rules are read with, each one walk (01, Declarations and Rules).
-use mathlib.Core.Bool.{Bool, cond, not, _&&_}
+use mathlib.Core.Bool.{cond, not}
 use mathlib.Core.List.{List}
 use Prim.Native.Nat.{ℕ, _+_, _-_, _%_, min}
-use lib.Dec.{eqb, leb, ltb}
+use lib.Dec.{eqb, leb}
 use lib.ListN.{length}
 use Rattle.text.specs.Class.{isBlank, isAsciiWhitespace}
 use Rattle.text.specs.Walk.{first, last, skip}
@@ -57,10 +57,6 @@ trimStart s i e = min (skipWhitespace s i) e
 -- where the text from i to e ends without its trailing whitespace: the first position from which only whitespace stands up to e (01, Declarations and Rules)
 unfoldable pub trimEnd : List ℕ → ℕ → ℕ → ℕ
 trimEnd s i e = first (λ k. leb e (skipWhitespace s k)) i e
-
--- the last byte from i to before e is above space and ASCII, so that no whitespace character has it (01, Characters)
-unfoldable pub endsPlainly : List ℕ → ℕ → ℕ → Bool
-endsPlainly s i e = ltb i e && (ltb 0x20 (byte s (e - 1)) && ltb (byte s (e - 1)) 0x80)
 
 -- from the last byte that is no backslash, of those from i to u: how many bytes stand behind it
 unfoldable pub backslashesBehind : ℕ → ℕ → Found → ℕ

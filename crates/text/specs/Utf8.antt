@@ -1,12 +1,12 @@
 -- Well-formed UTF-8, by the Unicode standard's table of well-formed byte sequences (table 3-7). Number 3 of 01 refuses all else.
-use mathlib.Core.Bool.{Bool, cond, not, _&&_, _||_}
+use mathlib.Core.Bool.{Bool, cond, _&&_, _||_}
 use mathlib.Core.List.{List}
 use Prim.Native.Nat.{ℕ, _+_}
 use lib.Dec.{eqb, leb, ltb}
 use lib.ListN.{length}
 use Rattle.text.specs.Class.{within}
 use Rattle.text.specs.Whitespace.{byte}
-use Rattle.text.specs.Walk.{skip, any}
+use Rattle.text.specs.Walk.{skip}
 
 -- a byte inside a character, not its first
 abbrev pub isContinuation : ℕ → Bool
@@ -53,7 +53,3 @@ skipChars s k = skip (charLen s) (length s) k
 -- s is well formed: from its start characters follow one another to its end (01, Numbers given at the counter, 3)
 unfoldable pub utf8 : List ℕ → Bool
 utf8 s = eqb (skipChars s 0) (length s)
-
--- every byte of s is a character by itself
-unfoldable pub isAscii : List ℕ → Bool
-isAscii s = not (any (λ k. leb 0x80 (byte s k)) (length s))

@@ -3,7 +3,7 @@ use mathlib.Core.Path.{_≡_}
 use mathlib.Core.Bool.{Bool, _&&_, _||_, cond}
 use mathlib.Core.List.{List}
 use Prim.Native.Nat.{ℕ, _+_, _≤_}
-use lib.Dec.{eqb, ltb, leb}
+use lib.Dec.{eqb, ltb}
 use lib.ListN.{getD, length}
 use Rattle.text.specs.Class.{isWhitespaceByte, isLineEnd}
 
@@ -46,10 +46,6 @@ atWhitespace s i = ltb 0 (whitespaceLen s i)
 -- a line end starts at i
 abbrev pub atLineEnd : List ℕ → ℕ → Bool
 atLineEnd s i = ltb 0 (lineEndLen s i)
-
--- below 0E, or 80 and above: every line end starts with one of these bytes, though most of them start none (01, Characters)
-abbrev pub mayEndLine : ℕ → Bool
-mayEndLine a = ltb a 0x0e || leb 0x80 a
 
 -- r is n, and that many bytes stand at i
 pub record Width (s : List ℕ) (i n r : ℕ) : Type 0 where

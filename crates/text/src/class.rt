@@ -1,6 +1,7 @@
 // The classes of a byte, by one table (01, Characters).
 ghost use mathlib.Core.Path.{_≡_};
-ghost use Rattle.text.specs.Class.{Classes, ClassTable, isLineEnd, isBlank, isOtherWhitespace, isLetter, isDigit, isHexDigit, isMetaCharacter, isEscapeLetter, isAlwaysKept, isWhitespaceByte, isAsciiWhitespace};
+ghost use Rattle.text.specs.Class.{Classes, ClassTable, isLineEnd, isBlank, isLetter, isDigit, isHexDigit, isAlwaysKept, isWhitespaceByte, isAsciiWhitespace};
+ghost use Rattle.text.specs.Shortcuts.{RulesOut, Tells, mayEndLine, mayBeWhitespace};
 
 // A mask for each byte: 1 line end, 2 blank, 4 other whitespace, 8 letter, 16 digit, 32 hex digit, 64 meta character,
 // 128 escape letter.
@@ -274,15 +275,51 @@ pub fn class(b: u8) -> u8
     CLASS[b as usize]
 }
 
-// Line feed, space and what is above them, by far the most bytes of a file, are told without a look into the table.
+// ---- quick tests: they settle most bytes without a look into the table, which is asked about all others
+
+// Line feed.
+pub fn is_common_line_end(b: u8) -> bool
+    ensures { λ r. ⌜ Tells (isLineEnd b) r ⌝ }
+{
+    b == 0x0a
+}
+
+// Space.
+pub fn is_common_blank(b: u8) -> bool
+    ensures { λ r. ⌜ Tells (isBlank b) r ⌝ }
+{
+    b == 0x20
+}
+
+// Whether a line end may start with the byte.
+pub fn may_end_line(b: u8) -> bool
+    ensures { λ r. ⌜ RulesOut (mayEndLine b) r ⌝ }
+{
+    (b < 0x0e) | (0x80 <= b)
+}
+
+// Whether a whitespace character may have the byte.
+pub fn may_be_whitespace(b: u8) -> bool
+    ensures { λ r. ⌜ RulesOut (mayBeWhitespace b) r ⌝ }
+{
+    (b <= 0x20) | (0x80 <= b)
+}
+
+pub fn may_be_blank(b: u8) -> bool
+    ensures { λ r. ⌜ RulesOut (isBlank b) r ⌝ }
+{
+    b <= 0x20
+}
+
+// ---- the classes
 
 pub fn is_line_end(b: u8) -> bool
     ensures { λ r. ⌜ r ≡ isLineEnd b ⌝ }
 {
-    if b == 0x0a {
+    if is_common_line_end(b) {
         return true;
     }
-    if 0x0d < b {
+    if !may_end_line(b) {
         return false;
     }
     class(b) & 1 != 0
@@ -291,19 +328,13 @@ pub fn is_line_end(b: u8) -> bool
 pub fn is_blank(b: u8) -> bool
     ensures { λ r. ⌜ r ≡ isBlank b ⌝ }
 {
-    if b == 0x20 {
-        return true;
-    }
-    if 0x20 < b {
+    if !may_be_blank(b) {
         return false;
     }
+    if is_common_blank(b) {
+        return true;
+    }
     class(b) & 2 != 0
-}
-
-pub fn is_other_whitespace(b: u8) -> bool
-    ensures { λ r. ⌜ r ≡ isOtherWhitespace b ⌝ }
-{
-    class(b) & 4 != 0
 }
 
 pub fn is_letter(b: u8) -> bool
@@ -324,18 +355,6 @@ pub fn is_hex_digit(b: u8) -> bool
     class(b) & 32 != 0
 }
 
-pub fn is_meta_character(b: u8) -> bool
-    ensures { λ r. ⌜ r ≡ isMetaCharacter b ⌝ }
-{
-    class(b) & 64 != 0
-}
-
-pub fn is_escape_letter(b: u8) -> bool
-    ensures { λ r. ⌜ r ≡ isEscapeLetter b ⌝ }
-{
-    class(b) & 128 != 0
-}
-
 // Whether an escape of the byte stays whatever follows: one look for three classes. The table is lent, so that a loop over escapes lays it out
 // once.
 pub fn is_always_kept_in(classes: &[u8; 256], b: u8) -> bool
@@ -350,11 +369,11 @@ pub fn is_always_kept_in(classes: &[u8; 256], b: u8) -> bool
 pub fn is_whitespace_byte(b: u8) -> bool
     ensures { λ r. ⌜ r ≡ isWhitespaceByte b ⌝ }
 {
-    if (b == 0x20) | (b == 0x0a) {
-        return true;
-    }
-    if 0x20 < b {
+    if !may_be_whitespace(b) {
         return false;
+    }
+    if is_common_blank(b) | is_common_line_end(b) {
+        return true;
     }
     let mask = class(b);
     (mask & 1 != 0) | ((mask & 2 != 0) | (mask & 4 != 0))

@@ -1,14 +1,19 @@
 // Scanners: each walks once, forward or backward, and answers where it stops.
 ghost use mathlib.Core.Path.{_≡_};
 ghost use Prim.Native.Nat.{_+_, _≤_};
-ghost use lib.Dec.{leb};
+ghost use lib.Dec.{eqb};
 ghost use lib.ListN.{length};
+ghost use Rattle.text.specs.Class.{isBlank};
+ghost use Rattle.text.specs.Shortcuts.{RulesOut, Tells};
 ghost use Rattle.text.specs.Walk.{Between, any};
-ghost use Rattle.text.specs.Whitespace.{byte, mayEndLine};
-ghost use Rattle.text.specs.Scan.{skipWhitespace, skipLineEnds, skipBlanks, findLineEnd, lineEnd, findWhitespace, skipAsciiWhitespace, findAsciiWhitespace, findByte, lastBlank, trimStart, trimEnd, endsPlainly, backslashesBefore, trimEndUnescaped};
+ghost use Rattle.text.specs.Whitespace.{byte, atLineEnd};
+ghost use Rattle.text.specs.Scan.{skipWhitespace, skipLineEnds, skipBlanks, findLineEnd, lineEnd, findWhitespace, skipAsciiWhitespace, findAsciiWhitespace, findByte, lastBlank, trimStart, trimEnd, backslashesBefore, trimEndUnescaped};
 use crate::Found;
 use crate::class::is_ascii_whitespace;
 use crate::class::is_blank;
+use crate::class::may_be_blank;
+use crate::class::may_be_whitespace;
+use crate::class::may_end_line;
 use crate::whitespace::at_line_end;
 use crate::whitespace::line_end_len;
 use crate::whitespace::matches_whitespace;
@@ -62,15 +67,14 @@ pub fn parse_spaces(s: &[u8], i: usize) -> usize
     k
 }
 
-// The first line end from i to before e, or e. Most bytes start none, which one test tells.
+// The first line end from i to before e, or e. Most bytes start none.
 fn find_line_end(s: &[u8], i: usize, e: usize) -> usize
     requires { ⌜ (i ≤ e) × (e ≤ length (now s)) ⌝ }
     ensures { λ r. ⌜ Between i e (findLineEnd (now (s .entry)) i e) r ⌝ }
 {
     let mut k = i;
     while k < e {
-        let b = s[k];
-        if (b < 0x0e) | (0x80 <= b) {
+        if may_end_line(s[k]) {
             if at_line_end(s, k) {
                 return k;
             }
@@ -83,13 +87,12 @@ fn find_line_end(s: &[u8], i: usize, e: usize) -> usize
 // Whether one of the 16 bytes from i on may start a line end. It looks at all of them, so that the compiler can take them at once.
 fn block_may_end_line(s: &[u8], i: usize) -> bool
     requires { ⌜ i + 16 ≤ length (now s) ⌝ }
-    ensures { λ r. ⌜ r ≡ any (λ j. mayEndLine (byte (now (s .entry)) (i + j))) 16 ⌝ }
+    ensures { λ r. ⌜ RulesOut (any (λ j. atLineEnd (now (s .entry)) (i + j)) 16) r ⌝ }
 {
     let mut found = false;
     let mut j = 0;
     while j < BLOCK {
-        let b = s[i + j];
-        found = found | ((b < 0x0e) | (0x80 <= b));
+        found = found | may_end_line(s[i + j]);
         j += 1;
     }
     found
@@ -174,12 +177,12 @@ pub fn find_byte(s: &[u8], i: usize, e: usize, b: u8) -> usize
 // Whether one of the 16 bytes from i on may be a blank.
 fn block_may_have_blank(s: &[u8], i: usize) -> bool
     requires { ⌜ i + 16 ≤ length (now s) ⌝ }
-    ensures { λ r. ⌜ r ≡ any (λ j. leb (byte (now (s .entry)) (i + j)) 0x20) 16 ⌝ }
+    ensures { λ r. ⌜ RulesOut (any (λ j. isBlank (byte (now (s .entry)) (i + j))) 16) r ⌝ }
 {
     let mut found = false;
     let mut j = 0;
     while j < BLOCK {
-        found = found | (s[i + j] <= 0x20);
+        found = found | may_be_blank(s[i + j]);
         j += 1;
     }
     found
@@ -212,11 +215,8 @@ pub fn last_blank(s: &[u8], i: usize, e: usize) -> Found
     let mut k = past_blankless(s, i, e);
     while i < k {
         let j = k - 1;
-        let b = s[j];
-        if b <= 0x20 {
-            if is_blank(b) {
-                return Found::At(j);
-            }
+        if is_blank(s[j]) {
+            return Found::At(j);
         }
         k = j;
     }
@@ -234,16 +234,15 @@ pub fn trim_start(s: &[u8], i: usize, e: usize) -> usize
     e
 }
 
-// Whether the text from i to e ends with an ASCII byte above space, as most do: no whitespace character has such a byte.
+// Whether the text from i to e ends with a byte that no whitespace character has, as most do: then nothing is trimmed.
 fn ends_plainly(s: &[u8], i: usize, e: usize) -> bool
     requires { ⌜ e ≤ length (now s) ⌝ }
-    ensures { λ r. ⌜ r ≡ endsPlainly (now (s .entry)) i e ⌝ }
+    ensures { λ r. ⌜ Tells (eqb (trimEnd (now (s .entry)) i e) e) r ⌝ }
 {
     if e <= i {
         return false;
     }
-    let b = s[e - 1];
-    (0x20 < b) & (b < 0x80)
+    !may_be_whitespace(s[e - 1])
 }
 
 // Each byte is passed once: whitespace goes from k to w, and what stands at w is none, so the end is past w.

@@ -2,9 +2,10 @@
 ghost use mathlib.Core.Path.{_≡_};
 ghost use Prim.Native.Nat.{_≤_};
 ghost use lib.ListN.{length};
+ghost use Rattle.text.specs.Shortcuts.{Tells};
 ghost use Rattle.text.specs.Whitespace.{Width};
 ghost use Rattle.text.specs.Utf8;
-ghost use Rattle.text.specs.Utf8.{isContinuation, twoBytes, threeBytes, fourBytes, charOf, charLen, isAscii};
+ghost use Rattle.text.specs.Utf8.{isContinuation, twoBytes, threeBytes, fourBytes, charOf, charLen};
 use crate::whitespace::byte_at;
 
 pub fn is_continuation(b: u8) -> bool
@@ -76,9 +77,9 @@ pub fn char_len(s: &[u8], k: usize) -> usize
     0
 }
 
-// It looks at every byte whatever it finds, so that the compiler can take many at once.
+// Whether every byte is ASCII, and so a character by itself. It looks at all of them whatever it finds, so that the compiler can take many at once.
 fn is_ascii(s: &[u8]) -> bool
-    ensures { λ r. ⌜ r ≡ isAscii (now (s .entry)) ⌝ }
+    ensures { λ r. ⌜ Tells (Utf8.utf8 (now (s .entry))) r ⌝ }
 {
     let mut above = false;
     let mut k = 0;

@@ -1,10 +1,14 @@
 // Whitespace characters and line ends at a byte offset: characters of 1, 2 or 3 bytes (01, Characters).
 ghost use mathlib.Core.Path.{_≡_};
+ghost use mathlib.Core.Bool.{false};
 ghost use Prim.Native.Nat.{_≤_};
 ghost use lib.ListN.{length};
+ghost use Rattle.text.specs.Class.{isLineEnd, isWhitespaceByte};
 ghost use Rattle.text.specs.Whitespace.{Width, byte, whitespaceOf, lineEndOf, whitespaceLen, lineEndLen, atWhitespace, atLineEnd};
 use crate::class::is_line_end;
 use crate::class::is_whitespace_byte;
+use crate::class::may_be_whitespace;
+use crate::class::may_end_line;
 
 // The byte at i, and 0 past the end.
 pub fn byte_at(s: &[u8], i: usize) -> u8
@@ -13,13 +17,11 @@ pub fn byte_at(s: &[u8], i: usize) -> u8
     if i < s.len() { s[i] } else { 0 }
 }
 
-// Of the bytes a b c, how many the whitespace character has that they start with.
-fn whitespace_of(a: u8, b: u8, c: u8) -> usize
+// Of the bytes a b c, of which a is none by itself, how many the whitespace character has that they start with.
+fn wide_whitespace_of(a: u8, b: u8, c: u8) -> usize
+    requires { ⌜ isWhitespaceByte a ≡ false ⌝ }
     ensures { λ r. ⌜ r ≡ whitespaceOf a b c ⌝ }
 {
-    if is_whitespace_byte(a) {
-        return 1;
-    }
     if (a == 0xc2) & (b == 0x85) {
         return 2;
     }
@@ -31,50 +33,44 @@ fn whitespace_of(a: u8, b: u8, c: u8) -> usize
     0
 }
 
-fn line_end_of(a: u8, b: u8, c: u8) -> usize
+fn wide_line_end_of(a: u8, b: u8, c: u8) -> usize
+    requires { ⌜ isLineEnd a ≡ false ⌝ }
     ensures { λ r. ⌜ r ≡ lineEndOf a b c ⌝ }
 {
-    if is_line_end(a) {
-        return 1;
-    }
     if (a == 0xe2) & ((b == 0x80) & ((c == 0xa8) | (c == 0xa9))) {
         return 3;
     }
     0
 }
 
-// How many bytes the whitespace character has that starts at i, or 0. An ASCII byte is settled without its two neighbours, and above the
-// space, where ASCII has no whitespace, without its classes.
+// How many bytes the whitespace character has that starts at i, or 0. Most bytes are settled without their classes and their neighbours.
 pub fn whitespace_len(s: &[u8], i: usize) -> usize
     requires { ⌜ i ≤ length (now s) ⌝ }
     ensures { λ r. ⌜ Width (now (s .entry)) i (whitespaceLen (now (s .entry)) i) r ⌝ }
 {
     let a = byte_at(s, i);
-    if a < 0x80 {
-        if 0x20 < a {
-            return 0;
-        }
-        return whitespace_of(a, 0, 0);
+    if !may_be_whitespace(a) {
+        return 0;
     }
-    whitespace_of(a, byte_at(s, i + 1), byte_at(s, i + 2))
+    if is_whitespace_byte(a) {
+        return 1;
+    }
+    wide_whitespace_of(a, byte_at(s, i + 1), byte_at(s, i + 2))
 }
 
-// The same of a line end: ASCII has none above the carriage return, and the line feed is the commonest.
+// The same of a line end.
 pub fn line_end_len(s: &[u8], i: usize) -> usize
     requires { ⌜ i ≤ length (now s) ⌝ }
     ensures { λ r. ⌜ Width (now (s .entry)) i (lineEndLen (now (s .entry)) i) r ⌝ }
 {
     let a = byte_at(s, i);
-    if a < 0x80 {
-        if 0x0d < a {
-            return 0;
-        }
-        if a == 0x0a {
-            return 1;
-        }
-        return line_end_of(a, 0, 0);
+    if !may_end_line(a) {
+        return 0;
     }
-    line_end_of(a, byte_at(s, i + 1), byte_at(s, i + 2))
+    if is_line_end(a) {
+        return 1;
+    }
+    wide_line_end_of(a, byte_at(s, i + 1), byte_at(s, i + 2))
 }
 
 // Whether a whitespace character starts at i.

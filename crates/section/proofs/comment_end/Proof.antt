@@ -13,6 +13,7 @@ comment-end-spec =
     (tie.spec
     add-k
     (λ c κs. search ending)
+    (λ c κs. search ending)
     (λ c. search ending)
     (λ c κs. search ending)
     (λ c. search ending))

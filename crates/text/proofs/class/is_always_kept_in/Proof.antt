@@ -1,6 +1,6 @@
 -- `text::class::is_always_kept_in` meets its contract: three classes by the lent table's rule at the byte.
 use borrow.Author.Needs.{needs}
-use Rattle.text.proofs.Settled.{by-kept-classes}
+use Rattle.text.proofs.Shortcuts.{by-kept-classes}
 use Rattle.text.proofs.class.is_always_kept_in.Statement.{statement}
 use Rattle.text.proofs.class.is_always_kept_in.Tie as tie
 

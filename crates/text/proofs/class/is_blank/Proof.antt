@@ -1,7 +1,15 @@
--- `text::class::is_blank` meets its contract: space and what is above it are told, the rest is the table's.
-use Rattle.text.proofs.Settled.{settling}
+-- `text::class::is_blank` meets its contract: the quick tests tell the commonest bytes, and the table the rest.
+use Rattle.text.proofs.Shortcuts.{settling}
 use Rattle.text.proofs.class.is_blank.Statement.{statement}
 use Rattle.text.proofs.class.is_blank.Tie as tie
 
 pub is-blank-spec : {M : Type 1} → statement M
-is-blank-spec = tie.close (tie.spec (λ c. search settling) (λ c. search settling) (λ c κs. search settling) (λ c. search settling))
+is-blank-spec =
+    tie.close
+    (tie.spec
+    (λ c κs. search settling)
+    (λ c. search settling)
+    (λ c κs. search settling)
+    (λ c. search settling)
+    (λ c κs. search settling)
+    (λ c. search settling))

@@ -1,7 +1,15 @@
--- `text::class::is_line_end` meets its contract: line feed and what is above the line ends are told, the rest is the table's.
-use Rattle.text.proofs.Settled.{settling}
+-- `text::class::is_line_end` meets its contract: the quick tests tell the commonest bytes, and the table the rest.
+use Rattle.text.proofs.Shortcuts.{settling}
 use Rattle.text.proofs.class.is_line_end.Statement.{statement}
 use Rattle.text.proofs.class.is_line_end.Tie as tie
 
 pub is-line-end-spec : {M : Type 1} → statement M
-is-line-end-spec = tie.close (tie.spec (λ c. search settling) (λ c. search settling) (λ c κs. search settling) (λ c. search settling))
+is-line-end-spec =
+    tie.close
+    (tie.spec
+    (λ c κs. search settling)
+    (λ c. search settling)
+    (λ c κs. search settling)
+    (λ c. search settling)
+    (λ c κs. search settling)
+    (λ c. search settling))

@@ -1,14 +1,14 @@
--- `text::scan::block_may_end_line` meets its contract: it has found one exactly if one of the bytes looked at so far is one.
-use mathlib.Core.Path.{_≡_}
+-- `text::scan::block_may_end_line` meets its contract: where it has found none, no line end starts with a byte looked at so far.
 use Prim.Native.Nat.{_+_, _≤_, _-_}
+use Rattle.text.specs.Shortcuts.{RulesOut}
 use Rattle.text.specs.Walk.{any}
-use Rattle.text.specs.Whitespace.{byte, mayEndLine}
+use Rattle.text.specs.Whitespace.{atLineEnd}
 use Rattle.text.proofs.Blocks.{looking}
 use Rattle.text.proofs.scan.block_may_end_line.Statement.{statement}
 use Rattle.text.proofs.scan.block_may_end_line.Tie as tie
 
 abbrev Inv-loop : tie.InvT-loop
-Inv-loop s i found₀ j₀ found j = (j ≤ 16) × (found ≡ any (λ m. mayEndLine (byte s (i + m))) j)
+Inv-loop s i found₀ j₀ found j = (j ≤ 16) × RulesOut (any (λ m. atLineEnd s (i + m)) j) found
 
 abbrev μ-loop : tie.MeasureT-loop
 μ-loop s i found₀ j₀ found j = 16 - j
@@ -22,6 +22,7 @@ block-may-end-line-spec =
     (λ c. search looking)
     (λ c. search looking)
     (λ c. search looking)
+    (λ c κs. search looking)
     (λ c. search looking)
     (λ c. search looking)
     (λ c. search looking)

@@ -1,7 +1,7 @@
--- `text::scan::block_may_have_blank` meets its contract: it has found one exactly if one of the bytes looked at so far is one.
-use mathlib.Core.Path.{_≡_}
+-- `text::scan::block_may_have_blank` meets its contract: where it has found none, no byte looked at so far is a blank.
 use Prim.Native.Nat.{_+_, _≤_, _-_}
-use lib.Dec.{leb}
+use Rattle.text.specs.Class.{isBlank}
+use Rattle.text.specs.Shortcuts.{RulesOut}
 use Rattle.text.specs.Walk.{any}
 use Rattle.text.specs.Whitespace.{byte}
 use Rattle.text.proofs.Blocks.{looking}
@@ -9,7 +9,7 @@ use Rattle.text.proofs.scan.block_may_have_blank.Statement.{statement}
 use Rattle.text.proofs.scan.block_may_have_blank.Tie as tie
 
 abbrev Inv-loop : tie.InvT-loop
-Inv-loop s i found₀ j₀ found j = (j ≤ 16) × (found ≡ any (λ m. leb (byte s (i + m)) 0x20) j)
+Inv-loop s i found₀ j₀ found j = (j ≤ 16) × RulesOut (any (λ m. isBlank (byte s (i + m))) j) found
 
 abbrev μ-loop : tie.MeasureT-loop
 μ-loop s i found₀ j₀ found j = 16 - j
@@ -23,6 +23,7 @@ block-may-have-blank-spec =
     (λ c. search looking)
     (λ c. search looking)
     (λ c. search looking)
+    (λ c κs. search looking)
     (λ c. search looking)
     (λ c. search looking)
     (λ c. search looking)

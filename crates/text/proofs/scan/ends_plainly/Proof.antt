@@ -10,4 +10,5 @@ ends-plainly-spec =
     (λ c. search ending-plainly)
     (λ c. search ending-plainly)
     (λ c. search ending-plainly)
+    (λ c κs. search ending-plainly)
     (λ c. search ending-plainly))

@@ -6,8 +6,8 @@ use mathlib.Core.Logic.{⊎-elim}
 use Prim.Native.Nat.{_≤_, _-_}
 use Rattle.text.specs.Scan.{findLineEnd}
 use Rattle.text.specs.Whitespace.{atLineEnd}
-use Rattle.text.proofs.Blocks.{none-at}
 use Rattle.text.proofs.Walks.{scanning}
+use Rattle.text.proofs.Spaces.{end-may-start}
 use Rattle.text.proofs.scan.find_line_end.Statement.{statement}
 use Rattle.text.proofs.scan.find_line_end.Tie as tie
 
@@ -19,8 +19,8 @@ abbrev μ-loop : tie.MeasureT-loop
 
 none-here :
     (c : tie.Joined1 Inv-loop μ-loop)
-    → atLineEnd (c .before .before .before .before .before .args .s .now) (c .before .before .before .loop .k) ≡ false
-none-here c = ⊎-elim (λ w. sym (w .1 .ensures) ∙ w .2 .left) (λ w. none-at _ _ (w .left)) (c .if1 .came)
+    → atLineEnd (c .before .before .before .before .before .before .args .s .now) (c .before .before .before .before .loop .k) ≡ false
+none-here c = ⊎-elim (λ w. sym (w .1 .ensures) ∙ w .2 .left) (λ w. end-may-start _ _ _ (c .before .may-end-line .ensures) .none (w .left)) (c .if1 .came)
 
 pub find-line-end-spec : {M : Type 1} → statement M
 find-line-end-spec =
@@ -30,6 +30,7 @@ find-line-end-spec =
     μ-loop
     (λ c. search scanning)
     (λ c. search scanning)
+    (λ c κs. search scanning)
     (λ c κs. search scanning)
     (λ c. search scanning)
     (λ c. search scanning)

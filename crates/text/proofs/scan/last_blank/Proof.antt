@@ -27,6 +27,4 @@ last-blank-spec =
     (λ c. search scanning-blanks)
     (λ c. search scanning-blanks)
     (λ c. search scanning-blanks)
-    (λ c. search scanning-blanks)
-    (λ c. search scanning-blanks)
     (λ c. search scanning-blanks))

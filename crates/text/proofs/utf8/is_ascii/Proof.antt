@@ -1,8 +1,8 @@
--- `text::utf8::is_ascii` meets its contract: it has found a byte above exactly if one of the bytes looked at so far is one.
-use mathlib.Core.Path.{_≡_}
+-- `text::utf8::is_ascii` meets its contract: where it has found none, every byte looked at so far is a character by itself.
 use Prim.Native.Nat.{_≤_, _-_}
 use lib.Dec.{leb}
 use lib.ListN.{length}
+use Rattle.text.specs.Shortcuts.{RulesOut}
 use Rattle.text.specs.Walk.{any}
 use Rattle.text.specs.Whitespace.{byte}
 use Rattle.text.proofs.Blocks.{looking-for-ascii}
@@ -10,7 +10,7 @@ use Rattle.text.proofs.utf8.is_ascii.Statement.{statement}
 use Rattle.text.proofs.utf8.is_ascii.Tie as tie
 
 abbrev Inv-loop : tie.InvT-loop
-Inv-loop s above₀ k₀ above k = (k ≤ length s) × (above ≡ any (λ m. leb 0x80 (byte s m)) k)
+Inv-loop s above₀ k₀ above k = (k ≤ length s) × RulesOut (any (λ m. leb 0x80 (byte s m)) k) above
 
 abbrev μ-loop : tie.MeasureT-loop
 μ-loop s above₀ k₀ above k = length s - k

@@ -8,7 +8,7 @@ line-end-len-spec =
     tie.close
     (tie.spec
     (λ c κs. search measuring)
-    (λ c. search measuring)
+    (λ c κs. search measuring)
     (λ c. search measuring)
     (λ c κs. search measuring)
     (λ c. search measuring)

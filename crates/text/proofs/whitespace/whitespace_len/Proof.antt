@@ -8,6 +8,7 @@ whitespace-len-spec =
     tie.close
     (tie.spec
     (λ c κs. search measuring)
+    (λ c κs. search measuring)
     (λ c. search measuring)
     (λ c κs. search measuring)
     (λ c. search measuring)
