@@ -7,7 +7,7 @@ use mathlib.Core.List.{List, [], _∷_, _++_}
 use native.Mathlib.Omega.{arith}
 use borrow.Author.Tests.{lt-ltb, ltb-true}
 use lib.Dec.{eqb, ltb}
-use lib.ListN.{length, take, drop}
+use lib.ListN.{take, drop}
 use Rattle.text.specs.Class.{within}
 use Rattle.text.specs.Whitespace.{byte}
 use Rattle.text.specs.Range.{part}
@@ -15,7 +15,7 @@ use Rattle.text.specs.Unicode.{isScalar, encode, encodeAll, Scalars}
 use Rattle.text.specs.Utf8.{utf8}
 use Rattle.text.proofs.Tests.{by-test, and-left, and-right, or-cases, range-of}
 use Rattle.text.proofs.Decoding.{utf8-judges}
-use Rattle.escape.specs.Escape.{posixEscapes, backspace, escapeFrom, escaped, pieceEnd, piece, pieces, rewrittenEnd, unescaped}
+use Rattle.escape.specs.Escape.{Escape, escapes, posixEscapes, backspace, escapeFrom, escaped, rewrittenEnd, replaced, unescaped}
 use Rattle.sheet_check.specs.SheetCheck.{all}
 use Rattle.accepted.specs.Accepted.{isByte}
 
@@ -95,24 +95,21 @@ module _ (s : List ℕ) (flags c : ℕ) (h : all isByte s ≡ true) where
   abbrev AllBytes : List ℕ → Type 0
   AllBytes l = all isByte l ≡ true
 
-  escaped-bytes : (q e : ℕ) → AllBytes (escaped s flags c q e)
+  escaped-bytes : (e : Escape) → AllBytes (escaped s flags c e)
   unfolding escaped backspace all
-  escaped-bytes q e =
-      by-test AllBytes (eqb (byte s q) 0x62) (backspace flags) (part s (escapeFrom s c q) e)
+  escaped-bytes e =
+      by-test AllBytes (eqb (byte s (e .start)) 0x62) (backspace flags) (part s (escapeFrom s c e) (e .end))
       (λ _. by-test AllBytes (posixEscapes flags) (0x5c ∷ 0x78 ∷ 0x30 ∷ 0x38 ∷ []) (0x5c ∷ 0x62 ∷ []) (λ _. refl) (λ _. refl))
-      (λ _. part-bytes s (escapeFrom s c q) e h)
+      (λ _. part-bytes s (escapeFrom s c e) (e .end) h)
 
-  piece-bytes : (p e : ℕ) → AllBytes (piece s flags c p e)
-  unfolding piece
-  piece-bytes p e = by-test AllBytes (eqb (byte s p) 0x5c) (escaped s flags c (p + 1) e) (part s p e) (λ _. escaped-bytes (p + 1) e) (λ _. part-bytes s p e h)
-
-  pieces-bytes : (n z p : ℕ) → AllBytes (pieces n s flags c z p)
-  unfolding pieces all
-  pieces-bytes zero z p = refl
-  pieces-bytes (suc n) z p =
-      let e = pieceEnd s c z p in
-      by-test AllBytes (ltb p z) (piece s flags c p e ++ pieces n s flags c z e) [] (λ _. all-append isByte (piece s flags c p e) (pieces n s flags c z e) (piece-bytes p e) (pieces-bytes n z e)) (λ _. refl)
+  replaced-bytes : (p z : ℕ) (es : List Escape) → AllBytes (replaced (escaped s flags c) s p z es)
+  unfolding replaced
+  replaced-bytes p z [] = part-bytes s p z h
+  replaced-bytes p z (e ∷ es) =
+      let rest = replaced (escaped s flags c) s (e .end) z es in
+      all-append isByte (part s p (e .backslash)) (escaped s flags c e ++ rest) (part-bytes s p (e .backslash) h)
+      (all-append isByte (escaped s flags c e) rest (escaped-bytes e) (replaced-bytes (e .end) z es))
 
   pub unescaped-bytes : (i : ℕ) → all isByte (unescaped s flags i c) ≡ true
   unfolding unescaped
-  unescaped-bytes i = pieces-bytes (length s) (rewrittenEnd s i c) i
+  unescaped-bytes i = replaced-bytes i (rewrittenEnd s i c) (escapes s i c)

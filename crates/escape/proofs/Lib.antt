@@ -1,5 +1,6 @@
 pub mod Kept
 pub mod Backslashes
+pub mod Escapes
 pub mod Passed
 pub mod Ends
 pub mod Pieces

@@ -6,7 +6,8 @@ ghost use Rattle.text.specs.Class.{ClassTable};
 ghost use Rattle.text.specs.Walk.{Between};
 ghost use Rattle.area.specs.Areas.{PushedText};
 ghost use Rattle.area.specs.Contents.{Held, Grows, append, textFormat};
-ghost use Rattle.escape.specs.Escape.{isCodeLetter, isCode, isKeptBy, isKept, charEnd, pastEscape, isRewritten, lastWhole, rewrittenEnd, backspace, escaped, pieceEnd, piece, unescaped};
+ghost use Rattle.escape.specs.Escape.{charEnd, isCodeLetter, isCode, isKeptBy, isKept, backspace, escaped, isRewritten, lastWhole, rewrittenEnd, unescaped};
+ghost use Rattle.escape.specs.Pieces.{pastEscape, escapeOf, pieceEnd, piece};
 use area::Appended;
 use area::push_text;
 use text::class::CLASS;
@@ -175,7 +176,7 @@ fn push_escape(
 ) -> Appended
     requires { ⌜ ClassTable (now classes) ⌝ }
     requires { ⌜ (0 < q) × (q ≤ e) × (e ≤ c) × (c ≤ length (now src)) ⌝ }
-    ensures { λ r. ⌜ PushedText (escaped (now (src .entry)) flags c q e) (now (area .entry)) n r (now (area .exit)) ⌝ }
+    ensures { λ r. ⌜ PushedText (escaped (now (src .entry)) flags c (escapeOf q e)) (now (area .entry)) n r (now (area .exit)) ⌝ }
 {
     if byte_at(src, q) == b'b' {
         return push_backspace(flags, area, n);

@@ -1,5 +1,5 @@
 -- `escape::piece_end` meets its contract: to behind the escape, or to the next backslash.
-use Rattle.escape.proofs.Ends.{cutting}
+use Rattle.escape.proofs.Pieces.{cutting}
 use Rattle.escape.proofs.piece_end.Statement.{statement}
 use Rattle.escape.proofs.piece_end.Tie as tie
 
