@@ -25,7 +25,7 @@ use Rattle.fault.specs.declared.Progress.the-variants as Progress
 use Rattle.fault.specs.Step.{Out, go, bad, full, next, onto, loop, Does, progress}
 use Rattle.fault.specs.Faults.{UnknownDeclaration, PrematureEnd}
 use Rattle.fault.proofs.Steps.{Loops, loops-stop, loops-next, loops-bad, loops-full, going-start, does-go, does-bad, does-full, was-go, was-bad, was-full, bad-goes, full-goes, then-go, then-bad, then-full}
-use Rattle.section.specs.Section.{found, percents, toDeclaration, inSection}
+use Rattle.section.specs.Section.{percents, toDeclaration, inSection}
 use Rattle.section.proofs.Lines.{ahead-within, in-section-inside, declaration-starts, line-has-byte}
 use Rattle.declarations.specs.declared.Declaration.{Declaration}
 use Rattle.declarations.specs.declared.Declaration.the-variants.{States, Expecting, Unknown}
@@ -35,7 +35,8 @@ use Rattle.declarations.specs.declared.NameProgress.the-variants as Name
 use Rattle.declarations.specs.declared.DeclarationCounts.{DeclarationCounts}
 use Rattle.declarations.specs.declared.DeclarationProgress.{DeclarationProgress}
 use Rattle.declarations.specs.declared.DeclarationProgress.the-variants.{Go, Bad, Full}
-use Rattle.declarations.specs.Declarations.{Names, names, Declared, Caps, withNames, withExpected, thenAt, stateNames, expectedNames, declares, expectMissing, statesFrom, declarationBy, declarationTo, declarationOf, declareAs, declaration, nextDeclaration, endDeclarations, declarations}
+use Rattle.declarations.specs.Declarations.{range, trimmed, wordEnd, firstWord, restOf, isInclusive, isExclusive, isExpecting, statesOf, declarationOf}
+use Rattle.declarations.specs.Declarations.{Names, names, nameCaps, Declared, Caps, withNames, withExpected, thenAt, stateNames, expectedNames, declareAs, declaration, nextDeclaration, endDeclarations, declarations}
 use Rattle.declarations.specs.Answers.{HeldNames, namesIn, nameProgress, HeldDeclared, declaredIn, declarationProgress, capsOf}
 
 -- ---- what a line says ends within the line
@@ -45,31 +46,31 @@ Within e (States x a t) = t ≤ e
 Within e (Expecting w) = w ≤ e
 Within e Unknown = Unit {0}
 
-states-within : (s : List ℕ) (x e a : ℕ) → a ≤ e → Within e (statesFrom s x e a)
-unfolding statesFrom trimEnd
-states-within s x e a h = by-test (Within e) (eqb a e) Unknown _ (λ _. tt) (λ _. first-to _ a e h)
-
 start-within : (s : List ℕ) (r e : ℕ) → trimStart s r e ≤ e
 unfolding trimStart
 start-within s r e = omega arith
 
-by-within : (s : List ℕ) (i e w r : ℕ) → r ≤ e → Within e (declarationBy s i e w r)
-unfolding declarationBy
-by-within s i e w r h =
-    by-test (Within e) (declares 0x73 0x53 s i w) _ _ (λ _. states-within s 0 e (trimStart s r e) (start-within s r e))
-    (λ _. by-test (Within e) (declares 0x78 0x58 s i w) _ _ (λ _. states-within s 1 e (trimStart s r e) (start-within s r e))
-    (λ _. by-test (Within e) (found (lookaheadIs s expectMissing i)) (Expecting r) Unknown (λ _. h) (λ _. tt)))
+states-within : (s : List ℕ) (x r e : ℕ) → Within e (statesOf x (trimmed s (range r e)))
+unfolding statesOf trimmed trimEnd
+states-within s x r e =
+    let a = trimStart s r e in
+    by-test (Within e) (eqb a (trimEnd s a e)) Unknown _ (λ _. tt) (λ _. first-to _ a e (start-within s r e))
 
-of-within : (s : List ℕ) (i e : ℕ) → i ≤ e → Within e (declarationOf s i e)
-unfolding declarationOf declarationTo trimEnd
+rest-within : (s : List ℕ) (i e : ℕ) → i ≤ e → restOf s (range i e) .from ≤ e
+unfolding restOf wordEnd
+rest-within s i e h =
+    by-test (λ r. r ≤ e) (eqb (findWhitespace s i e) (trimEnd s i e)) e (findWhitespace s i e) (λ _. le-refl e) (λ _. first-to (atWhitespace s) i e h)
+
+of-within : (s : List ℕ) (i e : ℕ) → i ≤ e → Within e (declarationOf s (range i e))
+unfolding declarationOf restOf
 of-within s i e h =
-    let t = trimEnd s i e in
-    let t-in : t ≤ e = first-to _ i e h in
-    let w-in : findWhitespace s i t ≤ t = first-to (atWhitespace s) i t (first-from _ i e) in
-    by-within s i e (findWhitespace s i t) (cond (eqb (findWhitespace s i t) t) e (findWhitespace s i t))
-    (by-test (λ r. r ≤ e) (eqb (findWhitespace s i t) t) e (findWhitespace s i t) (λ _. le-refl e) (λ _. omega arith))
+    let l = range i e in
+    let r = restOf s l .from in
+    by-test (Within e) (isInclusive s (firstWord s l)) _ _ (λ _. states-within s 0 r e)
+    (λ _. by-test (Within e) (isExclusive s (firstWord s l)) _ _ (λ _. states-within s 1 r e)
+    (λ _. by-test (Within e) (isExpecting s (firstWord s l)) (Expecting r) Unknown (λ _. rest-within s i e h) (λ _. tt)))
 
-module _ (s : List ℕ) (i e : ℕ) (d : Declaration) (is : d ≡ declarationOf s i e) (h : i ≤ e) where
+module _ (s : List ℕ) (i e : ℕ) (d : Declaration) (is : d ≡ declarationOf s (range i e)) (h : i ≤ e) where
   pub names-within : (x a t : ℕ) → d ≡ States x a t → t ≤ e
   names-within x a t q = subst (Within e) (sym is ∙ q) (of-within s i e h)
 
@@ -78,7 +79,7 @@ module _ (s : List ℕ) (i e : ℕ) (d : Declaration) (is : d ≡ declarationOf 
 
 -- ---- a declaration
 
-module _ (s : List ℕ) (i e : ℕ) (l1 l5 l6 : List ℕ) (q : DeclarationCounts) (h : HeldDeclared l1 l5 l6 q) (d : Declaration) (is : d ≡ declarationOf s i e) where
+module _ (s : List ℕ) (i e : ℕ) (l1 l5 l6 : List ℕ) (q : DeclarationCounts) (h : HeldDeclared l1 l5 l6 q) (d : Declaration) (is : d ≡ declarationOf s (range i e)) where
   abbrev caps : Caps
   caps = capsOf (length l1) (length l5) (length l6)
 
@@ -88,16 +89,16 @@ module _ (s : List ℕ) (i e : ℕ) (l1 l5 l6 : List ℕ) (q : DeclarationCounts
   abbrev Done : List ℕ → List ℕ → List ℕ → Out DeclarationCounts → Type 0
   Done v1 v5 v6 o = Does (HeldDeclared v1 v5 v6) (declaration s caps i e) before (declaredIn v1 v5 v6) o
 
-  step : (y : Declaration) → d ≡ y → declaration s caps i e before ≡ declareAs s caps i e y before
+  step : (y : Declaration) → d ≡ y → declaration s caps i e before ≡ declareAs s caps (range i e) y before
   unfolding declaration
-  step y z = ap (λ (x : Declaration). declareAs s caps i e x before) (sym is ∙ z)
+  step y z = ap (λ (x : Declaration). declareAs s caps (range i e) x before) (sym is ∙ z)
 
   pub line-unknown : d ≡ Unknown → Done l1 l5 l6 (bad UnknownDeclaration i q)
   unfolding declareAs
   line-unknown z = does-bad (step Unknown z) h
 
   module _ (x a t : ℕ) (z : d ≡ States x a t) {v1 v6 : List ℕ} (r : NameProgress)
-      (n : Does (HeldNames v1 v6) (stateNames s (length l1) (length l6) x t a) (namesIn l1 l6 (record { states = q .states; faults = q .faults })) (namesIn v1 v6) (nameProgress r)) where
+      (n : Does (HeldNames v1 v6) (stateNames s (nameCaps (length l1) (length l6)) x (range a t)) (namesIn l1 l6 (record { states = q .states; faults = q .faults })) (namesIn v1 v6) (nameProgress r)) where
     of-names : Out Names → Out Declared
     of-names o = thenAt e (onto (withNames before) o)
 
@@ -117,7 +118,7 @@ module _ (s : List ℕ) (i e : ℕ) (l1 l5 l6 : List ℕ) (q : DeclarationCounts
     line-states-full k y = does-full (step (States x a t) z ∙ ap of-names (was-full n (ap nameProgress y)))
 
   module _ (w : ℕ) (z : d ≡ Expecting w) {v5 : List ℕ} (r : Progress)
-      (n : Does (Held expectedFormat v5) (expectedNames s (length l5) i e w) (contents expectedFormat l5 (q .expected)) (contents expectedFormat v5) (progress r)) where
+      (n : Does (Held expectedFormat v5) (expectedNames s (length l5) (range i e) w) (contents expectedFormat l5 (q .expected)) (contents expectedFormat v5) (progress r)) where
     of-expected : Out (List Expected) → Out Declared
     of-expected o = thenAt e (onto (withExpected before) o)
 
@@ -136,7 +137,7 @@ module _ (s : List ℕ) (i e : ℕ) (l1 l5 l6 : List ℕ) (q : DeclarationCounts
     unfolding declareAs of-expected
     line-expected-full k y = does-full (step (Expecting w) z ∙ ap of-expected (was-full n (ap progress y)))
 
-pub names-in-source : (s : List ℕ) (i e : ℕ) (d : Declaration) → d ≡ declarationOf s i e → i ≤ e → e ≤ length s → (x a t : ℕ) → d ≡ States x a t → t ≤ length s
+pub names-in-source : (s : List ℕ) (i e : ℕ) (d : Declaration) → d ≡ declarationOf s (range i e) → i ≤ e → e ≤ length s → (x a t : ℕ) → d ≡ States x a t → t ≤ length s
 names-in-source s i e d is h l x a t q = omega (arith, names-within s i e d is h x a t q)
 
 pub ruleset lining-up = (needs, names-in-source, expected-within, line-unknown, line-states, line-states-bad, line-states-full, line-expected, line-expected-bad, line-expected-full)
@@ -146,16 +147,16 @@ pub ruleset lining-up = (needs, names-in-source, expected-within, line-unknown, 
 -- a declaration goes on at the end of its line
 declared-at : (s : List ℕ) (k : Caps) (i e : ℕ) (d : Declared) {j : ℕ} {t : Declared} → declaration s k i e d ≡ go j t → e ≡ j
 unfolding declaration declareAs
-declared-at s k i e d {j} {t} z = by (declarationOf s i e) z
+declared-at s k i e d {j} {t} z = by (declarationOf s (range i e)) z
   where
     at-end : (o : Out Declared) → thenAt e o ≡ go j t → e ≡ j
     at-end (go m u) y = cc
     at-end (bad kind at u) y = absurd (bad-goes y)
     at-end (full n) y = absurd (full-goes y)
 
-    by : (x : Declaration) → declareAs s k i e x d ≡ go j t → e ≡ j
-    by (States x a b) y = at-end (onto (withNames d) (stateNames s (k .c1) (k .c6) x b a (names (d .states) (d .faults)))) y
-    by (Expecting w) y = at-end (onto (withExpected d) (expectedNames s (k .c5) i e w (d .expected))) y
+    by : (x : Declaration) → declareAs s k (range i e) x d ≡ go j t → e ≡ j
+    by (States x a b) y = at-end (onto (withNames d) (stateNames s (nameCaps (k .c1) (k .c6)) x (range a b) (names (d .states) (d .faults)))) y
+    by (Expecting w) y = at-end (onto (withExpected d) (expectedNames s (k .c5) (range i e) w (d .expected))) y
     by Unknown y = absurd (bad-goes y)
 
 abbrev sizes : List ℕ → List ℕ → List ℕ → Caps

@@ -1,2 +1,3 @@
 pub mod Declarations
+pub mod Stages
 pub mod Answers

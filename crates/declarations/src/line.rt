@@ -3,7 +3,8 @@ ghost use mathlib.Core.Path.{_≡_};
 ghost use Prim.Native.Nat.{_+_, _≤_};
 ghost use lib.ListN.{length};
 ghost use Rattle.names.specs.Names.{allBytes};
-ghost use Rattle.declarations.specs.Declarations.{isAlphanumeric, declares, statesFrom, declarationBy, declarationOf};
+ghost use Rattle.declarations.specs.Declarations.{range, trimmed, isAlphanumeric, declares, statesOf, declarationOf};
+ghost use Rattle.declarations.specs.Stages.{declarationBy};
 use crate::Declaration;
 use section::is_found;
 use text::class::is_digit;
@@ -37,7 +38,7 @@ fn all_alphanumeric(src: &[u8], a: usize, e: usize) -> bool
 // Whether the word from i to w is `%`, one of two letters, and letters or digits.
 fn declares_with(src: &[u8], x: u8, y: u8, i: usize, w: usize) -> bool
     requires { ⌜ (i ≤ w) × (w ≤ length (now src)) ⌝ }
-    ensures { λ r. ⌜ r ≡ declares x y (now (src .entry)) i w ⌝ }
+    ensures { λ r. ⌜ r ≡ declares x y (now (src .entry)) (range i w) ⌝ }
 {
     if w - i < 2 {
         return false;
@@ -49,25 +50,29 @@ fn declares_with(src: &[u8], x: u8, y: u8, i: usize, w: usize) -> bool
     false
 }
 
-fn states_from(src: &[u8], exclusive: u16, e: usize, a: usize) -> Declaration
-    requires { ⌜ (a ≤ e) × (e ≤ length (now src)) ⌝ }
-    ensures { λ r. ⌜ r ≡ statesFrom (now (src .entry)) exclusive e a ⌝ }
+// The names from r to e, trimmed. Without names it is no declaration of states.
+fn states_from(src: &[u8], exclusive: u16, r: usize, e: usize) -> Declaration
+    requires { ⌜ (r ≤ e) × (e ≤ length (now src)) ⌝ }
+    ensures { λ d. ⌜ d ≡ statesOf exclusive (trimmed (now (src .entry)) (range r e)) ⌝ }
 {
-    if a == e {
+    let a = trim_start(src, r, e);
+    let t = trim_end(src, a, e);
+    if a == t {
         return Declaration::Unknown;
     }
-    Declaration::States(exclusive, a, trim_end(src, a, e))
+    Declaration::States(exclusive, a, t)
 }
 
+// The line whose first word stands from i to w, and whose rest from r to e.
 fn declaration_by(src: &[u8], i: usize, e: usize, w: usize, r: usize) -> Declaration
     requires { ⌜ ((i ≤ w) × (w ≤ e)) × ((r ≤ e) × (e ≤ length (now src))) ⌝ }
-    ensures { λ d. ⌜ d ≡ declarationBy (now (src .entry)) i e w r ⌝ }
+    ensures { λ d. ⌜ d ≡ declarationBy (now (src .entry)) (range i w) (range r e) ⌝ }
 {
     if declares_with(src, b's', b'S', i, w) {
-        return states_from(src, 0, e, trim_start(src, r, e));
+        return states_from(src, 0, r, e);
     }
     if declares_with(src, b'x', b'X', i, w) {
-        return states_from(src, 1, e, trim_start(src, r, e));
+        return states_from(src, 1, r, e);
     }
     if is_found(lookahead_is(src, b"%expect-missing", i)) {
         return Declaration::Expecting(r);
@@ -75,13 +80,13 @@ fn declaration_by(src: &[u8], i: usize, e: usize, w: usize, r: usize) -> Declara
     Declaration::Unknown
 }
 
-// The line from i to e. One that is only the word once trimmed has nothing behind it.
+// The line from i to e. One that is only the word once trimmed has no rest.
 pub fn declaration_of(src: &[u8], i: usize, e: usize) -> Declaration
     requires { ⌜ (i ≤ e) × (e ≤ length (now src)) ⌝ }
-    ensures { λ d. ⌜ d ≡ declarationOf (now (src .entry)) i e ⌝ }
+    ensures { λ d. ⌜ d ≡ declarationOf (now (src .entry)) (range i e) ⌝ }
 {
     let t = trim_end(src, i, e);
-    let w = find_whitespace(src, i, t);
+    let w = find_whitespace(src, i, e);
     if w == t {
         return declaration_by(src, i, e, w, e);
     }

@@ -2,9 +2,10 @@
 ghost use mathlib.Core.Path.{_≡_};
 ghost use Prim.Native.Nat.{_+_, _≤_, _<_};
 ghost use lib.ListN.{length};
+ghost use Rattle.text.specs.Scan.{findAsciiWhitespace};
 ghost use Rattle.area.specs.Contents.{expectedFormat, contents, Held};
 ghost use Rattle.fault.specs.Step.{Does, progress};
-ghost use Rattle.declarations.specs.Declarations.{isQuoted, nextExpected, expectedNames};
+ghost use Rattle.declarations.specs.Declarations.{range, isQuoted, declareExpected, expectedNames};
 use area::Appended;
 use area::EXPECTED_AREA;
 use area::Expected;
@@ -16,7 +17,7 @@ use text::scan::skip_ascii_whitespace;
 
 fn is_quoted(src: &[u8], a: usize, e: usize) -> bool
     requires { ⌜ (a ≤ e) × (e ≤ length (now src)) ⌝ }
-    ensures { λ r. ⌜ r ≡ isQuoted (now (src .entry)) a e ⌝ }
+    ensures { λ r. ⌜ r ≡ isQuoted (now (src .entry)) (range a e) ⌝ }
 {
     if e - a < 2 {
         return false;
@@ -28,7 +29,10 @@ fn is_quoted(src: &[u8], a: usize, e: usize) -> bool
 fn next_expected(src: &[u8], i: u16, e: usize, a: usize, area: &mut [u8], n: u16) -> Progress
     requires { ⌜ ((a < e) × (e ≤ length (now src))) × (length (now src) ≤ 65535) ⌝ }
     requires { ⌜ Held expectedFormat (now area) n ⌝ }
-    ensures { λ r. ⌜ Does (Held expectedFormat (now (area .exit))) (nextExpected (now (src .entry)) (length (now (area .entry))) i e a) (contents expectedFormat (now (area .entry)) n) (contents expectedFormat (now (area .exit))) (progress r) ⌝ }
+    ensures { λ r. ⌜ Does (Held expectedFormat (now (area .exit)))
+        (declareExpected (now (src .entry)) (length (now (area .entry))) (range i e) (range a (findAsciiWhitespace (now (src .entry)) a e)))
+        (contents expectedFormat (now (area .entry)) n)
+        (contents expectedFormat (now (area .exit))) (progress r) ⌝ }
 {
     let end = find_ascii_whitespace(src, a, e);
     if is_quoted(src, a, end) {
@@ -48,7 +52,10 @@ fn next_expected(src: &[u8], i: u16, e: usize, a: usize, area: &mut [u8], n: u16
 pub fn expected_names(src: &[u8], i: u16, e: usize, w: usize, area: &mut [u8], n: u16) -> Progress
     requires { ⌜ ((w ≤ e) × (e ≤ length (now src))) × (length (now src) ≤ 65535) ⌝ }
     requires { ⌜ Held expectedFormat (now area) n ⌝ }
-    ensures { λ r. ⌜ Does (Held expectedFormat (now (area .exit))) (expectedNames (now (src .entry)) (length (now (area .entry))) i e w) (contents expectedFormat (now (area .entry)) n) (contents expectedFormat (now (area .exit))) (progress r) ⌝ }
+    ensures { λ r. ⌜ Does (Held expectedFormat (now (area .exit)))
+        (expectedNames (now (src .entry)) (length (now (area .entry))) (range i e) w)
+        (contents expectedFormat (now (area .entry)) n)
+        (contents expectedFormat (now (area .exit))) (progress r) ⌝ }
 {
     let mut a = skip_ascii_whitespace(src, w, e);
     let mut count = n;

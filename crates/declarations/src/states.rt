@@ -4,7 +4,8 @@ ghost use Prim.Native.Nat.{_+_, _≤_, _<_};
 ghost use lib.ListN.{length};
 ghost use Rattle.area.specs.Contents.{stateFormat, contents, Held};
 ghost use Rattle.fault.specs.Step.{Does};
-ghost use Rattle.declarations.specs.Declarations.{namingOf, nameTo, stateNames};
+ghost use Rattle.declarations.specs.Declarations.{range, nameCaps, state, declareState, stateNames};
+ghost use Rattle.declarations.specs.Stages.{namingOf};
 ghost use Rattle.declarations.specs.Answers.{HeldNames, namesIn, nameProgress};
 use crate::NameCounts;
 use crate::NameProgress;
@@ -54,7 +55,10 @@ fn declare_state(
 ) -> NameProgress
     requires { ⌜ ((a ≤ e) × (e ≤ length (now src))) × (length (now src) ≤ 65535) ⌝ }
     requires { ⌜ HeldNames (now area1) (now area6) q ⌝ }
-    ensures { λ r. ⌜ Does (HeldNames (now (area1 .exit)) (now (area6 .exit))) (nameTo (now (src .entry)) (length (now (area1 .entry))) (length (now (area6 .entry))) exclusive a e) (namesIn (now (area1 .entry)) (now (area6 .entry)) q) (namesIn (now (area1 .exit)) (now (area6 .exit))) (nameProgress r) ⌝ }
+    ensures { λ r. ⌜ Does (HeldNames (now (area1 .exit)) (now (area6 .exit)))
+        (declareState (now (src .entry)) (nameCaps (length (now (area1 .entry))) (length (now (area6 .entry)))) (state a e exclusive))
+        (namesIn (now (area1 .entry)) (now (area6 .entry)) q)
+        (namesIn (now (area1 .exit)) (now (area6 .exit))) (nameProgress r) ⌝ }
 {
     let next = e + whitespace_len(src, e);
     let states = q.states;
@@ -115,7 +119,10 @@ pub fn declare_start_states(
 ) -> NameProgress
     requires { ⌜ (t ≤ length (now src)) × (length (now src) ≤ 65535) ⌝ }
     requires { ⌜ HeldNames (now area1) (now area6) q ⌝ }
-    ensures { λ r. ⌜ Does (HeldNames (now (area1 .exit)) (now (area6 .exit))) (stateNames (now (src .entry)) (length (now (area1 .entry))) (length (now (area6 .entry))) exclusive t a) (namesIn (now (area1 .entry)) (now (area6 .entry)) q) (namesIn (now (area1 .exit)) (now (area6 .exit))) (nameProgress r) ⌝ }
+    ensures { λ r. ⌜ Does (HeldNames (now (area1 .exit)) (now (area6 .exit)))
+        (stateNames (now (src .entry)) (nameCaps (length (now (area1 .entry))) (length (now (area6 .entry)))) exclusive (range a t))
+        (namesIn (now (area1 .entry)) (now (area6 .entry)) q)
+        (namesIn (now (area1 .exit)) (now (area6 .exit))) (nameProgress r) ⌝ }
 {
     let mut at = a;
     let mut counts = q;

@@ -14,14 +14,14 @@ use Rattle.fault.specs.Faults.{nextNumber, addFault, startsFault, isFault, find
 use Rattle.fault.specs.Step.{loop}
 use Rattle.section.specs.Section.{comments, isComment, pastComment, pastLine, toDeclaration, pastRuleLine, toRule, inSection, hasRoutines}
 use Rattle.names.specs.Names.{allBytes, isNameByte, isStateName, isState, findState, hasName, findRule}
-use Rattle.escape.specs.Escape.{nextEscape, escapesFrom, escapes, isCodeLetter, isCode, isKeptBy, isKept, posixEscapes, backspace, escapeFrom, escaped, anyEscape, isRewritten, lastEnd, lastWhole, dropLone, rewrittenEnd, replaced, unescaped}
-use Rattle.declarations.specs.Declarations.{namingAt, namingOf, declareState, nameTo, nextName, stateNames, isQuoted, expectedTo, nextExpected, expectedNames, isAlphanumeric, declares, statesFrom, declarationBy, declarationTo, declarationOf, declareAs, declaration, nextDeclaration, endDeclarations, declarations}
-use Rattle.rules.specs.Heading.{operationOf, targetAt, targetBy, targetTo, targetOf, isNoName, isName, labelBy, labelOf, headingAt, headingBy, headingAfter, headingFrom, headingOf, bodyTo, bodyOf}
+use Rattle.escape.specs.Escape.{posixEscapes, isCodeLetter, isCode, isKeptBy, isKept, isRewritten, lastWhole, dropLone, rewrittenEnd, backspace, escapeFrom, escaped, unescaped, nextEscape, escapesFrom, escapes, anyEscape, lastEnd, replaced}
+use Rattle.declarations.specs.Declarations.{declareState, stateNames, isQuoted, expectedNames, isAlphanumeric, declares, declarationOf, declareAs, declaration, nextDeclaration, endDeclarations, declarations, trimmed, wordEnd, firstWord, restOf, isInclusive, isExclusive, isExpecting, statesOf, behindName, addState, repeatState, stateNamed, declareExpected}
+use Rattle.rules.specs.Heading.{operationOf, targetOf, isNoName, isName, labelBy, labelOf, headingOf, bodyOf, hasTarget, targetEnd, targetOperation, targetName, targetId, equalQuotes, ruleNamed, headingBehind, hasList, listEnd}
 use Rattle.rules.specs.Rules.{entryAt, entryFrom, nextEntry, entries, refuses, recordRule, sourceRule, listedRule, rewrittenRule, ruleBody, pattern, ruleAs, rule, line, nextRule, rules, routines, rulesSection}
 use Rattle.parse.specs.Parse.{closed, judge, rulesFrom, opening, file, outcome}
 use Rattle.file_table.specs.Table.{table, Right}
 
 -- S9: every row of the table is right
 pub files-right : Right table
-unfolding isLineEnd isBlank isOtherWhitespace isLetter isDigit isHexDigit isMetaCharacter isEscapeLetter isWhitespaceByte isAsciiWhitespace isAlwaysKept part sameBytes sameRange lookaheadIs trimStart trimEnd backslashesBehind backslashesBefore keepEscaped trimEndUnescaped charOf charLen utf8 firstOf first lastOf last repeat skip whitespaceOf lineEndOf whitespaceLen lineEndLen room insertAt append stateOf ruleOf expectedOf faultOf nextNumber addFault startsFault isFault findFault faultEnd addSpan addPair repeatAt addRepeat loop comments isComment pastComment pastLine toDeclaration pastRuleLine toRule inSection hasRoutines allBytes isNameByte isStateName isState findState hasName findRule nextEscape escapesFrom escapes isCodeLetter isCode isKeptBy isKept posixEscapes backspace escapeFrom escaped anyEscape isRewritten lastEnd lastWhole dropLone rewrittenEnd replaced unescaped namingAt namingOf declareState nameTo nextName stateNames isQuoted expectedTo nextExpected expectedNames isAlphanumeric declares statesFrom declarationBy declarationTo declarationOf declareAs declaration nextDeclaration endDeclarations declarations operationOf targetAt targetBy targetTo targetOf isNoName isName labelBy labelOf headingAt headingBy headingAfter headingFrom headingOf bodyTo bodyOf entryAt entryFrom nextEntry entries refuses recordRule sourceRule listedRule rewrittenRule ruleBody pattern ruleAs rule line nextRule rules routines rulesSection closed judge rulesFrom opening file outcome
+unfolding isLineEnd isBlank isOtherWhitespace isLetter isDigit isHexDigit isMetaCharacter isEscapeLetter isWhitespaceByte isAsciiWhitespace isAlwaysKept part sameBytes sameRange lookaheadIs trimStart trimEnd backslashesBehind backslashesBefore keepEscaped trimEndUnescaped charOf charLen utf8 firstOf first lastOf last repeat skip whitespaceOf lineEndOf whitespaceLen lineEndLen room insertAt append stateOf ruleOf expectedOf faultOf nextNumber addFault startsFault isFault findFault faultEnd addSpan addPair repeatAt addRepeat loop comments isComment pastComment pastLine toDeclaration pastRuleLine toRule inSection hasRoutines allBytes isNameByte isStateName isState findState hasName findRule posixEscapes isCodeLetter isCode isKeptBy isKept isRewritten lastWhole dropLone rewrittenEnd backspace escapeFrom escaped unescaped declareState stateNames isQuoted expectedNames isAlphanumeric declares declarationOf declareAs declaration nextDeclaration endDeclarations declarations operationOf targetOf isNoName isName labelBy labelOf headingOf bodyOf entryAt entryFrom nextEntry entries refuses recordRule sourceRule listedRule rewrittenRule ruleBody pattern ruleAs rule line nextRule rules routines rulesSection closed judge rulesFrom opening file outcome nextEscape escapesFrom escapes anyEscape lastEnd replaced trimmed wordEnd firstWord restOf isInclusive isExclusive isExpecting statesOf behindName addState repeatState stateNamed declareExpected hasTarget targetEnd targetOperation targetName targetId equalQuotes ruleNamed headingBehind hasList listEnd
 files-right = record { becomes = refl; texts = refl }

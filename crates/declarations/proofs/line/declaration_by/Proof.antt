@@ -9,9 +9,7 @@ declaration-by-spec =
     (tie.spec
     (λ c κs. search deciding)
     (λ c κs. search deciding)
-    (λ c κs. search deciding)
     (λ c. search deciding)
-    (λ c κs. search deciding)
     (λ c κs. search deciding)
     (λ c κs. search deciding)
     (λ c. search deciding)

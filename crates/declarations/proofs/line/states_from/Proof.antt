@@ -7,6 +7,7 @@ pub states-from-spec : {M : Type 1} → statement M
 states-from-spec =
     tie.close
     (tie.spec
-    (λ c. search stating)
     (λ c κs. search stating)
+    (λ c κs. search stating)
+    (λ c. search stating)
     (λ c. search stating))
