@@ -7,33 +7,31 @@ use mathlib.Core.List.{List}
 use mathlib.Core.Logic.{⊎-elim}
 use native.Mathlib.Nat.{eq-or-lt-of-le}
 use native.Mathlib.Omega.{arith}
-use borrow.Author.Tests.{ltb-true, ltb-false, eq-eqb}
-use lib.Dec.{eqb, ltb}
+use borrow.Author.Tests.{eq-eqb}
+use lib.Dec.{eqb}
 use lib.ListN.{length}
 use Rattle.text.specs.Class.{isBlank}
 use Rattle.text.specs.Walk.{firstOf, first}
 use Rattle.text.specs.Whitespace.{byte}
 use Rattle.text.specs.Range.{part, sameBytes, sameRange}
-use Rattle.text.specs.Scan.{findByte, lastBlank}
-use Rattle.text.specs.declared.Found.{Found}
-use Rattle.text.specs.declared.Found.the-variants.{At, Nothing}
+use Rattle.text.specs.Scan.{lastBlank}
+use Rattle.text.specs.declared.Found.the-variants.{At}
 use Rattle.text.proofs.Tests.{by-test}
 use Rattle.text.proofs.Ranges.{same-self}
 use Rattle.area.specs.declared.State.{State}
 use Rattle.area.specs.declared.Rule.{Rule}
 use Rattle.area.specs.Records.{nthRule}
-use Rattle.fault.specs.Faults.{UnknownStartState, InvalidStartState}
-use Rattle.names.specs.Names.{findState, hasName, findRule, nameOf}
+use Rattle.names.specs.Names.{hasName, findRule, nameOf}
+use Rattle.rules.specs.declared.TargetState.{TargetState}
 use Rattle.rules.specs.declared.Target.{Target}
 use Rattle.rules.specs.declared.Target.the-variants.{To, Wrong}
-use Rattle.rules.specs.declared.Label.{Label}
-use Rattle.rules.specs.declared.Label.the-variants.{Unnamed, Named, Misnamed}
+use Rattle.rules.specs.declared.Label.the-variants.{Named}
 use Rattle.rules.specs.declared.Head.{Head}
 use Rattle.rules.specs.declared.Heading.{Heading}
 use Rattle.rules.specs.declared.Heading.the-variants.{Faulty, Repeated, Fresh}
-use Rattle.rules.specs.Heading.{operationOf, targetAt, targetBy, targetTo, targetOf, labelOf, headUnnamed, headNamed, headingAt, headingBy, headingAfter, headingFrom, headingOf}
-use Rattle.rules.proofs.Targets.{target-from, target-to}
-use Rattle.rules.proofs.Heads.{name-long, last-inside}
+use Rattle.rules.specs.Heading.{operationOf, targetOperation, targetOf, span, labelOf, ruleNamed, headUnnamed, headNamed, headingOf}
+use Rattle.rules.proofs.Targets.{target-cases, target-from, target-to}
+use Rattle.rules.proofs.Heads.{name-long, last-inside, heading-cases}
 
 -- ---- a search that finds nothing
 
@@ -72,7 +70,7 @@ name-unused s a e rs h j l =
 
 -- the operation is one of 0 to 3, and the target one of m states
 abbrev Aims : ℕ → Target → Type 0
-Aims m (To operation j p) = (operation ≤ 3) × (j < m)
+Aims m (To x p) = (x .operation ≤ 3) × (x .id < m)
 Aims m (Wrong kind at) = Unit {0}
 
 operation-few : (x : ℕ) → operationOf x ≤ 3
@@ -81,24 +79,9 @@ operation-few x =
     by-test (λ n. n ≤ 3) (eqb x 0x2b) 2 (cond (eqb x 0x2d) 3 1) (λ _. omega arith)
     (λ _. by-test (λ n. n ≤ 3) (eqb x 0x2d) 3 1 (λ _. omega arith) (λ _. omega arith))
 
-module _ (s : List ℕ) (r t : ℕ) (xs : List State) where
-  aims-at : (g operation j : ℕ) → operation ≤ 3 → Aims (length xs) (targetAt (length xs) r g operation j)
-  unfolding targetAt
-  aims-at g operation j h =
-      by-test (Aims (length xs)) (ltb j (length xs)) (To operation j (g + 1)) (Wrong UnknownStartState (r + 1)) (λ q. (h, ltb-true j (length xs) q)) (λ _. tt)
-
-  aims-to : (g : ℕ) → Aims (length xs) (targetTo s r t g xs)
-  unfolding targetTo targetBy
-  aims-to g =
-      let o = operationOf (byte s (r + 2)) in
-      by-test (Aims (length xs)) (ltb g t) (targetBy s r g o xs) (Wrong InvalidStartState r)
-      (λ _. aims-at g o (findState s (cond (eqb o 1) (r + 2) (r + 3)) g xs) (operation-few (byte s (r + 2)))) (λ _. tt)
-
-  aims : 0 < length xs → Aims (length xs) (targetOf s r t xs)
-  unfolding targetOf
-  aims h =
-      by-test (Aims (length xs)) (eqb (byte s (r + 1)) 0x3c) (targetTo s r t (findByte s (r + 1) t 0x3e) xs) (To 0 0 (r + 1))
-      (λ _. aims-to (findByte s (r + 1) t 0x3e)) (λ _. (omega arith, h))
+aims : (s : List ℕ) (r t : ℕ) (xs : List State) → 0 < length xs → Aims (length xs) (targetOf s r t xs)
+unfolding targetOperation
+aims s r t xs h = target-cases s r t xs (Aims (length xs)) (omega arith, h) tt tt (λ _ known. (operation-few (byte s (r + 2)), known))
 
 -- ---- the heading
 
@@ -117,8 +100,8 @@ Heads s m rs (Faulty kind at) = Unit {0}
 Heads s m rs (Repeated c d a z) = Unit {0}
 Heads s m rs (Fresh b h) = HeadHolds s m rs h
 
-module _ (s : List ℕ) (m : ℕ) (rs : List Rule) (r t operation target p : ℕ) (few : operation ≤ 3) (declared : target < m) (from : r < p) (to : p ≤ t) (l : t ≤ length s) where
-  unnamed-holds : HeadHolds s m rs (headUnnamed r operation target)
+module _ (s : List ℕ) (m : ℕ) (rs : List Rule) (r t : ℕ) (x : TargetState) (p : ℕ) (few : x .operation ≤ 3) (declared : x .id < m) (from : r < p) (to : p ≤ t) (l : t ≤ length s) where
+  unnamed-holds : HeadHolds s m rs (headUnnamed r x)
   unnamed-holds = record {
     named = omega arith;
     ordered = omega arith;
@@ -129,7 +112,8 @@ module _ (s : List ℕ) (m : ℕ) (rs : List Rule) (r t operation target p : ℕ
     unused = record { unused = λ j _ _ z _. absurd (omega arith) };
   }
 
-  named-holds : p + 2 < t → length rs ≤ findRule s (p + 1) (t - 1) rs → HeadHolds s m rs (headNamed r p t operation target)
+  named-holds : p + 2 < t → length rs ≤ ruleNamed s (span p t) rs → HeadHolds s m rs (headNamed r (span p t) x)
+  unfolding ruleNamed
   named-holds long none = record {
     named = omega arith;
     ordered = omega arith;
@@ -143,30 +127,26 @@ module _ (s : List ℕ) (m : ℕ) (rs : List Rule) (r t operation target p : ℕ
       ends : p + 1 + (t - p - 2) ≡ t - 1
       ends = omega arith
 
-  by-holds : (k : Label) → k ≡ labelOf s p t → Heads s m rs (headingBy s r t operation target p k rs)
-  unfolding headingBy headingAt
-  by-holds Unnamed q = unnamed-holds
-  by-holds Named q =
-      let h = headNamed r p t operation target in
-      let j = findRule s (p + 1) (t - 1) rs in
-      by-test (Heads s m rs) (ltb j (length rs)) (Repeated (nthRule rs j .«span_start») (nthRule rs j .«span_end») (h .«span_start») (h .«span_end»)) (Fresh r h) (λ _. tt)
-      (λ z. named-holds (name-long s p t Named q refl) (ltb-false j (length rs) z))
-  by-holds Misnamed q = tt
-
 module _ (s : List ℕ) (xs : List State) (some : 0 < length xs) (rs : List Rule) (i t : ℕ) (l : t ≤ length s) where
-  after-holds : (r : ℕ) → r < t → (k : Target) → k ≡ targetOf s r t xs → Heads s (length xs) rs (headingAfter s r t k rs)
-  unfolding headingAfter
-  after-holds r h (To operation target p) q =
-      let a : Aims (length xs) (To operation target p) = subst (Aims (length xs)) (sym q) (aims s r t xs some) in
-      by-holds s (length xs) rs r t operation target p (a .0) (a .1) (target-from s r t xs h (To operation target p) q operation target p refl)
-      (target-to s r t xs h (To operation target p) q operation target p refl) l (labelOf s p t) refl
-  after-holds r h (Wrong kind at) q = tt
+  module _ (r : ℕ) (x : TargetState) (p : ℕ) (b : lastBlank s i t ≡ At r) (g : targetOf s r t xs ≡ To x p) where
+    before : r < t
+    before = last-inside (λ k. isBlank (byte s k)) i t r b .1
 
-  from-holds : (f : Found) → lastBlank s i t ≡ f → Heads s (length xs) rs (headingFrom s i t f xs rs)
-  unfolding headingFrom
-  from-holds (At r) q = after-holds r (last-inside (λ k. isBlank (byte s k)) i t r q .1) (targetOf s r t xs) refl
-  from-holds Nothing q = tt
+    aimed : Aims (length xs) (To x p)
+    aimed = subst (Aims (length xs)) g (aims s r t xs some)
+
+    from : r < p
+    from = target-from s r t xs before (To x p) (sym g) x p refl
+
+    to : p ≤ t
+    to = target-to s r t xs before (To x p) (sym g) x p refl
+
+    unnamed : HeadHolds s (length xs) rs (headUnnamed r x)
+    unnamed = unnamed-holds s (length xs) rs r t x p (aimed .0) (aimed .1) from to l
+
+    fresh : labelOf s (span p t) ≡ Named → length rs ≤ ruleNamed s (span p t) rs → HeadHolds s (length xs) rs (headNamed r (span p t) x)
+    fresh named = named-holds s (length xs) rs r t x p (aimed .0) (aimed .1) from to l (name-long s p t named)
 
   pub heading-holds : (b : ℕ) (h : Head) → headingOf s i t xs rs ≡ Fresh b h → HeadHolds s (length xs) rs h
-  unfolding headingOf
-  heading-holds b h q = subst (Heads s (length xs) rs) q (from-holds (lastBlank s i t) refl)
+  heading-holds b h q =
+      subst (Heads s (length xs) rs) q (heading-cases s i t xs rs (Heads s (length xs) rs) (λ _ _. tt) (λ _ _ _ _. tt) unnamed fresh)

@@ -1,11 +1,12 @@
--- A rule's name and its heading: a law for each way through. The last blank stands within the line, so all that is counted from it fits a field.
+-- A rule's name and its heading: a law for each way through the code, and one over all outcomes of a heading. The last blank stands within the line, so
+-- all that is counted from it fits a field.
 use mathlib.Core.Path.{_≡_, refl, subst, sym, ap, _∙_}
 use mathlib.Core.Bool.{Bool, true, false, cond, _&&_, _||_}
 use mathlib.Core.List.{List}
 use Prim.Native.Nat.{ℕ, zero, suc, _+_, _-_, _≤_, _<_}
 use native.Mathlib.Omega.{arith}
 use borrow.Author.Needs.{needs}
-use borrow.Author.Tests.{lt-ltb, le-ltb, ltb-true}
+use borrow.Author.Tests.{lt-ltb, le-ltb, ltb-true, ltb-false}
 use lib.Dec.{eqb, ltb}
 use lib.ListN.{length}
 use Rattle.text.specs.Class.{isBlank}
@@ -22,6 +23,7 @@ use Rattle.area.specs.Contents.{contents, ruleFormat, Held}
 use Rattle.area.proofs.Contents.{rule-sound, contents-length, contents-at}
 use Rattle.fault.specs.Faults.{MissingSpace, InvalidName}
 use Rattle.names.specs.Names.{findRule}
+use Rattle.rules.specs.declared.TargetState.{TargetState}
 use Rattle.rules.specs.declared.Target.{Target}
 use Rattle.rules.specs.declared.Target.the-variants.{To, Wrong}
 use Rattle.rules.specs.declared.Label.{Label}
@@ -29,26 +31,26 @@ use Rattle.rules.specs.declared.Label.the-variants.{Unnamed, Named, Misn
 use Rattle.rules.specs.declared.Head.{Head}
 use Rattle.rules.specs.declared.Heading.{Heading}
 use Rattle.rules.specs.declared.Heading.the-variants.{Faulty, Repeated, Fresh}
-use Rattle.rules.specs.Heading.{targetOf, isNoName, isName, labelBy, labelOf, headUnnamed, headNamed, headingAt, headingBy, headingAfter, headingFrom, headingOf}
+use Rattle.rules.specs.Heading.{targetOf, span, equalQuotes, isNoName, isName, labelBy, labelOf, ruleNamed, headUnnamed, headNamed, repeats, headingBehind, headingOf}
 use Rattle.rules.proofs.Targets.{target-from, target-to}
 
 -- ---- the name
 
 module _ (n x y : ℕ) (none : Bool) (is : (eqb n 1 && eqb x 0x3b) || (eqb n 2 && ((eqb x 0x22 && eqb y 0x22) || (eqb x 0x27 && eqb y 0x27))) ≡ none) where
   pub label-none : none ≡ true → Unnamed ≡ labelBy n x y
-  unfolding labelBy isNoName
+  unfolding labelBy isNoName equalQuotes
   label-none e = rw (is, e)
 
-  module _ (no : none ≡ false) (some : Bool) (has : ltb 2 n && ((eqb x 0x27 && eqb y 0x27) || (eqb x 0x22 && eqb y 0x22)) ≡ some) where
+  module _ (no : none ≡ false) (some : Bool) (has : ltb 2 n && ((eqb x 0x22 && eqb y 0x22) || (eqb x 0x27 && eqb y 0x27)) ≡ some) where
     pub label-some : some ≡ true → Named ≡ labelBy n x y
-    unfolding labelBy isNoName isName
+    unfolding labelBy isNoName isName equalQuotes
     label-some e = rw (is, no, has, e)
 
     pub label-bad : some ≡ false → Misnamed ≡ labelBy n x y
-    unfolding labelBy isNoName isName
+    unfolding labelBy isNoName isName equalQuotes
     label-bad e = rw (is, no, has, e)
 
-pub label-between : (s : List ℕ) (p t x y : ℕ) (k : Label) → x ≡ byte s p → y ≡ byte s (t - 1) → k ≡ labelBy (t - p) x y → k ≡ labelOf s p t
+pub label-between : (s : List ℕ) (p t x y : ℕ) (k : Label) → x ≡ byte s p → y ≡ byte s (t - 1) → k ≡ labelBy (t - p) x y → k ≡ labelOf s (span p t)
 unfolding labelOf
 label-between s p t x y k q z e = rw (← q, ← z) e
 
@@ -64,59 +66,64 @@ long : (n x y : ℕ) → Long n (labelBy n x y)
 unfolding labelBy isName
 long n x y =
     by-test (Long n) (isNoName n x y) Unnamed (cond (isName n x y) Named Misnamed) (λ _. tt)
-    (λ _. by-test (Long n) (isName n x y) Named Misnamed (λ q. ltb-true 2 n (and-left (ltb 2 n) ((eqb x 0x27 && eqb y 0x27) || (eqb x 0x22 && eqb y 0x22)) q)) (λ _. tt))
+    (λ _. by-test (Long n) (isName n x y) Named Misnamed (λ q. ltb-true 2 n (and-left (ltb 2 n) (equalQuotes x y) q)) (λ _. tt))
 
--- ---- the heading: what stands from p to t
+pub name-long : (s : List ℕ) (p t : ℕ) → labelOf s (span p t) ≡ Named → p + 2 < t
+unfolding labelOf
+name-long s p t q = omega (arith, subst (Long (t - p)) q (long (t - p) (byte s p) (byte s (t - 1))))
 
-module _ (s : List ℕ) (r t p : ℕ) (h : Head) {l : List ℕ} {n : ℕ} (held : Held ruleFormat l n) (j : ℕ) (f : Between 0 n (findRule s (p + 1) (t - 1) (contents ruleFormat l n)) j) where
-  pub heading-repeated : (x : Rule) → x ≡ ruleAt l j → j < n
-      → Repeated (x .«span_start») (x .«span_end») (h .«span_start») (h .«span_end») ≡ headingAt r h (findRule s (p + 1) (t - 1) (contents ruleFormat l n)) (contents ruleFormat l n)
-  unfolding headingAt
-  heading-repeated x is g = rw (← f .is, contents-length rule-sound held, lt-ltb j n g, contents-at rule-sound held j g, ← is)
+-- ---- behind the target: what stands from p to t
 
-  pub heading-fresh : n ≤ j → Fresh r h ≡ headingAt r h (findRule s (p + 1) (t - 1) (contents ruleFormat l n)) (contents ruleFormat l n)
-  unfolding headingAt
-  heading-fresh g = rw (← f .is, contents-length rule-sound held, le-ltb j n g)
+module _ (s : List ℕ) (r : ℕ) (x : TargetState) (p t : ℕ) (k : Label) (is : k ≡ labelOf s (span p t)) where
+  pub label-is : k ≡ Named → labelOf s (span p t) ≡ Named
+  label-is q = sym is ∙ q
 
-module _ (s : List ℕ) (p t : ℕ) (k : Label) (is : k ≡ labelOf s p t) where
-  pub name-long : k ≡ Named → p + 2 < t
-  unfolding labelOf
-  name-long q = omega (arith, subst (Long (t - p)) (sym is ∙ q) (long (t - p) (byte s p) (byte s (t - 1))))
+  pub label-long : k ≡ Named → p + 2 < t
+  label-long q = name-long s p t (sym is ∙ q)
 
-  module _ (r operation target : ℕ) (rs : List Rule) where
-    pub heading-unnamed : (h : Head) → k ≡ Unnamed → h ≡ headUnnamed r operation target → Fresh r h ≡ headingBy s r t operation target p (labelOf s p t) rs
-    unfolding headingBy
-    heading-unnamed h q e = rw (← is, q) (ap (Fresh r) e)
+  module _ (rs : List Rule) where
+    pub heading-unnamed : (h : Head) → k ≡ Unnamed → h ≡ headUnnamed r x → Fresh r h ≡ headingBehind s r x (span p t) rs
+    unfolding headingBehind
+    heading-unnamed h q e = rw (← is, q, headingBehind) (ap (Fresh r) e)
 
-    pub heading-named : (h : Head) (z : Heading) → k ≡ Named → h ≡ headNamed r p t operation target → z ≡ headingAt r h (findRule s (p + 1) (t - 1) rs) rs
-        → z ≡ headingBy s r t operation target p (labelOf s p t) rs
-    unfolding headingBy
-    heading-named h z q e w = rw (← is, q) (w ∙ ap (λ (x : Head). headingAt r x (findRule s (p + 1) (t - 1) rs) rs) e)
+    pub heading-misnamed : k ≡ Misnamed → Faulty InvalidName (r + 1) ≡ headingBehind s r x (span p t) rs
+    unfolding headingBehind
+    heading-misnamed q = rw (← is, q, headingBehind)
 
-    pub heading-misnamed : k ≡ Misnamed → Faulty InvalidName (r + 1) ≡ headingBy s r t operation target p (labelOf s p t) rs
-    unfolding headingBy
-    heading-misnamed q = rw (← is, q)
+module _ (s : List ℕ) (r : ℕ) (x : TargetState) (p t : ℕ) (named : labelOf s (span p t) ≡ Named) where
+  heading-named : (rs : List Rule)
+      → cond (ltb (ruleNamed s (span p t) rs) (length rs)) (repeats (nthRule rs (ruleNamed s (span p t) rs)) (headNamed r (span p t) x)) (Fresh r (headNamed r (span p t) x))
+      ≡ headingBehind s r x (span p t) rs
+  unfolding headingBehind
+  heading-named rs = rw (named, headingBehind)
 
--- ---- the heading: the target, and the blank before it
+  module _ {l : List ℕ} {n : ℕ} (held : Held ruleFormat l n) (j : ℕ) (f : Between 0 n (findRule s (p + 1) (t - 1) (contents ruleFormat l n)) j)
+      (h : Head) (e : h ≡ headNamed r (span p t) x) where
+    pub heading-repeated : (y : Rule) → y ≡ ruleAt l j → j < n → repeats y h ≡ headingBehind s r x (span p t) (contents ruleFormat l n)
+    unfolding ruleNamed
+    heading-repeated y is g =
+        rw (← heading-named (contents ruleFormat l n), ← f .is, contents-length rule-sound held, lt-ltb j n g, contents-at rule-sound held j g, ← is)
+        (ap (repeats y) e)
 
-module _ (s : List ℕ) (r t : ℕ) (xs : List State) (rs : List Rule) (k : Target) (is : k ≡ targetOf s r t xs) where
-  pub heading-target : (operation j p : ℕ) (z : Heading) → k ≡ To operation j p → z ≡ headingBy s r t operation j p (labelOf s p t) rs
-      → z ≡ headingAfter s r t (targetOf s r t xs) rs
-  unfolding headingAfter
-  heading-target operation j p z q e = rw (← is, q) e
+    pub heading-fresh : n ≤ j → Fresh r h ≡ headingBehind s r x (span p t) (contents ruleFormat l n)
+    unfolding ruleNamed
+    heading-fresh g = rw (← heading-named (contents ruleFormat l n), ← f .is, contents-length rule-sound held, le-ltb j n g) (ap (Fresh r) e)
 
-  pub heading-wrong : (kind at : ℕ) → k ≡ Wrong kind at → Faulty kind at ≡ headingAfter s r t (targetOf s r t xs) rs
-  unfolding headingAfter
-  heading-wrong kind at q = rw (← is, q)
+-- ---- the blank, and the target behind it
 
 module _ (s : List ℕ) (i t : ℕ) (xs : List State) (rs : List Rule) (f : Found) (is : f ≡ lastBlank s i t) where
-  pub heading-split : (r : ℕ) (z : Heading) → f ≡ At r → z ≡ headingAfter s r t (targetOf s r t xs) rs → z ≡ headingOf s i t xs rs
-  unfolding headingOf headingFrom
-  heading-split r z q e = rw (← is, q) e
-
   pub heading-unsplit : f ≡ Nothing → Faulty MissingSpace i ≡ headingOf s i t xs rs
-  unfolding headingOf headingFrom
-  heading-unsplit q = rw (← is, q)
+  unfolding headingOf
+  heading-unsplit q = rw (← is, q, headingOf)
+
+  module _ (r : ℕ) (split : f ≡ At r) (k : Target) (aimed : k ≡ targetOf s r t xs) where
+    pub heading-wrong : (kind at : ℕ) → k ≡ Wrong kind at → Faulty kind at ≡ headingOf s i t xs rs
+    unfolding headingOf
+    heading-wrong kind at q = rw (← is, split, ← aimed, q, headingOf)
+
+    pub heading-target : (x : TargetState) (p : ℕ) (z : Heading) → k ≡ To x p → z ≡ headingBehind s r x (span p t) rs → z ≡ headingOf s i t xs rs
+    unfolding headingOf
+    heading-target x p z q e = rw (← is, split, ← aimed, q, headingOf) e
 
 -- what is found stands from i to before e
 inside-of : (test : ℕ → Bool) (n i q : ℕ) → lastOf test i n ≡ At q → (i ≤ q) × (q < i + n)
@@ -143,7 +150,38 @@ last-inside test i e q z =
 pub blank-to : (s : List ℕ) (i e q : ℕ) (f : Found) → f ≡ lastBlank s i e → f ≡ At q → q < e
 blank-to s i e q f is z = last-inside (λ k. isBlank (byte s k)) i e q (sym is ∙ z) .1
 
-pub ruleset heading = (needs, heading-repeated, heading-fresh, name-long, heading-unnamed, heading-named, heading-misnamed, target-from, target-to, heading-target, heading-wrong, blank-to, heading-split, heading-unsplit)
+pub ruleset heading = (needs, label-is, label-long, heading-unnamed, heading-misnamed, heading-repeated, heading-fresh, target-from, target-to, blank-to, heading-unsplit, heading-wrong, heading-target)
+
+-- ---- every way that a heading comes out
+
+module _ (s : List ℕ) (i t : ℕ) (xs : List State) (rs : List Rule) (P : Heading → Type 0) (faulty : (kind at : ℕ) → P (Faulty kind at))
+    (repeated : (c d a z : ℕ) → P (Repeated c d a z)) where
+  -- what holds of each outcome holds of the heading
+  pub heading-cases : ((r : ℕ) (x : TargetState) (p : ℕ) → lastBlank s i t ≡ At r → targetOf s r t xs ≡ To x p → P (Fresh r (headUnnamed r x)))
+      → ((r : ℕ) (x : TargetState) (p : ℕ) → lastBlank s i t ≡ At r → targetOf s r t xs ≡ To x p → labelOf s (span p t) ≡ Named
+      → length rs ≤ ruleNamed s (span p t) rs → P (Fresh r (headNamed r (span p t) x))) → P (headingOf s i t xs rs)
+  heading-cases unnamed fresh = by-blank (lastBlank s i t) refl
+    where
+      by-label : (r : ℕ) (x : TargetState) (p : ℕ) → At r ≡ lastBlank s i t → To x p ≡ targetOf s r t xs → (k : Label) → k ≡ labelOf s (span p t) → P (headingBehind s r x (span p t) rs)
+      by-label r x p b g Unnamed e = subst P (heading-unnamed s r x p t Unnamed e rs (headUnnamed r x) refl refl) (unnamed r x p (sym b) (sym g))
+      by-label r x p b g Misnamed e = subst P (heading-misnamed s r x p t Misnamed e rs refl) (faulty InvalidName (r + 1))
+      by-label r x p b g Named e =
+          let q = span p t in
+          let h = headNamed r q x in
+          let first = nthRule rs (ruleNamed s q rs) in
+          subst P (heading-named s r x p t (sym e) rs)
+          (by-test P (ltb (ruleNamed s q rs) (length rs)) (repeats first h) (Fresh r h) (λ _. repeated (first .«span_start») (first .«span_end») (h .«span_start») (h .«span_end»))
+          (λ z. fresh r x p (sym b) (sym g) (sym e) (ltb-false (ruleNamed s q rs) (length rs) z)))
+
+      by-target : (r : ℕ) → At r ≡ lastBlank s i t → (k : Target) → k ≡ targetOf s r t xs → P (headingOf s i t xs rs)
+      by-target r b (Wrong kind at) g = subst P (heading-wrong s i t xs rs (At r) b r refl (Wrong kind at) g kind at refl) (faulty kind at)
+      by-target r b (To x p) g =
+          subst P (heading-target s i t xs rs (At r) b r refl (To x p) g x p (headingBehind s r x (span p t) rs) refl refl)
+          (by-label r x p b g (labelOf s (span p t)) refl)
+
+      by-blank : (f : Found) → f ≡ lastBlank s i t → P (headingOf s i t xs rs)
+      by-blank Nothing b = subst P (heading-unsplit s i t xs rs Nothing b refl) (faulty MissingSpace i)
+      by-blank (At r) b = by-target r b (targetOf s r t xs) refl
 
 -- ---- the blank that splits the line of a fresh rule stands within it
 
@@ -152,31 +190,15 @@ Splits i t (Faulty kind at) = Unit {0}
 Splits i t (Repeated c d a z) = Unit {0}
 Splits i t (Fresh b h) = (i ≤ b) × (b < t)
 
-module _ (s : List ℕ) (i t : ℕ) (rs : List Rule) (r : ℕ) (b : (i ≤ r) × (r < t)) where
-  splits-by : (operation target p : ℕ) (k : Label) → Splits i t (headingBy s r t operation target p k rs)
-  unfolding headingBy headingAt
-  splits-by operation target p Unnamed = b
-  splits-by operation target p Named =
-      let h = headNamed r p t operation target in
-      let j = findRule s (p + 1) (t - 1) rs in
-      by-test (Splits i t) (ltb j (length rs)) (Repeated (nthRule rs j .«span_start») (nthRule rs j .«span_end») (h .«span_start») (h .«span_end»)) (Fresh r h) (λ _. tt) (λ _. b)
-  splits-by operation target p Misnamed = tt
-
-  splits-after : (k : Target) → Splits i t (headingAfter s r t k rs)
-  unfolding headingAfter
-  splits-after (To operation target p) = splits-by operation target p (labelOf s p t)
-  splits-after (Wrong kind at) = tt
-
 module _ (s : List ℕ) (i t : ℕ) (xs : List State) (rs : List Rule) where
-  splits-from : (f : Found) → lastBlank s i t ≡ f → Splits i t (headingFrom s i t f xs rs)
-  unfolding headingFrom
-  splits-from (At r) q = splits-after s i t rs r (last-inside (λ k. isBlank (byte s k)) i t r q) (targetOf s r t xs)
-  splits-from Nothing q = tt
+  splits-all : Splits i t (headingOf s i t xs rs)
+  splits-all =
+      let inside : (r : ℕ) → lastBlank s i t ≡ At r → (i ≤ r) × (r < t) = last-inside (λ k. isBlank (byte s k)) i t in
+      heading-cases s i t xs rs (Splits i t) (λ _ _. tt) (λ _ _ _ _. tt) (λ r _ _ b _. inside r b) (λ r _ _ b _ _ _. inside r b)
 
   module _ (k : Heading) (is : k ≡ headingOf s i t xs rs) (b : ℕ) (h : Head) (q : k ≡ Fresh b h) where
     splits : (i ≤ b) × (b < t)
-    unfolding headingOf
-    splits = subst (Splits i t) (sym is ∙ q) (splits-from (lastBlank s i t) refl)
+    splits = subst (Splits i t) (sym is ∙ q) splits-all
 
     pub fresh-from : i ≤ b
     fresh-from = splits .0

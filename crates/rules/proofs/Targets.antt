@@ -1,12 +1,13 @@
--- The target of a rule: a law for each way through, and where a target ends: behind the blank, and not past the line.
+-- The target of a rule: a law for each way through the code, and one over all of its outcomes, by which a target ends behind the blank and not past the
+-- line.
 use mathlib.Core.Path.{_≡_, subst, sym, _∙_}
-use mathlib.Core.Bool.{cond}
+use mathlib.Core.Bool.{cond, not}
 use mathlib.Core.List.{List}
 use Prim.Native.Nat.{ℕ, _+_, _≤_, _<_}
 use native.Mathlib.Omega.{arith}
 use borrow.Author.Needs.{needs}
-use borrow.Author.Tests.{eq-eqb, ne-eqb, lt-ltb, le-ltb, ltb-true}
-use lib.Dec.{eqb, ltb}
+use borrow.Author.Tests.{eq-eqb, ne-eqb, le-leb, lt-leb, leb-false}
+use lib.Dec.{eqb, leb}
 use lib.ListN.{length}
 use Rattle.text.specs.Walk.{Between}
 use Rattle.text.specs.Whitespace.{byte}
@@ -18,9 +19,10 @@ use Rattle.area.specs.Contents.{contents, stateFormat, Held}
 use Rattle.area.proofs.Contents.{state-sound, contents-length}
 use Rattle.fault.specs.Faults.{UnknownStartState, InvalidStartState}
 use Rattle.names.specs.Names.{findState}
+use Rattle.rules.specs.declared.TargetState.{TargetState}
 use Rattle.rules.specs.declared.Target.{Target}
 use Rattle.rules.specs.declared.Target.the-variants.{To, Wrong}
-use Rattle.rules.specs.Heading.{operationOf, targetAt, targetBy, targetTo, targetOf}
+use Rattle.rules.specs.Heading.{hasTarget, targetEnd, operationOf, targetOperation, targetName, targetId, noTarget, targetOf}
 
 -- ---- the operation
 
@@ -38,79 +40,76 @@ module _ (x : ℕ) where
     unfolding operationOf
     operation-replace d = rw (ne-eqb x 0x2b no, ne-eqb x 0x2d d)
 
-pub ruleset operating = (needs, operation-push, operation-pop, operation-replace)
+pub operation-behind : (s : List ℕ) (r x k : ℕ) → x ≡ byte s (r + 2) → k ≡ operationOf x → k ≡ targetOperation s r
+unfolding targetOperation
+operation-behind s r x k q e = rw (← q) e
 
--- ---- the state
+pub ruleset operating = (needs, operation-push, operation-pop, operation-replace, operation-behind)
 
-module _ {l : List ℕ} {n : ℕ} (h : Held stateFormat l n) (s : List ℕ) (r a g operation j : ℕ) (f : Between 0 n (findState s a g (contents stateFormat l n)) j) where
-  pub target-known : j < n → To operation j (g + 1) ≡ targetAt (length (contents stateFormat l n)) r g operation (findState s a g (contents stateFormat l n))
-  unfolding targetAt
-  target-known t = rw (← f .is, contents-length state-sound h, lt-ltb j n t)
+-- ---- the state: its name starts behind the mark, if there is one
 
-  pub target-unknown : n ≤ j → Wrong UnknownStartState (r + 1) ≡ targetAt (length (contents stateFormat l n)) r g operation (findState s a g (contents stateFormat l n))
-  unfolding targetAt
-  target-unknown t = rw (← f .is, contents-length state-sound h, le-ltb j n t)
+module _ (s : List ℕ) (r g operation : ℕ) (o : operation ≡ targetOperation s r) (n j : ℕ) (xs : List State) where
+  pub name-unmarked : operation ≡ 1 → Between 0 n (findState s (r + 2) g xs) j → Between 0 n (findState s (targetName s r) g xs) j
+  unfolding targetName
+  name-unmarked q f = rw (← o, eq-eqb operation 1 q) f
 
-module _ (s : List ℕ) (r g operation : ℕ) (xs : List State) (k : Target) where
-  pub target-alone : operation ≡ 1 → k ≡ targetAt (length xs) r g operation (findState s (r + 2) g xs) → k ≡ targetBy s r g operation xs
-  unfolding targetBy
-  target-alone q e = rw (eq-eqb operation 1 q) e
+  pub name-marked : (operation ≡ 1 → ⊥) → Between 0 n (findState s (r + 3) g xs) j → Between 0 n (findState s (targetName s r) g xs) j
+  unfolding targetName
+  name-marked q f = rw (← o, ne-eqb operation 1 q) f
 
-  pub target-marked : (operation ≡ 1 → ⊥) → k ≡ targetAt (length xs) r g operation (findState s (r + 3) g xs) → k ≡ targetBy s r g operation xs
-  unfolding targetBy
-  target-marked q e = rw (ne-eqb operation 1 q) e
+pub ruleset target-named = (needs, name-unmarked, name-marked)
 
--- ---- from the `<` on
+-- ---- the target
+
+module _ (s : List ℕ) (r t x : ℕ) (q : x ≡ byte s (r + 1)) where
+  pub target-none : (xs : List State) → (x ≡ 0x3c → ⊥) → To noTarget (r + 1) ≡ targetOf s r t xs
+  unfolding targetOf hasTarget
+  target-none xs d = rw (← q, ne-eqb x 0x3c d)
+
+  module _ (e : x ≡ 0x3c) (g : ℕ) (b : Between (r + 1) t (findByte s (r + 1) t 0x3e) g) where
+    pub target-unclosed : (xs : List State) → t ≤ g → Wrong InvalidStartState r ≡ targetOf s r t xs
+    unfolding targetOf hasTarget targetEnd
+    target-unclosed xs h = rw (← q, eq-eqb x 0x3c e, ← b .is, le-leb t g h)
+
+    module _ {l : List ℕ} {n : ℕ} (held : Held stateFormat l n) (closed : g < t) (j : ℕ) (f : Between 0 n (findState s (targetName s r) g (contents stateFormat l n)) j) where
+      pub target-unknown : n ≤ j → Wrong UnknownStartState (r + 1) ≡ targetOf s r t (contents stateFormat l n)
+      unfolding targetOf hasTarget targetEnd targetId
+      target-unknown h = rw (← q, eq-eqb x 0x3c e, ← b .is, lt-leb t g closed, ← f .is, contents-length state-sound held, le-leb n j h)
+
+      pub target-known : (operation : ℕ) → operation ≡ targetOperation s r → j < n → To (record { operation = operation; id = j }) (g + 1) ≡ targetOf s r t (contents stateFormat l n)
+      unfolding targetOf hasTarget targetEnd targetId
+      target-known operation o h =
+          rw (← q, eq-eqb x 0x3c e, ← b .is, lt-leb t g closed, ← f .is, contents-length state-sound held, lt-leb n j h, ← o)
+
+-- ---- every way that a target comes out
 
 module _ (s : List ℕ) (r t : ℕ) (xs : List State) where
-  module _ (g : ℕ) (b : Between (r + 1) t (findByte s (r + 1) t 0x3e) g) where
-    pub target-closed : (x operation : ℕ) (k : Target) → g < t → x ≡ byte s (r + 2) → operation ≡ operationOf x → k ≡ targetBy s r g operation xs
-        → k ≡ targetTo s r t (findByte s (r + 1) t 0x3e) xs
-    unfolding targetTo
-    target-closed x operation k h q o e = rw (← b .is, lt-ltb g t h, ← q, ← o) e
-
-    pub target-unclosed : t ≤ g → Wrong InvalidStartState r ≡ targetTo s r t (findByte s (r + 1) t 0x3e) xs
-    unfolding targetTo
-    target-unclosed h = rw (← b .is, le-ltb g t h)
-
-  module _ (x : ℕ) (q : x ≡ byte s (r + 1)) where
-    pub target-some : (k : Target) → x ≡ 0x3c → k ≡ targetTo s r t (findByte s (r + 1) t 0x3e) xs → k ≡ targetOf s r t xs
-    unfolding targetOf
-    target-some k e z = rw (← q, eq-eqb x 0x3c e) z
-
-    pub target-none : (x ≡ 0x3c → ⊥) → To 0 0 (r + 1) ≡ targetOf s r t xs
-    unfolding targetOf
-    target-none d = rw (← q, ne-eqb x 0x3c d)
-
-pub ruleset aiming = (needs, target-known, target-unknown, target-alone, target-marked, target-closed, target-unclosed, target-some, target-none)
-
--- ---- where a target ends
+  -- what holds of each outcome holds of the target
+  pub target-cases : (P : Target → Type 0) → P (To noTarget (r + 1)) → P (Wrong InvalidStartState r) → P (Wrong UnknownStartState (r + 1))
+      → (targetEnd s r t < t → targetId s r t xs < length xs → P (To (record { operation = targetOperation s r; id = targetId s r t xs }) (targetEnd s r t + 1)))
+      → P (targetOf s r t xs)
+  unfolding targetOf
+  target-cases P none unclosed unknown known =
+      let found : Target = To (record { operation = targetOperation s r; id = targetId s r t xs }) (targetEnd s r t + 1) in
+      let closed : Target = cond (leb (length xs) (targetId s r t xs)) (Wrong UnknownStartState (r + 1)) found in
+      by-test P (not (hasTarget s r)) (To noTarget (r + 1)) (cond (leb t (targetEnd s r t)) (Wrong InvalidStartState r) closed) (λ _. none)
+      (λ _. by-test P (leb t (targetEnd s r t)) (Wrong InvalidStartState r) closed (λ _. unclosed)
+      (λ c. by-test P (leb (length xs) (targetId s r t xs)) (Wrong UnknownStartState (r + 1)) found (λ _. unknown)
+      (λ d. known (leb-false t (targetEnd s r t) c) (leb-false (length xs) (targetId s r t xs) d))))
 
 -- the place behind a target is behind r, and at most t
 abbrev Placed : ℕ → ℕ → Target → Type 0
-Placed r t (To operation j p) = (r < p) × (p ≤ t)
+Placed r t (To x p) = (r < p) × (p ≤ t)
 Placed r t (Wrong kind at) = Unit {0}
 
 module _ (s : List ℕ) (r t : ℕ) (xs : List State) (h : r < t) where
-  placed-closed : (g operation j : ℕ) → r < g → g < t → Placed r t (targetAt (length xs) r g operation j)
-  unfolding targetAt
-  placed-closed g operation j f q =
-      by-test (Placed r t) (ltb j (length xs)) (To operation j (g + 1)) (Wrong UnknownStartState (r + 1)) (λ _. (omega arith, omega arith)) (λ _. tt)
-
-  placed-to : (g : ℕ) → r < g → Placed r t (targetTo s r t g xs)
-  unfolding targetTo targetBy
-  placed-to g f =
-      let o = operationOf (byte s (r + 2)) in
-      by-test (Placed r t) (ltb g t) (targetBy s r g o xs) (Wrong InvalidStartState r)
-      (λ q. placed-closed g o (findState s (cond (eqb o 1) (r + 2) (r + 3)) g xs) f (ltb-true g t q)) (λ _. tt)
-
   placed : Placed r t (targetOf s r t xs)
-  unfolding targetOf
+  unfolding targetEnd
   placed =
-      by-test (Placed r t) (eqb (byte s (r + 1)) 0x3c) (targetTo s r t (findByte s (r + 1) t 0x3e) xs) (To 0 0 (r + 1))
-      (λ _. placed-to (findByte s (r + 1) t 0x3e) (omega (arith, first-from (λ k. eqb (byte s k) 0x3e) (r + 1) t))) (λ _. (omega arith, omega arith))
+      let b = first-from (λ k. eqb (byte s k) 0x3e) (r + 1) t in
+      target-cases s r t xs (Placed r t) (omega arith, omega arith) tt tt (λ c _. (omega (arith, b), omega (arith, c)))
 
-  module _ (k : Target) (is : k ≡ targetOf s r t xs) (operation j p : ℕ) (q : k ≡ To operation j p) where
+  module _ (k : Target) (is : k ≡ targetOf s r t xs) (x : TargetState) (p : ℕ) (q : k ≡ To x p) where
     pub target-from : r < p
     target-from = subst (Placed r t) (sym is ∙ q) placed .0
 

@@ -1,20 +1,21 @@
--- A rule's line up to its pattern, read over the source, the states and the rules (01, Rules): the last blank, the target, the name; and what
--- kind of pattern stands before them.
+-- A rule's line, read over the source, the states and the rules before it (01, Rules): the last blank, behind it the target and the name; and what
+-- kind of pattern stands before the blank.
 use Prim.Native.Nat.{ℕ, _+_, _-_}
-use mathlib.Core.Bool.{Bool, cond, _&&_, _||_}
+use mathlib.Core.Bool.{Bool, cond, not, _&&_, _||_}
 use mathlib.Core.List.{List}
-use lib.Dec.{eqb, ltb}
+use lib.Dec.{eqb, leb, ltb}
 use lib.ListN.{length}
 use Rattle.text.specs.Whitespace.{byte}
 use Rattle.text.specs.Scan.{findByte, lastBlank}
-use Rattle.text.specs.declared.Found.{Found}
 use Rattle.text.specs.declared.Found.the-variants.{At, Nothing}
 use Rattle.area.specs.declared.State.{State}
 use Rattle.area.specs.declared.Rule.{Rule}
 use Rattle.area.specs.Records.{nthRule}
+use Rattle.fault.specs.declared.Span.{Span}
 use Rattle.fault.specs.Faults.{MissingSpace, InvalidName, UnknownStartState, InvalidStartState}
 use Rattle.names.specs.Names.{findState, findRule}
 use Rattle.escape.specs.Escape.{isRewritten}
+use Rattle.rules.specs.declared.TargetState.{TargetState}
 use Rattle.rules.specs.declared.Target.{Target}
 use Rattle.rules.specs.declared.Target.the-variants.{To, Wrong}
 use Rattle.rules.specs.declared.Label.{Label}
@@ -25,104 +26,151 @@ use Rattle.rules.specs.declared.Heading.the-variants.{Faulty, Repeated, 
 use Rattle.rules.specs.declared.Body.{Body}
 use Rattle.rules.specs.declared.Body.the-variants.{Unclosed, Listed, Rewritten, Plain}
 
--- ---- the target, behind the blank at r of a line trimmed at t
+-- ---- the target, behind the blank at r of a line that is trimmed at t
+
+-- a `<` right behind the blank begins a target (01, Rules)
+unfoldable pub hasTarget : List ℕ → ℕ → Bool
+hasTarget s r = eqb (byte s (r + 1)) 0x3c
+
+-- where the target's `>` stands, the first there is; t where there is none (01, Rules)
+unfoldable pub targetEnd : List ℕ → ℕ → ℕ → ℕ
+targetEnd s r t = findByte s (r + 1) t 0x3e
 
 -- 2 push for `+`, 3 pop for `-`, else 1 replace (01, Areas, 2)
 unfoldable pub operationOf : ℕ → ℕ
 operationOf x = cond (eqb x 0x2b) 2 (cond (eqb x 0x2d) 3 1)
 
--- of n states the target is the state j, and its `>` is at g; an unknown one is a fault after the blank (01, Rules)
-unfoldable pub targetAt : ℕ → ℕ → ℕ → ℕ → ℕ → Target
-targetAt n r g operation j = cond (ltb j n) (To operation j (g + 1)) (Wrong UnknownStartState (r + 1))
+-- the target's operation: the byte behind its `<` tells it (01, Rules)
+unfoldable pub targetOperation : List ℕ → ℕ → ℕ
+targetOperation s r = operationOf (byte s (r + 2))
 
--- the target's name starts behind the `<` at r + 1, or behind the `+` or `-` that follows (01, Rules)
-unfoldable pub targetBy : List ℕ → ℕ → ℕ → ℕ → List State → Target
-targetBy s r g operation xs = targetAt (length xs) r g operation (findState s (cond (eqb operation 1) (r + 2) (r + 3)) g xs)
+-- where the target's name starts: behind the `<`, or behind the `+` or `-` that follows it (01, Rules)
+unfoldable pub targetName : List ℕ → ℕ → ℕ
+targetName s r = cond (eqb (targetOperation s r) 1) (r + 2) (r + 3)
 
--- the `>` is at g, or at t where there is none: an unclosed target is a fault at the blank (01, Rules)
-unfoldable pub targetTo : List ℕ → ℕ → ℕ → ℕ → List State → Target
-targetTo s r t g xs = cond (ltb g t) (targetBy s r g (operationOf (byte s (r + 2))) xs) (Wrong InvalidStartState r)
+-- the state of that name, which ends at the `>` and is not trimmed; the number of states where there is none (01, Rules)
+unfoldable pub targetId : List ℕ → ℕ → ℕ → List State → ℕ
+targetId s r t xs = findState s (targetName s r) (targetEnd s r t) xs
 
--- a target, or none (01, Rules)
+-- without a target both fields are 0 (01, Areas, 2)
+abbrev pub noTarget : TargetState
+noTarget = record { operation = 0; id = 0 }
+
+-- no target; one that is not closed, a fault at the blank; one of an unknown state, a fault behind the blank; or one that ends behind its `>` (01, Rules)
 unfoldable pub targetOf : List ℕ → ℕ → ℕ → List State → Target
-targetOf s r t xs = cond (eqb (byte s (r + 1)) 0x3c) (targetTo s r t (findByte s (r + 1) t 0x3e) xs) (To 0 0 (r + 1))
+targetOf s r t xs =
+    cond (not (hasTarget s r)) (To noTarget (r + 1))
+    (cond (leb t (targetEnd s r t)) (Wrong InvalidStartState r)
+    (cond (leb (length xs) (targetId s r t xs)) (Wrong UnknownStartState (r + 1))
+    (To (record { operation = targetOperation s r; id = targetId s r t xs }) (targetEnd s r t + 1))))
 
--- ---- the name, n bytes of which x is the first and y the last
+-- ---- the name
 
--- the three ways to give no name: a semicolon, and either pair of quotes with nothing in it (01, Rules)
+-- the bytes from a to before e
+abbrev pub span : ℕ → ℕ → Span
+span a e = record { start = a; end = e }
+
+-- how many bytes a span has
+abbrev pub size : Span → ℕ
+size q = q .end - q .start
+
+-- both bytes are the same quote, `"` or `'` (01, Rules)
+unfoldable pub equalQuotes : ℕ → ℕ → Bool
+equalQuotes x y = (eqb x 0x22 && eqb y 0x22) || (eqb x 0x27 && eqb y 0x27)
+
+-- n bytes, of which x is the first and y the last, give no name: a semicolon, or a pair of quotes with nothing in it (01, Rules)
 unfoldable pub isNoName : ℕ → ℕ → ℕ → Bool
-isNoName n x y = (eqb n 1 && eqb x 0x3b) || (eqb n 2 && ((eqb x 0x22 && eqb y 0x22) || (eqb x 0x27 && eqb y 0x27)))
+isNoName n x y = (eqb n 1 && eqb x 0x3b) || (eqb n 2 && equalQuotes x y)
 
--- a name in quotes: the same quote at both ends, and something between them (01, Rules)
+-- they give a name: equal quotes, and more than 2 bytes (01, Rules)
 unfoldable pub isName : ℕ → ℕ → ℕ → Bool
-isName n x y = ltb 2 n && ((eqb x 0x27 && eqb y 0x27) || (eqb x 0x22 && eqb y 0x22))
+isName n x y = ltb 2 n && equalQuotes x y
 
 -- which of the three it is: no name, a name in quotes, or a bad one (01, Rules)
 unfoldable pub labelBy : ℕ → ℕ → ℕ → Label
 labelBy n x y = cond (isNoName n x y) Unnamed (cond (isName n x y) Named Misnamed)
 
--- what stands from p to t (01, Rules)
-unfoldable pub labelOf : List ℕ → ℕ → ℕ → Label
-labelOf s p t = labelBy (t - p) (byte s p) (byte s (t - 1))
+-- what stands at q is told by its length, its first byte and its last (01, Rules)
+unfoldable pub labelOf : List ℕ → Span → Label
+labelOf s q = labelBy (size q) (byte s (q .start)) (byte s (q .end - 1))
+
+-- the rule that has the name at q, whatever its quotes; the number of rules where there is none (01, Rules)
+unfoldable pub ruleNamed : List ℕ → Span → List Rule → ℕ
+ruleNamed s q rs = findRule s (q .start + 1) (q .end - 1) rs
 
 -- ---- the heading
 
--- a rule without a name: its span is empty and stands right behind the blank at r (01, Rules)
-abbrev pub headUnnamed : ℕ → ℕ → ℕ → Head
-headUnnamed r operation target = record {
+-- the span of a rule without a name is empty and stands behind the blank at r (01, Rules)
+abbrev pub noNameSpan : ℕ → Span
+noNameSpan r = span (r + 1) (r + 1)
+
+-- the span of a rule with a name, which stands at q with its quotes: from the blank at r plus 2 to the blank plus the length of q, also after a target (01, Rules)
+abbrev pub nameSpan : ℕ → Span → Span
+nameSpan r q = span (r + 2) (r + size q)
+
+-- a rule without a name (01, Rules)
+abbrev pub headUnnamed : ℕ → TargetState → Head
+headUnnamed r x = record {
   named = 0;
-  «span_start» = r + 1;
-  «span_end» = r + 1;
+  «span_start» = noNameSpan r .start;
+  «span_end» = noNameSpan r .end;
   «name_from» = 0;
   «name_length» = 0;
-  operation = operation;
-  target = target;
+  operation = x .operation;
+  target = x .id;
 }
 
--- a rule whose name stands from p to t, with its quotes. The span is counted from the blank at r as if there were no target (01, Rules)
-abbrev pub headNamed : ℕ → ℕ → ℕ → ℕ → ℕ → Head
-headNamed r p t operation target = record {
+-- a rule with the quoted name at q: the name's own place is without the quotes (01, Rules)
+abbrev pub headNamed : ℕ → Span → TargetState → Head
+headNamed r q x = record {
   named = 1;
-  «span_start» = r + 2;
-  «span_end» = r + (t - p);
-  «name_from» = p + 1;
-  «name_length» = t - p - 2;
-  operation = operation;
-  target = target;
+  «span_start» = nameSpan r q .start;
+  «span_end» = nameSpan r q .end;
+  «name_from» = q .start + 1;
+  «name_length» = size q - 2;
+  operation = x .operation;
+  target = x .id;
 }
 
--- j is the rule of the same name, or the number of rules where there is none; if there is one, nothing more of this line is read (01, Rules)
-unfoldable pub headingAt : ℕ → Head → ℕ → List Rule → Heading
-headingAt r h j rs =
-    cond (ltb j (length rs)) (Repeated (nthRule rs j .«span_start») (nthRule rs j .«span_end») (h .«span_start») (h .«span_end»)) (Fresh r h)
+-- a name that the rule x has already: its span, and that of this rule (01, Rules)
+abbrev pub repeats : Rule → Head → Heading
+repeats x h = Repeated (x .«span_start») (x .«span_end») (h .«span_start») (h .«span_end»)
 
--- what stands from p to t behind the target (01, Rules)
-unfoldable pub headingBy : List ℕ → ℕ → ℕ → ℕ → ℕ → ℕ → Label → List Rule → Heading
-headingBy s r t operation target p Unnamed rs = Fresh r (headUnnamed r operation target)
-headingBy s r t operation target p Named rs = headingAt r (headNamed r p t operation target) (findRule s (p + 1) (t - 1) rs) rs
-headingBy s r t operation target p Misnamed rs = Faulty InvalidName (r + 1)
+-- behind the blank and the target stands q: no name; a bad one, a fault behind the blank; one that a rule has already; or a new one (01, Rules)
+unfoldable pub headingBehind : List ℕ → ℕ → TargetState → Span → List Rule → Heading
+headingBehind s r x q rs =
+    elim (labelOf s q) [
+      | Unnamed ↦ Fresh r (headUnnamed r x)
+      | Misnamed ↦ Faulty InvalidName (r + 1)
+      | Named ↦
+          cond (ltb (ruleNamed s q rs) (length rs)) (repeats (nthRule rs (ruleNamed s q rs)) (headNamed r q x))
+          (Fresh r (headNamed r q x))
+    ]
 
--- the heading behind its target (01, Rules)
-unfoldable pub headingAfter : List ℕ → ℕ → ℕ → Target → List Rule → Heading
-headingAfter s r t (To operation target p) rs = headingBy s r t operation target p (labelOf s p t) rs
-headingAfter s r t (Wrong kind at) rs = Faulty kind at
-
--- a line without a blank is a fault where it starts; any other has its heading behind the last blank (01, Rules)
-unfoldable pub headingFrom : List ℕ → ℕ → ℕ → Found → List State → List Rule → Heading
-headingFrom s i t Nothing xs rs = Faulty MissingSpace i
-headingFrom s i t (At r) xs rs = headingAfter s r t (targetOf s r t xs) rs
-
--- the line from i, trimmed at t (01, Rules)
+-- the line from i, trimmed at t: no blank, a fault where the line starts; a wrong target; or what stands behind the last blank and the target (01, Rules)
 unfoldable pub headingOf : List ℕ → ℕ → ℕ → List State → List Rule → Heading
-headingOf s i t xs rs = headingFrom s i t (lastBlank s i t) xs rs
+headingOf s i t xs rs =
+    elim (lastBlank s i t) [
+      | Nothing ↦ Faulty MissingSpace i
+      | At r ↦
+          elim (targetOf s r t xs) [
+            | Wrong kind at ↦ Faulty kind at
+            | To x p ↦ headingBehind s r x (span p t) rs
+          ]
+    ]
 
 -- ---- the pattern from i to c
 
--- the `>` of a leading `<` is at g, or at c where there is none (01, Rules)
-unfoldable pub bodyTo : ℕ → ℕ → Body
-bodyTo c g = cond (ltb g c) (Listed g) Unclosed
+-- a leading `<` begins a list of states; an empty pattern has none (01, Rules)
+unfoldable pub hasList : List ℕ → ℕ → ℕ → Bool
+hasList s i c = ltb i c && eqb (byte s i) 0x3c
 
--- the kind of the pattern: with a list of states, with escapes to rewrite, or neither; an empty one has no list (01, Rules)
+-- where the list's `>` stands, the first there is; c where there is none (01, Rules)
+unfoldable pub listEnd : List ℕ → ℕ → ℕ → ℕ
+listEnd s i c = findByte s i c 0x3e
+
+-- the kind of the pattern: a list of states that is not closed, one that is, escapes to rewrite, or text as it stands (01, Rules)
 unfoldable pub bodyOf : List ℕ → ℕ → ℕ → Body
 bodyOf s i c =
-    cond (ltb i c && eqb (byte s i) 0x3c) (bodyTo c (findByte s i c 0x3e)) (cond (isRewritten s i c) Rewritten Plain)
+    cond (hasList s i c) (cond (leb c (listEnd s i c)) Unclosed (Listed (listEnd s i c)))
+    (cond (isRewritten s i c) Rewritten Plain)

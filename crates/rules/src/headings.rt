@@ -2,15 +2,17 @@
 ghost use mathlib.Core.Path.{_≡_};
 ghost use Prim.Native.Nat.{_+_, _-_, _≤_, _<_};
 ghost use lib.ListN.{length};
-ghost use Rattle.text.specs.Scan.{findByte};
+ghost use Rattle.text.specs.Walk.{Between};
 ghost use Rattle.area.specs.Contents.{stateFormat, ruleFormat, contents, Held};
-ghost use Rattle.names.specs.Names.{findState, findRule};
+ghost use Rattle.names.specs.Names.{findState};
 ghost use Rattle.names.specs.Marks.{Marked};
-ghost use Rattle.rules.specs.Heading.{operationOf, targetAt, targetBy, targetTo, targetOf, labelBy, labelOf, headUnnamed, headNamed, headingAt, headingBy, headingAfter, headingOf};
+ghost use Rattle.rules.specs.declared.Label.the-variants.{Named};
+ghost use Rattle.rules.specs.Heading.{operationOf, targetOperation, targetName, targetOf, span, labelBy, labelOf, headUnnamed, headNamed, headingBehind, headingOf};
 use crate::Head;
 use crate::Heading;
 use crate::Label;
 use crate::Target;
+use crate::TargetState;
 use area::read_rule;
 use fault::kinds::INVALID_NAME;
 use fault::kinds::INVALID_START_STATE;
@@ -38,57 +40,25 @@ fn parse_start_state_ops(x: u8) -> u16
     1
 }
 
-// The target whose name stands from a to the `>` at g.
-fn target_at(
-    src: &[u8],
-    r: usize,
-    a: usize,
-    g: usize,
-    operation: u16,
-    area1: &[u8],
-    n1: u16,
-) -> Target
-    requires { ⌜ ((r ≤ g) × (g < length (now src))) × (length (now src) ≤ 65535) ⌝ }
-    requires { ⌜ Held stateFormat (now area1) n1 ⌝ }
-    ensures { λ k. ⌜ k ≡ targetAt (length (contents stateFormat (now (area1 .entry)) n1)) r g operation (findState (now (src .entry)) a g (contents stateFormat (now (area1 .entry)) n1)) ⌝ }
+// The operation of a target.
+fn target_operation(src: &[u8], r: usize) -> u16
+    requires { ⌜ r < 65535 ⌝ }
+    ensures { λ k. ⌜ k ≡ targetOperation (now (src .entry)) r ⌝ }
 {
-    let j = get_start_state_by_name(src, a, g, area1, n1);
-    if j < n1 as usize {
-        return Target::To(operation, j as u16, g + 1);
-    }
-    Target::Wrong(UNKNOWN_START_STATE, (r + 1) as u16)
+    parse_start_state_ops(byte_at(src, r + 2))
 }
 
-// The name starts behind the `<`, or behind the `+` or `-` that follows.
-fn target_by(src: &[u8], r: usize, g: usize, operation: u16, area1: &[u8], n1: u16) -> Target
+// The state of a target whose `>` is at g, or n1. Its name starts behind the `<`, or behind the `+` or `-` that follows.
+fn target_id(src: &[u8], r: usize, g: usize, operation: u16, area1: &[u8], n1: u16) -> usize
     requires { ⌜ ((r ≤ g) × (g < length (now src))) × (length (now src) ≤ 65535) ⌝ }
+    requires { ⌜ operation ≡ targetOperation (now src) r ⌝ }
     requires { ⌜ Held stateFormat (now area1) n1 ⌝ }
-    ensures { λ k. ⌜ k ≡ targetBy (now (src .entry)) r g operation (contents stateFormat (now (area1 .entry)) n1) ⌝ }
+    ensures { λ k. ⌜ Between 0 n1 (findState (now (src .entry)) (targetName (now (src .entry)) r) g (contents stateFormat (now (area1 .entry)) n1)) k ⌝ }
 {
     if operation == 1 {
-        return target_at(src, r, r + 2, g, operation, area1, n1);
+        return get_start_state_by_name(src, r + 2, g, area1, n1);
     }
-    target_at(src, r, r + 3, g, operation, area1, n1)
-}
-
-// A target from the `<` at r + 1 on.
-fn target_to(src: &[u8], r: usize, t: usize, area1: &[u8], n1: u16) -> Target
-    requires { ⌜ ((r < t) × (t ≤ length (now src))) × (length (now src) ≤ 65535) ⌝ }
-    requires { ⌜ Held stateFormat (now area1) n1 ⌝ }
-    ensures { λ k. ⌜ k ≡ targetTo (now (src .entry)) r t (findByte (now (src .entry)) (r + 1) t 0x3e) (contents stateFormat (now (area1 .entry)) n1) ⌝ }
-{
-    let g = find_byte(src, r + 1, t, b'>');
-    if g < t {
-        return target_by(
-            src,
-            r,
-            g,
-            parse_start_state_ops(byte_at(src, r + 2)),
-            area1,
-            n1,
-        );
-    }
-    Target::Wrong(INVALID_START_STATE, r as u16)
+    get_start_state_by_name(src, r + 3, g, area1, n1)
 }
 
 fn target_of(src: &[u8], r: usize, t: usize, area1: &[u8], n1: u16) -> Target
@@ -96,10 +66,31 @@ fn target_of(src: &[u8], r: usize, t: usize, area1: &[u8], n1: u16) -> Target
     requires { ⌜ Held stateFormat (now area1) n1 ⌝ }
     ensures { λ k. ⌜ k ≡ targetOf (now (src .entry)) r t (contents stateFormat (now (area1 .entry)) n1) ⌝ }
 {
-    if byte_at(src, r + 1) == b'<' {
-        return target_to(src, r, t, area1, n1);
+    if byte_at(src, r + 1) != b'<' {
+        return Target::To(
+            TargetState {
+                operation: 0,
+                id: 0,
+            },
+            r + 1,
+        );
     }
-    Target::To(0, 0, r + 1)
+    let g = find_byte(src, r + 1, t, b'>');
+    if t <= g {
+        return Target::Wrong(INVALID_START_STATE, r as u16);
+    }
+    let operation = target_operation(src, r);
+    let id = target_id(src, r, g, operation, area1, n1);
+    if n1 as usize <= id {
+        return Target::Wrong(UNKNOWN_START_STATE, (r + 1) as u16);
+    }
+    Target::To(
+        TargetState {
+            operation: operation,
+            id: id as u16,
+        },
+        g + 1,
+    )
 }
 
 // ---- the name
@@ -108,12 +99,11 @@ fn target_of(src: &[u8], r: usize, t: usize, area1: &[u8], n1: u16) -> Target
 fn label_by(n: usize, x: u8, y: u8) -> Label
     ensures { λ k. ⌜ k ≡ labelBy n x y ⌝ }
 {
-    let double = (x == b'"') & (y == b'"');
-    let single = (x == b'\'') & (y == b'\'');
-    if ((n == 1) & (x == b';')) | ((n == 2) & (double | single)) {
+    let quoted = ((x == b'"') & (y == b'"')) | ((x == b'\'') & (y == b'\''));
+    if ((n == 1) & (x == b';')) | ((n == 2) & quoted) {
         return Label::Unnamed;
     }
-    if (2 < n) & (single | double) {
+    if (2 < n) & quoted {
         return Label::Named;
     }
     Label::Misnamed
@@ -122,16 +112,16 @@ fn label_by(n: usize, x: u8, y: u8) -> Label
 // What stands from p to t.
 fn label_of(src: &[u8], p: usize, t: usize) -> Label
     requires { ⌜ (1 ≤ t) × (p ≤ t) ⌝ }
-    ensures { λ k. ⌜ k ≡ labelOf (now (src .entry)) p t ⌝ }
+    ensures { λ k. ⌜ k ≡ labelOf (now (src .entry)) (span p t) ⌝ }
 {
     label_by(t - p, byte_at(src, p), byte_at(src, t - 1))
 }
 
 // ---- the heading
 
-fn head_unnamed(r: usize, operation: u16, target: u16) -> Head
+fn head_unnamed(r: usize, x: TargetState) -> Head
     requires { ⌜ r < 65535 ⌝ }
-    ensures { λ h. ⌜ h ≡ headUnnamed r operation target ⌝ }
+    ensures { λ h. ⌜ h ≡ headUnnamed r x ⌝ }
 {
     let at = (r + 1) as u16;
     Head {
@@ -140,15 +130,15 @@ fn head_unnamed(r: usize, operation: u16, target: u16) -> Head
         span_end: at,
         name_from: 0,
         name_length: 0,
-        operation: operation,
-        target: target,
+        operation: x.operation,
+        target: x.id,
     }
 }
 
 // The name with its quotes stands from p to t.
-fn head_named(r: usize, p: usize, t: usize, operation: u16, target: u16) -> Head
+fn head_named(r: usize, p: usize, t: usize, x: TargetState) -> Head
     requires { ⌜ ((r < p) × (p + 2 < t)) × (t ≤ 65535) ⌝ }
-    ensures { λ h. ⌜ h ≡ headNamed r p t operation target ⌝ }
+    ensures { λ h. ⌜ h ≡ headNamed r (span p t) x ⌝ }
 {
     Head {
         named: 1,
@@ -156,43 +146,44 @@ fn head_named(r: usize, p: usize, t: usize, operation: u16, target: u16) -> Head
         span_end: (r + (t - p)) as u16,
         name_from: (p + 1) as u16,
         name_length: (t - p - 2) as u16,
-        operation: operation,
-        target: target,
+        operation: x.operation,
+        target: x.id,
     }
 }
 
-// The head h, unless a rule has the name from p to t already.
-fn heading_at(
+// A quoted name stands from p to t: a rule has it already, or none.
+fn heading_named(
     src: &[u8],
     r: usize,
-    t: usize,
+    x: TargetState,
     p: usize,
-    h: Head,
+    t: usize,
     area2: &[u8],
     n2: u16,
     marks: &[u8],
 ) -> Heading
-    requires { ⌜ (p + 2 < t) × (t ≤ length (now src)) ⌝ }
+    requires { ⌜ ((r < p) × (p + 2 < t)) × ((t ≤ length (now src)) × (length (now src) ≤ 65535)) ⌝ }
+    requires { ⌜ labelOf (now src) (span p t) ≡ Named ⌝ }
     requires { ⌜ Held ruleFormat (now area2) n2 ⌝ }
     requires { ⌜ Marked (now src) (contents ruleFormat (now area2) n2) (now marks) ⌝ }
-    ensures { λ k. ⌜ k ≡ headingAt r h (findRule (now (src .entry)) (p + 1) (t - 1) (contents ruleFormat (now (area2 .entry)) n2)) (contents ruleFormat (now (area2 .entry)) n2) ⌝ }
+    ensures { λ k. ⌜ k ≡ headingBehind (now (src .entry)) r x (span p t) (contents ruleFormat (now (area2 .entry)) n2) ⌝ }
 {
+    let h = head_named(r, p, t, x);
     let j = find_rule(src, p + 1, t - 1, area2, n2, marks);
     if j < n2 as usize {
-        let x = read_rule(area2, j);
-        return Heading::Repeated(x.span_start, x.span_end, h.span_start, h.span_end);
+        let y = read_rule(area2, j);
+        return Heading::Repeated(y.span_start, y.span_end, h.span_start, h.span_end);
     }
     Heading::Fresh(r, h)
 }
 
 // What stands from p to t behind the target.
-fn heading_by(
+fn heading_behind(
     src: &[u8],
     r: usize,
-    t: usize,
-    operation: u16,
-    target: u16,
+    x: TargetState,
     p: usize,
+    t: usize,
     area2: &[u8],
     n2: u16,
     marks: &[u8],
@@ -200,40 +191,12 @@ fn heading_by(
     requires { ⌜ ((r < p) × (p ≤ t)) × ((t ≤ length (now src)) × (length (now src) ≤ 65535)) ⌝ }
     requires { ⌜ Held ruleFormat (now area2) n2 ⌝ }
     requires { ⌜ Marked (now src) (contents ruleFormat (now area2) n2) (now marks) ⌝ }
-    ensures { λ k. ⌜ k ≡ headingBy (now (src .entry)) r t operation target p (labelOf (now (src .entry)) p t) (contents ruleFormat (now (area2 .entry)) n2) ⌝ }
+    ensures { λ k. ⌜ k ≡ headingBehind (now (src .entry)) r x (span p t) (contents ruleFormat (now (area2 .entry)) n2) ⌝ }
 {
     match label_of(src, p, t) {
-        Label::Unnamed => Heading::Fresh(r, head_unnamed(r, operation, target)),
-        Label::Named => {
-            let h = head_named(r, p, t, operation, target);
-            heading_at(src, r, t, p, h, area2, n2, marks)
-        }
+        Label::Unnamed => Heading::Fresh(r, head_unnamed(r, x)),
+        Label::Named => heading_named(src, r, x, p, t, area2, n2, marks),
         Label::Misnamed => Heading::Faulty(INVALID_NAME, (r + 1) as u16),
-    }
-}
-
-// What stands behind the blank at r.
-fn heading_after(
-    src: &[u8],
-    r: usize,
-    t: usize,
-    area1: &[u8],
-    n1: u16,
-    area2: &[u8],
-    n2: u16,
-    marks: &[u8],
-) -> Heading
-    requires { ⌜ ((r < t) × (t ≤ length (now src))) × (length (now src) ≤ 65535) ⌝ }
-    requires { ⌜ Held stateFormat (now area1) n1 ⌝ }
-    requires { ⌜ Held ruleFormat (now area2) n2 ⌝ }
-    requires { ⌜ Marked (now src) (contents ruleFormat (now area2) n2) (now marks) ⌝ }
-    ensures { λ k. ⌜ k ≡ headingAfter (now (src .entry)) r t (targetOf (now (src .entry)) r t (contents stateFormat (now (area1 .entry)) n1)) (contents ruleFormat (now (area2 .entry)) n2) ⌝ }
-{
-    match target_of(src, r, t, area1, n1) {
-        Target::To(operation, target, p) => {
-            heading_by(src, r, t, operation, target, p, area2, n2, marks)
-        }
-        Target::Wrong(kind, at) => Heading::Faulty(kind, at),
     }
 }
 
@@ -255,7 +218,10 @@ pub fn heading_of(
     ensures { λ k. ⌜ k ≡ headingOf (now (src .entry)) i t (contents stateFormat (now (area1 .entry)) n1) (contents ruleFormat (now (area2 .entry)) n2) ⌝ }
 {
     match last_blank(src, i, t) {
-        Found::At(r) => heading_after(src, r, t, area1, n1, area2, n2, marks),
         Found::Nothing => Heading::Faulty(MISSING_SPACE, i as u16),
+        Found::At(r) => match target_of(src, r, t, area1, n1) {
+            Target::Wrong(kind, at) => Heading::Faulty(kind, at),
+            Target::To(x, p) => heading_behind(src, r, x, p, t, area2, n2, marks),
+        },
     }
 }

@@ -4,9 +4,15 @@ pub mod entries; // the list of states in front of a pattern
 pub mod headings; // what stands behind the last blank of a line
 pub mod record; // the record of a rule
 
-// A target: operation, state id and the place behind it; or the kind and the place of its fault.
+// What a rule does with the stack of states, and with which of them: both 0 where the rule has no target.
+pub struct TargetState {
+    pub operation: u16,
+    pub id: u16,
+}
+
+// A target, or none, and the place behind it; or the kind and the place of its fault.
 pub enum Target {
-    To(u16, u16, usize),
+    To(TargetState, usize),
     Wrong(u16, u16),
 }
 

@@ -1,4 +1,4 @@
--- `rules::headings::heading_of` meets its contract: the last blank stands within the line.
+-- `rules::headings::heading_of` meets its contract: the last blank stands within the line, and so does the place behind the target.
 use Rattle.rules.proofs.Heads.{heading}
 use Rattle.rules.proofs.headings.heading_of.Statement.{statement}
 use Rattle.rules.proofs.headings.heading_of.Tie as tie
@@ -9,8 +9,12 @@ heading-of-spec =
     (tie.spec
     (λ c κs. search heading)
     (λ c. search heading)
+    (λ c. search heading)
+    (λ c. search heading)
     (λ c κs. search heading)
     (λ c. search heading)
+    (λ c. search heading)
+    (λ c κs. (((search heading, search heading), (search heading, search heading)), (search heading, search heading)))
     (λ c. search heading)
     (λ c. search heading)
     (λ c. search heading))

@@ -1,17 +1,16 @@
--- `rules::headings::heading_by` meets its contract: a branch for each label; a name in quotes has more than 2 bytes.
+-- `rules::headings::heading_behind` meets its contract: a branch for each label; a name in quotes has more than 2 bytes.
 use Rattle.rules.proofs.Heads.{heading}
-use Rattle.rules.proofs.headings.heading_by.Statement.{statement}
-use Rattle.rules.proofs.headings.heading_by.Tie as tie
+use Rattle.rules.proofs.headings.heading_behind.Statement.{statement}
+use Rattle.rules.proofs.headings.heading_behind.Tie as tie
 
-pub heading-by-spec : {M : Type 1} → statement M
-heading-by-spec =
+pub heading-behind-spec : {M : Type 1} → statement M
+heading-behind-spec =
     tie.close
     (tie.spec
     (λ c κs. search heading)
     (λ c. search heading)
     (λ c κs. search heading)
     (λ c. search heading)
-    (λ c κs. search heading)
     (λ c κs. search heading)
     (λ c. search heading)
     (λ c. search heading)
