@@ -2,7 +2,7 @@
 -- outcome is the file's meaning, whatever the areas had.
 use Prim.Native.Nat.{ℕ, zero, suc, _+_, _*_, _-_}
 use mathlib.Core.Path.{_≡_, refl, ap, subst}
-use mathlib.Core.Bool.{Bool, true, false, cond, _&&_}
+use mathlib.Core.Bool.{Bool, true, false, cond, not, _&&_}
 use mathlib.Core.List.{List, [], _∷_, _++_}
 use mathlib.Core.Option.{Option, none, some}
 use native.Mathlib.Nat.{mul-le-mul-right}
@@ -24,11 +24,10 @@ use Rattle.section.specs.Section.{toDeclaration, toRule}
 use Rattle.area.specs.Contents.{Format, append, stateFormat, ruleFormat, entryFormat, textFormat, expectedFormat, faultFormat}
 use Rattle.fault.specs.Step.{Out, go, bad, full, next, onto, written, loop}
 use Rattle.fault.specs.Faults.{findFault, UnknownDeclaration, InvalidName, UnknownStartState, DuplicateStartState, InvalidStartState, InvalidStartStateName, DuplicateName, RegexError, VerbatimNotSupported, addFault, addSpan, addPair, repeatAt, addRepeat}
-use Rattle.declarations.specs.declared.Naming.{Naming}
-use Rattle.declarations.specs.declared.Naming.the-variants.{Malformed, Known, New}
 use Rattle.declarations.specs.declared.Declaration.{Declaration}
 use Rattle.declarations.specs.declared.Declaration.the-variants.{States, Expecting, Unknown}
-use Rattle.declarations.specs.Declarations.{Names, names, Declared, withNames, withExpected, state, expected, isQuoted, declareState, nameTo, nextName, stateNames, expectedTo, nextExpected, expectedNames, declareAs, declaration, nextDeclaration, endDeclarations, declarations}
+use Rattle.names.specs.Names.{isStateName}
+use Rattle.declarations.specs.Declarations.{Range, range, Names, names, nameCaps, Declared, withNames, withExpected, expected, isQuoted, behindName, addState, repeatState, stateNamed, declareState, stateNames, declareExpected, expectedNames, declareAs, declaration, nextDeclaration, endDeclarations, declarations}
 use Rattle.rules.specs.declared.Head.{Head}
 use Rattle.rules.specs.declared.Heading.{Heading}
 use Rattle.rules.specs.declared.Heading.the-variants.{Faulty, Repeated, Fresh}
@@ -152,35 +151,37 @@ module _ (c d : ℕ) (w : Roomier faultFormat c d) where
 -- ---- declarations
 
 module _ (k l : Caps) (w : Wider k l) (s : List ℕ) (flags : ℕ) where
-  grow-state : (exclusive a e i : ℕ) (x : Naming) (n : Names) → Stays (declareState (k .c1) (k .c6) exclusive a e i x n) (declareState (l .c1) (l .c6) exclusive a e i x n)
-  unfolding declareState
-  grow-state exclusive a e i Malformed n = stays-self (bad InvalidStartStateName a n)
-  grow-state exclusive a e i (Known x y) n = stays-onto (names (n .states)) (stays-written 6 i (grown-repeat (k .c6) (l .c6) (w .w6) DuplicateStartState x y a e (n .faults)))
-  grow-state exclusive a e i New n = stays-onto (λ xs. names xs (n .faults)) (stays-written 1 i (grown-append stateFormat (k .c1) (l .c1) (w .w1) (state a e exclusive ∷ []) (n .states)))
+  grow-state : (x : State) (n : Names) → Stays (declareState s (nameCaps (k .c1) (k .c6)) x n) (declareState s (nameCaps (l .c1) (l .c6)) x n)
+  unfolding declareState repeatState addState
+  grow-state x n =
+      stays-if (not (isStateName s (x .start) (x .end))) (stays-self (bad InvalidStartStateName (x .start) n))
+      (stays-if (ltb (stateNamed s x (n .states)) (length (n .states)))
+      (stays-onto (names (n .states)) (stays-written 6 (behindName s x) (grown-repeat (k .c6) (l .c6) (w .w6) DuplicateStartState _ _ (x .start) (x .end) (n .faults))))
+      (stays-onto (λ xs. names xs (n .faults)) (stays-written 1 (behindName s x) (grown-append stateFormat (k .c1) (l .c1) (w .w1) (x ∷ []) (n .states)))))
 
-  grow-names : (exclusive t a : ℕ) (n : Names) → Stays (stateNames s (k .c1) (k .c6) exclusive t a n) (stateNames s (l .c1) (l .c6) exclusive t a n)
-  unfolding stateNames nextName nameTo
-  grow-names exclusive t a n = stays-loop _ _ _ (λ j m. grow-state exclusive j _ _ _ m) (length s) a n
+  grow-names : (exclusive : ℕ) (r : Range) (n : Names) → Stays (stateNames s (nameCaps (k .c1) (k .c6)) exclusive r n) (stateNames s (nameCaps (l .c1) (l .c6)) exclusive r n)
+  unfolding stateNames
+  grow-names exclusive r n = stays-loop _ _ _ (λ j m. grow-state _ m) (length s) (r .from) n
 
-  grow-quoted : (i e a n : ℕ) (xs : List Expected) → Stays (expectedTo s (k .c5) i e a n xs) (expectedTo s (l .c5) i e a n xs)
-  unfolding expectedTo
-  grow-quoted i e a n xs =
-      stays-if (isQuoted s a n) (stays-written 5 _ (grown-append expectedFormat (k .c5) (l .c5) (w .w5) (expected (a + 1) (n - 1) ∷ []) xs)) (stays-self (bad InvalidName i xs))
+  grow-quoted : (line word : Range) (xs : List Expected) → Stays (declareExpected s (k .c5) line word xs) (declareExpected s (l .c5) line word xs)
+  unfolding declareExpected
+  grow-quoted line word xs =
+      stays-if (isQuoted s word) (stays-written 5 _ (grown-append expectedFormat (k .c5) (l .c5) (w .w5) (expected (word .from + 1) (word .to - 1) ∷ []) xs)) (stays-self (bad InvalidName (line .from) xs))
 
-  grow-expected : (i e v : ℕ) (xs : List Expected) → Stays (expectedNames s (k .c5) i e v xs) (expectedNames s (l .c5) i e v xs)
-  unfolding expectedNames nextExpected
-  grow-expected i e v xs = stays-loop _ _ _ (λ j ys. grow-quoted i e j _ ys) (length s) _ xs
+  grow-expected : (line : Range) (a : ℕ) (xs : List Expected) → Stays (expectedNames s (k .c5) line a xs) (expectedNames s (l .c5) line a xs)
+  unfolding expectedNames
+  grow-expected line a xs = stays-loop _ _ _ (λ j ys. grow-quoted line _ ys) (length s) _ xs
 
-  grow-declare : (i e : ℕ) (x : Declaration) (d : Declared) → Stays (declareAs s (declarationCaps k) i e x d) (declareAs s (declarationCaps l) i e x d)
+  grow-declare : (line : Range) (x : Declaration) (d : Declared) → Stays (declareAs s (declarationCaps k) line x d) (declareAs s (declarationCaps l) line x d)
   unfolding declareAs
-  grow-declare i e (States exclusive a t) d = stays-next (stays-onto (withNames d) (grow-names exclusive t a (names (d .states) (d .faults)))) (λ j m. stays-self (go e m))
-  grow-declare i e (Expecting v) d = stays-next (stays-onto (withExpected d) (grow-expected i e v (d .expected))) (λ j m. stays-self (go e m))
-  grow-declare i e Unknown d = stays-self (bad UnknownDeclaration i d)
+  grow-declare line (States exclusive a e) d = stays-next (stays-onto (withNames d) (grow-names exclusive (range a e) (names (d .states) (d .faults)))) (λ j m. stays-self (go (line .to) m))
+  grow-declare line (Expecting a) d = stays-next (stays-onto (withExpected d) (grow-expected line a (d .expected))) (λ j m. stays-self (go (line .to) m))
+  grow-declare line Unknown d = stays-self (bad UnknownDeclaration (line .from) d)
 
   grow-declarations : (i : ℕ) (d : Declared) → Stays (declarations s flags (declarationCaps k) i d) (declarations s flags (declarationCaps l) i d)
   unfolding declarations nextDeclaration declaration
   grow-declarations i d =
-      stays-next (stays-loop _ _ _ (λ j m. stays-next (grow-declare j _ _ m) (λ p t. stays-self (go (toDeclaration s flags p) t))) (length s) _ d) (λ j m. stays-self (endDeclarations s j m))
+      stays-next (stays-loop _ _ _ (λ j m. stays-next (grow-declare _ _ m) (λ p t. stays-self (go (toDeclaration s flags p) t))) (length s) _ d) (λ j m. stays-self (endDeclarations s j m))
 
   -- ---- rules
 

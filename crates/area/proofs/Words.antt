@@ -4,7 +4,7 @@ use mathlib.Core.Path.{_≡_, sym, ap, _∙_}
 use mathlib.Core.List.{List}
 use native.Mathlib.Omega.{arith}
 use Rattle.area.specs.Bytes.{fieldAt, fieldFrom}
-use Rattle.area.specs.Words.{Fields, fields, word, TwoBytes, AllBytes, Tells}
+use Rattle.area.specs.Words.{Fields, fields, word, TwoBytes, AllBytes, TellsApart}
 
 same-digit : (n m x y : ℕ) → n < 65536 → m < 65536 → n + 65536 * x ≡ m + 65536 * y → (n ≡ m) × (x ≡ y)
 same-digit n m x y h l e = (omega arith, omega arith)
@@ -17,12 +17,15 @@ same-fields p q h l e =
     λ i. fields (t1 .0 i) (t2 .0 i) (t3 .0 i) (t3 .1 i)
 
 -- an enum whose cases are read back from their fields
-pub tells-by : {A : Type 0} (of : A → Fields) (back : Fields → A) → ((x : A) → back (of x) ≡ x) → Tells of
+pub tells-by : {A : Type 0} (of : A → Fields) (back : Fields → A) → ((x : A) → back (of x) ≡ x) → TellsApart of
 tells-by of back again = record { same = λ x y h l e. sym (again x) ∙ ap back (same-fields (of x) (of y) h l e) ∙ again y }
 
--- fields of two bytes each, where only the values have to be looked at
 pub two-bytes : (number a b c : ℕ) → number < 65536 → a < 65536 → b < 65536 → c < 65536 → TwoBytes (fields number a b c)
 two-bytes number a b c h x y z = record { number = h; a = x; b = y; c = z }
+
+-- an answer without values
+pub no-values : (number : ℕ) → number < 65536 → TwoBytes (fields number 0 0 0)
+no-values number h = two-bytes number 0 0 0 h (omega arith) (omega arith) (omega arith)
 
 -- a field of bytes has two bytes
 pub field-small : (l : List ℕ) (at j : ℕ) → AllBytes l → fieldFrom l at j < 65536

@@ -30,5 +30,5 @@ pub record AllBytes (l : List ℕ) : Type 0 where
   pub small : (k : ℕ) → getD l k 0 < 256
 
 -- words tell answers apart: where the fields of two answers have two bytes each, equal words are those of equal answers
-pub record Tells {A : Type 0} (of : A → Fields) : Type 0 where
+pub record TellsApart {A : Type 0} (of : A → Fields) : Type 0 where
   pub same : (x y : A) → TwoBytes (of x) → TwoBytes (of y) → word (of x) ≡ word (of y) → x ≡ y

@@ -8,7 +8,7 @@ use borrow.Author.Tests.{eqb-true}
 use lib.Dec.{eqb}
 use Rattle.text.specs.Whitespace.{byte}
 use Rattle.text.proofs.Walks.{first-from, first-here}
-use Rattle.text.proofs.Blocks.{first-passes}
+use Rattle.text.proofs.Firsts.{first-passes}
 use Rattle.escape.specs.Escape.{nextBackslash}
 
 abbrev pub isBackslash : List ℕ → ℕ → Bool

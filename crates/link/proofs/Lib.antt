@@ -1,4 +1,3 @@
-pub mod Firsts
 pub mod Maps
 pub mod LinkedRules
 pub mod Counting

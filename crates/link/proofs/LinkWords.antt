@@ -11,8 +11,8 @@ use Rattle.text.proofs.Tests.{by-test, and-left, and-right}
 use Rattle.area.specs.declared.Rule.{Rule}
 use Rattle.area.specs.Records.{nthRule}
 use Rattle.area.specs.Contents.{contents}
-use Rattle.area.specs.Words.{Fields, TwoBytes, Tells}
-use Rattle.area.proofs.Words.{tells-by, two-bytes}
+use Rattle.area.specs.Words.{Fields, TwoBytes, TellsApart}
+use Rattle.area.proofs.Words.{tells-by, two-bytes, no-values}
 use Rattle.sheet_check.specs.SheetCheck.{SheetBytes, decoded, all, sheetCheck}
 use Rattle.sheet_check.proofs.Checked.{checked-contents}
 use Rattle.link.specs.declared.LinkAnswer.{LinkAnswer}
@@ -31,7 +31,7 @@ again BrokenSheet = refl
 again BrokenMap = refl
 again (AreaFull n) = refl
 
-pub link-tells : Tells linkFields
+pub link-tells : TellsApart linkFields
 link-tells = tells-by linkFields linkBack again
 
 -- ---- fields of two bytes
@@ -81,5 +81,5 @@ link-small b names entries x7 x8 =
     by-test Small (sheetCheck b) _ _
     (λ passed. by-test Small (mapCheck names entries) _ _
     (λ good. checked-small (b .source) (decoded b .rules) (entriesOf names entries) (b .area2) x7 x8 (checked-contents b passed .few-rules) (few-mapped names entries good))
-    (λ _. two-bytes 7 0 0 0 (omega arith) (omega arith) (omega arith) (omega arith)))
-    (λ _. two-bytes 6 0 0 0 (omega arith) (omega arith) (omega arith) (omega arith))
+    (λ _. no-values 7 (omega arith)))
+    (λ _. no-values 6 (omega arith))

@@ -17,7 +17,7 @@ use Rattle.text.specs.Range.{part, sameBytes, sameRange}
 use Rattle.text.proofs.Tests.{answer, and-left, and-right, le-or-lt}
 use Rattle.text.proofs.Walks.{first-found, first-again, first-ended}
 use Rattle.text.proofs.Ranges.{same-self}
-use Rattle.link.proofs.Firsts.{first-passes, first-low}
+use Rattle.text.proofs.Firsts.{first-passes, first-low}
 use Rattle.area.specs.Bytes.{fieldAt, fieldFrom}
 use Rattle.area.specs.Contents.{contents}
 use Rattle.sheet_check.specs.SheetCheck.{all}

@@ -6,8 +6,8 @@ use mathlib.Core.Option.{some}
 use Prim.Native.Nat.{ℕ, zero, suc, _+_, _%_, _<_}
 use native.Mathlib.Omega.{arith}
 use lib.ListN.{length, getD, drop, getElem?}
-use Rattle.area.specs.Words.{fields, TwoBytes, AllBytes}
-use Rattle.area.proofs.Words.{two-bytes}
+use Rattle.area.specs.Words.{TwoBytes, AllBytes}
+use Rattle.area.proofs.Words.{two-bytes, no-values}
 use Rattle.parse.specs.declared.Answer.{Answer}
 use Rattle.parse.specs.declared.Answer.the-variants as P
 use Rattle.parse.specs.Parse.{parseFields, parseWord}
@@ -31,9 +31,6 @@ use Rattle.machine.specs.Demand.{Follows, Session, sheetParsed, linkLeft
 use Rattle.machine.specs.Words.{AcceptsInWords, FollowsInWords, callsInWords, IN-WORDS}
 use Rattle.machine.proofs.Options.{some-is, none-some, place-inside}
 use Rattle.machine.proofs.Theorem.{demand}
-
-plain-small : (number : ℕ) → number < 65536 → TwoBytes (fields number 0 0 0)
-plain-small number h = two-bytes number 0 0 0 h (omega arith) (omega arith) (omega arith)
 
 -- ---- the words of accepted calls
 
@@ -88,11 +85,11 @@ means-small : (g : Given) (m : Machine) (row : List ℕ) (a : Step) (next : Mach
 unfolding stepFields
 means-small g m row BrokenSheet next h l e = absurd e
 means-small g m row BrokenRun next h l e = absurd e
-means-small g m row RowMismatch next h l e = plain-small 10 (omega arith)
-means-small g m row Done next h l e = plain-small 256 (omega arith)
-means-small g m row Stopped next h l e = plain-small 257 (omega arith)
-means-small g m row Unlinked next h l e = plain-small 258 (omega arith)
-means-small g m row Skip next h l e = plain-small 259 (omega arith)
+means-small g m row RowMismatch next h l e = no-values 10 (omega arith)
+means-small g m row Done next h l e = no-values 256 (omega arith)
+means-small g m row Stopped next h l e = no-values 257 (omega arith)
+means-small g m row Unlinked next h l e = no-values 258 (omega arith)
+means-small g m row Skip next h l e = no-values 259 (omega arith)
 means-small g m row (Token id start bytes) next h l (w, won, name, named, (j, x, at, same, is), from, long, _) =
     let low = won .fitting .low (won .place) (place-inside (g .file .rules) (won .place) (w .rule) (won .rule)) in
     two-bytes 260 id start bytes (omega arith) (omega (arith, is, l j x at)) (omega (arith, from, low, won .has, won .some-bytes, h)) (omega (arith, long, low, won .has, h))

@@ -2,7 +2,7 @@
 use mathlib.Core.Path.{_≡_, refl}
 use mathlib.Core.Bool.{cond}
 use lib.Dec.{eqb}
-use Rattle.area.specs.Words.{Fields, Tells}
+use Rattle.area.specs.Words.{Fields, TellsApart}
 use Rattle.area.proofs.Words.{tells-by}
 use Rattle.parse.specs.declared.Answer.{Answer}
 use Rattle.parse.specs.declared.Answer.the-variants.{Accepted, LongFile, UnknownFlag, InvalidUtf8, AreaFull, FaultyFile}
@@ -23,5 +23,5 @@ again InvalidUtf8 = refl
 again (AreaFull n) = refl
 again (FaultyFile n) = refl
 
-pub parse-tells : Tells parseFields
+pub parse-tells : TellsApart parseFields
 parse-tells = tells-by parseFields answerBack again

@@ -1,4 +1,3 @@
-pub mod Places
 pub mod Winning
 pub mod Fitting
 pub mod Moving

@@ -12,8 +12,8 @@ use Rattle.area.specs.declared.State.{State}
 use Rattle.area.specs.declared.Rule.{Rule}
 use Rattle.area.specs.Records.{entryWidth, entryAt, nthRule}
 use Rattle.area.specs.Contents.{contents, entryFormat}
-use Rattle.area.specs.Words.{Fields, fields, TwoBytes, AllBytes, Tells}
-use Rattle.area.proofs.Words.{tells-by, two-bytes, field-small}
+use Rattle.area.specs.Words.{Fields, TwoBytes, AllBytes, TellsApart}
+use Rattle.area.proofs.Words.{tells-by, two-bytes, no-values, field-small}
 use Rattle.sheet_check.specs.SheetCheck.{SheetBytes, decoded, sheetCheck, all, declared}
 use Rattle.sheet_check.proofs.PatternWords.{SmallRule, small-rule}
 use Rattle.run.specs.declared.Begun.{Begun}
@@ -33,7 +33,7 @@ unfolding startBack startFields
 start-again Started = refl
 start-again StartRefused = refl
 
-pub start-tells : Tells startFields
+pub start-tells : TellsApart startFields
 start-tells = tells-by startFields startBack start-again
 
 stepBack : Fields → Step
@@ -55,17 +55,13 @@ step-again Unlinked = refl
 step-again Skip = refl
 step-again (Token id start bytes) = refl
 
-pub step-tells : Tells stepFields
+pub step-tells : TellsApart stepFields
 step-tells = tells-by stepFields stepBack step-again
 
 -- ---- fields of two bytes
 
 abbrev Small : StepLeft → Type 0
 Small x = TwoBytes (stepFields (x .answer))
-
--- an answer without values
-plain-small : (number : ℕ) → number < 65536 → TwoBytes (fields number 0 0 0)
-plain-small number h = two-bytes number 0 0 0 h (omega arith) (omega arith) (omega arith)
 
 position-small : (states : ℕ) (r : Run) (s : List ℕ) → goodRun states r s ≡ true → r .position < 65536
 unfolding goodRun goodNumbers
@@ -89,8 +85,8 @@ module _ (rules : List Rule) (small : (k : ℕ) → SmallRule (nthRule rules k))
   unfolding wonBy stepFields
   won-small k bytes h p =
       by-test Small (eqb (nthRule rules k .named) 1) _ _
-      (λ _. by-test Small (eqb (nthRule rules k .«has_id») 1) _ _ (λ _. two-bytes 260 _ _ _ (omega arith) (small k .id) p h) (λ _. plain-small 258 (omega arith)))
-      (λ _. plain-small 259 (omega arith))
+      (λ _. by-test Small (eqb (nthRule rules k .«has_id») 1) _ _ (λ _. two-bytes 260 _ _ _ (omega arith) (small k .id) p h) (λ _. no-values 258 (omega arith)))
+      (λ _. no-values 259 (omega arith))
 
   weight-small : (states : List State) (lists : List ℕ) (state k : ℕ) → weight states rules lists state row k ≤ 65535
   unfolding weight
@@ -101,20 +97,20 @@ module _ (rules : List Rule) (small : (k : ℕ) → SmallRule (nthRule rules k))
   unfolding stepRun stepRow choose stepFields
   run-small states lists =
       by-test Small (goodRun (length states) r s) _ _
-      (λ good. by-test Small (eqb (r .position) (r .n)) _ _ (λ _. plain-small 256 (omega arith))
+      (λ good. by-test Small (eqb (r .position) (r .n)) _ _ (λ _. no-values 256 (omega arith))
       (λ _. by-test Small (goodRow (length rules) (r .n - r .position) row) _ _
-      (λ _. by-test Small (eqb (greatest (weight states rules lists (current r s) row) (length rules)) 0) _ _ (λ _. plain-small 257 (omega arith))
+      (λ _. by-test Small (eqb (greatest (weight states rules lists (current r s) row) (length rules)) 0) _ _ (λ _. no-values 257 (omega arith))
       (λ _. won-small _ _ (omega (arith, greatest-low (weight states rules lists (current r s) row) 65535 (length rules) (λ k _. weight-small states lists (current r s) k))) (position-small (length states) r s good)))
-      (λ _. plain-small 10 (omega arith))))
-      (λ _. plain-small 9 (omega arith))
+      (λ _. no-values 10 (omega arith))))
+      (λ _. no-values 9 (omega arith))
 
 pub step-small : (b : SheetBytes) (r : Run) (s row : List ℕ) → AllBytes (b .area2) → AllBytes row → TwoBytes (stepFields (stepCall b r s row .answer))
 unfolding stepCall stepFields decoded
 step-small b r s row rules-bytes row-bytes =
     by-test Small (sheetCheck b) _ _ (λ _. run-small (decoded b .rules) (λ k. small-rule (b .area2) (getD (b .counts) 1 0) k rules-bytes) r s row row-bytes (decoded b .states) (decoded b .lists))
-    (λ _. plain-small 6 (omega arith))
+    (λ _. no-values 6 (omega arith))
 
 pub start-small : (x : Begun) → TwoBytes (startFields x)
 unfolding startFields
-start-small Started = plain-small 0 (omega arith)
-start-small StartRefused = plain-small 8 (omega arith)
+start-small Started = no-values 0 (omega arith)
+start-small StartRefused = no-values 8 (omega arith)

@@ -22,7 +22,7 @@ use Rattle.sheet_check.proofs.Checked.{contents-read}
 use Rattle.run.specs.declared.Best.{Best}
 use Rattle.run.specs.Winner.{findState, listEnd, listed, live, lengthIn, weight, greatest, earliest, best, better}
 use Rattle.run.specs.Run.{Readable}
-use Rattle.run.proofs.Places.{first-passes, first-before, first-low, first-only}
+use Rattle.text.proofs.Firsts.{first-passes, first-before, first-low, first-only}
 
 -- ---- a state in a list
 

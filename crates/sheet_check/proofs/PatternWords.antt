@@ -11,8 +11,8 @@ use Rattle.text.proofs.Tests.{le-or-lt, by-test}
 use Rattle.area.specs.declared.Rule.{Rule}
 use Rattle.area.specs.Records.{ruleWidth, ruleOf, ruleAt, nthRule}
 use Rattle.area.specs.Contents.{contents, ruleFormat}
-use Rattle.area.specs.Words.{Fields, fields, TwoBytes, AllBytes, Tells}
-use Rattle.area.proofs.Words.{tells-by, two-bytes, field-small}
+use Rattle.area.specs.Words.{Fields, fields, TwoBytes, AllBytes, TellsApart}
+use Rattle.area.proofs.Words.{tells-by, two-bytes, no-values, field-small}
 use Rattle.sheet_check.specs.declared.Located.{Located}
 use Rattle.sheet_check.specs.declared.Located.the-variants.{Part, BrokenSheet}
 use Rattle.sheet_check.specs.SheetCheck.{SheetBytes, decoded}
@@ -28,7 +28,7 @@ unfolding locatedBack patternFields
 again (Part place from len) = refl
 again BrokenSheet = refl
 
-pub pattern-tells : Tells patternFields
+pub pattern-tells : TellsApart patternFields
 pattern-tells = tells-by patternFields locatedBack again
 
 -- ---- fields of two bytes
@@ -65,4 +65,4 @@ pattern-small b k h =
     (λ _.
     let r = small-rule (b .area2) (getD (b .counts) 1 0) k h in
     two-bytes 0 _ _ _ (omega arith) (r .place) (r .from) (r .len))
-    (λ _. two-bytes 6 0 0 0 (omega arith) (omega arith) (omega arith) (omega arith))
+    (λ _. no-values 6 (omega arith))

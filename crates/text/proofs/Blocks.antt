@@ -13,7 +13,7 @@ use borrow.Author.Tests.{eq-eqb, leb-false}
 use lib.Dec.{leb}
 use lib.ListN.{length}
 use Rattle.text.specs.Class.{isBlank}
-use Rattle.text.specs.Walk.{any, firstOf, first, Between}
+use Rattle.text.specs.Walk.{any, first, Between}
 use Rattle.text.specs.Whitespace.{byte, atLineEnd}
 use Rattle.text.specs.Scan.{findLineEnd, lineEnd, lastBlank}
 use Rattle.text.specs.Utf8.{charLen, skipChars, utf8}
@@ -22,6 +22,7 @@ use Rattle.text.proofs.Tests.{le-or-lt, or-none, not-true}
 use Rattle.text.proofs.Shortcuts.{told}
 use Rattle.text.proofs.Spaces.{end-may-start}
 use Rattle.text.proofs.Walks.{first-here, first-over, first-from, last-none, last-over, scanning-down, skip-stays, skip-goes}
+use Rattle.text.proofs.Firsts.{first-passes, first-before}
 use Rattle.text.proofs.Chars.{char-one, char-fits, char-inside, walking}
 
 -- ---- all of the first n positions
@@ -56,54 +57,16 @@ block-fails test k m e a b =
 
 -- ---- the first that passes
 
-first-of-fails : (test : ℕ → Bool) (n i m : ℕ) → i ≤ m → m < firstOf test i n → test m ≡ false
-unfolding firstOf
-first-of-fails test zero i m a = λ b. absurd (omega arith)
-first-of-fails test (suc n) i m a = go (test i) refl (first-of-fails test n (suc i) m)
-  where
-    go :
-        (t : Bool)
-        → test i ≡ t
-        → (suc i ≤ m → m < firstOf test (suc i) n → test m ≡ false)
-        → m < cond t i (firstOf test (suc i) n)
-        → test m ≡ false
-    go true e ih h = absurd (omega arith)
-    go false e ih h = ⊎-elim (λ q. ap test (sym q) ∙ e) (λ l. ih l h) (eq-or-lt-of-le a)
-
-first-of-passes : (test : ℕ → Bool) (n i : ℕ) → firstOf test i n < i + n → test (firstOf test i n) ≡ true
-unfolding firstOf
-first-of-passes test zero i = λ h. absurd (omega arith)
-first-of-passes test (suc n) i = go (test i) refl (first-of-passes test n (suc i))
-  where
-    go :
-        (t : Bool)
-        → test i ≡ t
-        → (firstOf test (suc i) n < suc i + n → test (firstOf test (suc i) n) ≡ true)
-        → cond t i (firstOf test (suc i) n) < i + suc n
-        → test (cond t i (firstOf test (suc i) n)) ≡ true
-    go true e ih h = e
-    go false e ih h = ih (omega arith)
-
--- where it stands before m, the test passes there
-pub first-passes : (test : ℕ → Bool) (i m : ℕ) → i ≤ m → first test i m < m → test (first test i m) ≡ true
-unfolding first
-first-passes test i m h n = first-of-passes test (m - i) i (omega arith)
-
 module _ (test : ℕ → Bool) (i m e : ℕ) (h : i ≤ m) (l : m ≤ e) where
   -- none before m: it goes on from there
   pub first-behind : m ≤ first test i m → first test i e ≡ first test m e
-  unfolding first
-  first-behind n = first-over test i m e h l (λ k a b. first-of-fails test (m - i) i k a (omega arith))
-
-  fails : (k : ℕ) → i ≤ k → k < first test i m → test k ≡ false
-  unfolding first
-  fails k a b = first-of-fails test (m - i) i k a b
+  first-behind n = first-over test i m e h l (λ k a b. first-before test i m h k a (omega arith))
 
   -- one before m: it is the same up to e
   pub first-cut : first test i m < m → first test i m ≡ first test i e
   first-cut n =
       first-here test (first test i m) e (omega arith) (first-passes test i m h n)
-      ∙ sym (first-over test i (first test i m) e (first-from test i m) (omega arith) fails)
+      ∙ sym (first-over test i (first test i m) e (first-from test i m) (omega arith) (first-before test i m h))
 
   pub first-shorter : first test i e < m → first test i m ≡ first test i e
   first-shorter n =
