@@ -26,6 +26,8 @@ use Rattle.fault.specs.Step.{Out, go, bad, full, next, onto, loop, Does, progre
 use Rattle.fault.specs.Faults.{UnknownDeclaration, PrematureEnd}
 use Rattle.fault.proofs.Steps.{Loops, loops-stop, loops-next, loops-bad, loops-full, going-start, does-go, does-bad, does-full, was-go, was-bad, was-full, bad-goes, full-goes, then-go, then-bad, then-full}
 use Rattle.section.specs.Section.{percents, toDeclaration, inSection}
+use Rattle.section.specs.Reader.{NextLine}
+use Rattle.section.specs.declared.reader.Line.{Line}
 use Rattle.section.proofs.Lines.{ahead-within, in-section-inside, declaration-starts, line-has-byte}
 use Rattle.declarations.specs.declared.Declaration.{Declaration}
 use Rattle.declarations.specs.declared.Declaration.the-variants.{States, Expecting, Unknown}
@@ -162,36 +164,44 @@ declared-at s k i e d {j} {t} z = by (declarationOf s (range i e)) z
 abbrev sizes : List ℕ → List ℕ → List ℕ → Caps
 sizes l1 l5 l6 = capsOf (length l1) (length l5) (length l6)
 
--- the loop has come to the place i, where no whitespace stands
-pub record Sections (whole : Out Declared) (s : List ℕ) (flags : ℕ) (k1 k5 k6 : List ℕ) (i : ℕ) (l1 l5 l6 : List ℕ) (q : DeclarationCounts) : Type 0 where
+-- the loop has come to the line x, at whose start no whitespace stands
+pub record Sections (whole : Out Declared) (s : List ℕ) (flags : ℕ) (k1 k5 k6 : List ℕ) (x : Line) (l1 l5 l6 : List ℕ) (q : DeclarationCounts) : Type 0 where
   pub held : HeldDeclared l1 l5 l6 q
-  pub within : i ≤ length s
-  pub starts : whitespaceLen s i ≡ 0
+  pub within : x .start ≤ length s
+  pub ends : Between (x .start) (length s) (lineEnd s (x .start)) (x .end)
+  pub starts : whitespaceLen s (x .start) ≡ 0
   pub long1 : length l1 ≡ length k1
   pub long5 : length l5 ≡ length k5
   pub long6 : length l6 ≡ length k6
-  pub loops : Loops whole (inSection s) (λ c. nextDeclaration s flags c) (length s) (sizes k1 k5 k6) (sizes l1 l5 l6) i (declaredIn l1 l5 l6 q)
+  pub loops : Loops whole (inSection s) (λ c. nextDeclaration s flags c) (length s) (sizes k1 k5 k6) (sizes l1 l5 l6) (x .start) (declaredIn l1 l5 l6 q)
 
 -- the section's loop, from the place i
 abbrev pub section : List ℕ → ℕ → Caps → ℕ → Declared → Out Declared
 section s flags k i d = loop (length s) (inSection s) (nextDeclaration s flags k) (toDeclaration s flags i) d
 
-pub sections-start : (s : List ℕ) (flags i j : ℕ) (l1 l5 l6 : List ℕ) (q : DeclarationCounts) → HeldDeclared l1 l5 l6 q → Between i (length s) (toDeclaration s flags i) j
-    → Sections (section s flags (sizes l1 l5 l6) i (declaredIn l1 l5 l6 q)) s flags l1 l5 l6 j l1 l5 l6 q
-sections-start s flags i j l1 l5 l6 q h b = record {
+pub sections-start : (s : List ℕ) (flags i : ℕ) (x : Line) (l1 l5 l6 : List ℕ) (q : DeclarationCounts) → HeldDeclared l1 l5 l6 q → NextLine s (toDeclaration s flags) i x
+    → Sections (section s flags (sizes l1 l5 l6) i (declaredIn l1 l5 l6 q)) s flags l1 l5 l6 x l1 l5 l6 q
+sections-start s flags i x l1 l5 l6 q h b = record {
   held = h;
-  within = b .to;
-  starts = rw (b .is) (declaration-starts s flags i);
+  within = b .starts .to;
+  ends = b .ends;
+  starts = rw (b .starts .is) (declaration-starts s flags i);
   long1 = refl;
   long5 = refl;
   long6 = refl;
-  loops = record { going = rw (← b .is) (going-start (inSection s) (nextDeclaration s flags (sizes l1 l5 l6)) (length s) j (declaredIn l1 l5 l6 q) (length s) (omega arith)); same = refl };
+  loops = record { going = rw (← b .starts .is) (going-start (inSection s) (nextDeclaration s flags (sizes l1 l5 l6)) (length s) (x .start) (declaredIn l1 l5 l6 q) (length s) (omega arith)); same = refl };
 }
 
-module _ {whole : Out Declared} {s : List ℕ} {flags : ℕ} {k1 k5 k6 : List ℕ} {i : ℕ} {l1 l5 l6 : List ℕ} {q : DeclarationCounts} (x : Sections whole s flags k1 k5 k6 i l1 l5 l6 q)
-    (t : Bool) (tested : t ≡ inSection s i) (pass : t ≡ true) (e : ℕ) (b : Between i (length s) (lineEnd s i) e)
+module _ {whole : Out Declared} {s : List ℕ} {flags : ℕ} {k1 k5 k6 : List ℕ} {here : Line} {l1 l5 l6 : List ℕ} {q : DeclarationCounts} (x : Sections whole s flags k1 k5 k6 here l1 l5 l6 q)
+    (t : Bool) (tested : t ≡ inSection s (here .start)) (pass : t ≡ true)
     {v1 v5 v6 : List ℕ} (r : DeclarationProgress)
-    (d : Does (HeldDeclared v1 v5 v6) (declaration s (sizes l1 l5 l6) i e) (declaredIn l1 l5 l6 q) (declaredIn v1 v5 v6) (declarationProgress r)) where
+    (d : Does (HeldDeclared v1 v5 v6) (declaration s (sizes l1 l5 l6) (here .start) (here .end)) (declaredIn l1 l5 l6 q) (declaredIn v1 v5 v6) (declarationProgress r)) where
+  abbrev i : ℕ
+  i = here .start
+
+  abbrev e : ℕ
+  e = here .end
+
   inside : i < length s
   inside = in-section-inside s i t tested pass (x .within)
 
@@ -200,26 +210,26 @@ module _ {whole : Out Declared} {s : List ℕ} {flags : ℕ} {k1 k5 k6 : List �
 
   is-next : nextDeclaration s flags (sizes l1 l5 l6) i (declaredIn l1 l5 l6 q) ≡ next (declaration s (sizes l1 l5 l6) i e (declaredIn l1 l5 l6 q)) (λ j y. go (toDeclaration s flags j) y)
   unfolding nextDeclaration
-  is-next = rw (← b .is)
+  is-next = rw (← x .ends .is)
 
-  module _ (j : ℕ) (p : DeclarationCounts) (z : r ≡ Go j p) (m : ℕ) (c : Between e (length s) (toDeclaration s flags e) m) where
-    went : Moved (go m p)
+  module _ (j : ℕ) (p : DeclarationCounts) (z : r ≡ Go j p) (y : Line) (c : NextLine s (toDeclaration s flags) e y) where
+    went : Moved (go (y .start) p)
     went =
         let at : e ≡ j = declared-at s (sizes l1 l5 l6) i e (declaredIn l1 l5 l6 q) (was-go d (ap declarationProgress z)) in
-        subst (λ (k : ℕ). Moved (go k p)) (ap (toDeclaration s flags) (sym at) ∙ sym (c .is)) (then-go (toDeclaration s flags) is-next d (ap declarationProgress z))
+        subst (λ (k : ℕ). Moved (go k p)) (ap (toDeclaration s flags) (sym at) ∙ sym (c .starts .is)) (then-go (toDeclaration s flags) is-next d (ap declarationProgress z))
 
-    forward : i < m
-    forward =
-        omega (arith, line-has-byte s i inside (end-none-of-white s i (x .starts)), b .is, c .from)
+    forward : i < y .start
+    forward = omega (arith, line-has-byte s i inside (end-none-of-white s i (x .starts)), x .ends .is, c .starts .from)
 
-    pub sections-less : length s - m < length s - i
-    sections-less = omega (arith, forward, c .to)
+    pub sections-less : length s - y .start < length s - i
+    sections-less = omega (arith, forward, c .starts .to)
 
-    pub sections-next : length v1 ≡ length l1 → length v5 ≡ length l5 → length v6 ≡ length l6 → Sections whole s flags k1 k5 k6 m v1 v5 v6 p
+    pub sections-next : length v1 ≡ length l1 → length v5 ≡ length l5 → length v6 ≡ length l6 → Sections whole s flags k1 k5 k6 y v1 v5 v6 p
     sections-next e1 e5 e6 = record {
       held = d .goes j p (ap declarationProgress z);
-      within = c .to;
-      starts = rw (c .is) (declaration-starts s flags e);
+      within = c .starts .to;
+      ends = c .ends;
+      starts = rw (c .starts .is) (declaration-starts s flags e);
       long1 = e1 ∙ x .long1;
       long5 = e5 ∙ x .long5;
       long6 = e6 ∙ x .long6;
@@ -233,36 +243,36 @@ module _ {whole : Out Declared} {s : List ℕ} {flags : ℕ} {k1 k5 k6 : List �
   whole-full n z = loops-full (x .loops) (sym tested ∙ pass) inside (then-full (toDeclaration s flags) is-next d (ap declarationProgress z)) refl
 
 -- the section as a whole began at i₀ with the state d₀
-module _ (s : List ℕ) (flags : ℕ) (k : Caps) (i₀ : ℕ) (d₀ : Declared) {k1 k5 k6 : List ℕ} {i : ℕ} {l1 l5 l6 : List ℕ} {q : DeclarationCounts}
-    (x : Sections (section s flags k i₀ d₀) s flags k1 k5 k6 i l1 l5 l6 q) (t : Bool) (tested : t ≡ inSection s i) where
+module _ (s : List ℕ) (flags : ℕ) (k : Caps) (i₀ : ℕ) (d₀ : Declared) {k1 k5 k6 : List ℕ} {here : Line} {l1 l5 l6 : List ℕ} {q : DeclarationCounts}
+    (x : Sections (section s flags k i₀ d₀) s flags k1 k5 k6 here l1 l5 l6 q) (t : Bool) (tested : t ≡ inSection s (here .start)) where
   abbrev Ended : List ℕ → List ℕ → List ℕ → Out DeclarationCounts → Type 0
   Ended v1 v5 v6 o = Does (HeldDeclared v1 v5 v6) (declarations s flags k i₀) d₀ (declaredIn v1 v5 v6) o
 
-  module _ (stop : t ≡ false) (f : Found) (ahead : f ≡ lookaheadIs s percents i) where
-    at-end : declarations s flags k i₀ d₀ ≡ endDeclarations s i (declaredIn l1 l5 l6 q)
+  module _ (stop : t ≡ false) (f : Found) (ahead : f ≡ lookaheadIs s percents (here .start)) where
+    at-end : declarations s flags k i₀ d₀ ≡ endDeclarations s (here .start) (declaredIn l1 l5 l6 q)
     unfolding declarations
     at-end = ap (λ (o : Out Declared). next o (endDeclarations s)) (loops-stop (x .loops) (sym tested ∙ stop))
 
     pub section-ends : (j m : ℕ) → f ≡ At j → Between j (length s) (skipBlanks s j) m → Ended l1 l5 l6 (go m q)
     unfolding endDeclarations
     section-ends j m z b =
-        let w = ahead-within s percents i j (sym ahead ∙ z) in
+        let w = ahead-within s percents (here .start) j (sym ahead ∙ z) in
         does-go (at-end ∙ rw (← ahead, z, w .0, ← b .is)) (x .held)
 
-    pub section-cut : f ≡ Nothing → Ended l1 l5 l6 (bad PrematureEnd i q)
+    pub section-cut : f ≡ Nothing → Ended l1 l5 l6 (bad PrematureEnd (here .start) q)
     unfolding endDeclarations
     section-cut z = does-bad (at-end ∙ rw (← ahead, z)) (x .held)
 
-  module _ (pass : t ≡ true) (e : ℕ) (b : Between i (length s) (lineEnd s i) e) {v1 v5 v6 : List ℕ} (r : DeclarationProgress)
-      (d : Does (HeldDeclared v1 v5 v6) (declaration s (sizes l1 l5 l6) i e) (declaredIn l1 l5 l6 q) (declaredIn v1 v5 v6) (declarationProgress r)) where
+  module _ (pass : t ≡ true) {v1 v5 v6 : List ℕ} (r : DeclarationProgress)
+      (d : Does (HeldDeclared v1 v5 v6) (declaration s (sizes l1 l5 l6) (here .start) (here .end)) (declaredIn l1 l5 l6 q) (declaredIn v1 v5 v6) (declarationProgress r)) where
     pub section-bad : (kind at : ℕ) (p : DeclarationCounts) → r ≡ Bad kind at p → Ended v1 v5 v6 (bad kind at p)
     unfolding declarations
     section-bad kind at p z =
-        does-bad (ap (λ (o : Out Declared). next o (endDeclarations s)) (whole-bad x t tested pass e b r d kind at p z)) (d .ends kind at p (ap declarationProgress z))
+        does-bad (ap (λ (o : Out Declared). next o (endDeclarations s)) (whole-bad x t tested pass r d kind at p z)) (d .ends kind at p (ap declarationProgress z))
 
     pub section-full : (n : ℕ) → r ≡ Full n → Ended v1 v5 v6 (full n)
     unfolding declarations
-    section-full n z = does-full (ap (λ (o : Out Declared). next o (endDeclarations s)) (whole-full x t tested pass e b r d n z))
+    section-full n z = does-full (ap (λ (o : Out Declared). next o (endDeclarations s)) (whole-full x t tested pass r d n z))
 
 pub percents-inside : (s : List ℕ) (i : ℕ) (f : Found) → f ≡ lookaheadIs s percents i → i ≤ length s → (j : ℕ) → f ≡ At j → j ≤ length s
 percents-inside s i f ahead l j z = omega (arith, ahead-within s percents i j (sym ahead ∙ z))

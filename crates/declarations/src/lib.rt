@@ -14,12 +14,11 @@ use fault::kinds::UNKNOWN_DECLARATION;
 use line::declaration_of;
 use missing::expected_names;
 use section::in_section;
-use section::to_declaration;
+use section::reader::next_declaration;
+use section::reader::past_blanks;
 use states::declare_start_states;
 use text::Found;
 use text::range::lookahead_is;
-use text::scan::line_end;
-use text::scan::parse_spaces;
 
 // A name in a declaration of states: of no good form; a repeat of the state with that span; or new.
 pub enum Naming {
@@ -144,13 +143,12 @@ pub fn parse_declarations(
     requires { ⌜ HeldDeclared (now area1) (now area5) (now area6) q ⌝ }
     ensures { λ r. ⌜ Does (HeldDeclared (now (area1 .exit)) (now (area5 .exit)) (now (area6 .exit))) (declarations (now (src .entry)) flags (capsOf (length (now (area1 .entry))) (length (now (area5 .entry))) (length (now (area6 .entry)))) i) (declaredIn (now (area1 .entry)) (now (area5 .entry)) (now (area6 .entry)) q) (declaredIn (now (area1 .exit)) (now (area5 .exit)) (now (area6 .exit))) (declarationProgress r) ⌝ }
 {
-    let mut at = to_declaration(src, flags, i);
+    let mut line = next_declaration(src, flags, i);
     let mut counts = q;
-    while in_section(src, at) {
-        let e = line_end(src, at);
-        match parse_declaration(src, at, e, counts, area1, area5, area6) {
+    while in_section(src, line.start) {
+        match parse_declaration(src, line.start, line.end, counts, area1, area5, area6) {
             DeclarationProgress::Go(_, p) => {
-                at = to_declaration(src, flags, e);
+                line = next_declaration(src, flags, line.end);
                 counts = p;
             }
             DeclarationProgress::Bad(kind, place, p) => {
@@ -161,8 +159,8 @@ pub fn parse_declarations(
             }
         }
     }
-    match lookahead_is(src, b"%%", at) {
-        Found::At(j) => DeclarationProgress::Go(parse_spaces(src, j), counts),
-        Found::Nothing => DeclarationProgress::Bad(PREMATURE_END, at as u16, counts),
+    match lookahead_is(src, b"%%", line.start) {
+        Found::At(j) => DeclarationProgress::Go(past_blanks(src, j), counts),
+        Found::Nothing => DeclarationProgress::Bad(PREMATURE_END, line.start as u16, counts),
     }
 }

@@ -21,6 +21,8 @@ use Rattle.fault.specs.Faults.{addFault, addRepeat, DuplicateName, VerbatimNotS
 use Rattle.fault.proofs.Steps.{Loops, loops-stop, loops-next, loops-bad, loops-full, going-start, does-go, does-bad, does-full, does-onto, written-next, written-full, then-go, then-bad, then-full}
 use Rattle.names.specs.Marks.{Marked}
 use Rattle.section.specs.Section.{inSection, toRule, hasRoutines}
+use Rattle.section.specs.Reader.{NextLine}
+use Rattle.section.specs.declared.reader.Line.{Line}
 use Rattle.section.proofs.Lines.{in-section-inside, line-has-byte, rule-starts}
 use Rattle.rules.specs.declared.Head.{Head}
 use Rattle.rules.specs.declared.Heading.{Heading}
@@ -123,66 +125,75 @@ sizes l2 l3 l4 l6 = record { caps = sizesOf (length l2) (length l3) (length l4);
 abbrev body : List ℕ → ℕ → List ℕ → List State → Sizes → ℕ → Ruled → Out Ruled
 body s flags verdicts xs c i r = nextRule s flags verdicts xs (c .caps) (c .six) i r
 
--- the loop has come to the place i, where no line end stands, and the names of the rules so far have their marks
-pub record Rules (whole : Out Ruled) (s : List ℕ) (flags : ℕ) (verdicts : List ℕ) (xs : List State) (k2 k3 k4 k6 : List ℕ) (i : ℕ) (l2 l3 l4 l6 : List ℕ) (q : RuleCounts) (marks : List ℕ) : Type 0 where
+-- the loop has come to the line x, at whose start no line end stands, and the names of the rules so far have their marks
+pub record Rules (whole : Out Ruled) (s : List ℕ) (flags : ℕ) (verdicts : List ℕ) (xs : List State) (k2 k3 k4 k6 : List ℕ) (x : Line) (l2 l3 l4 l6 : List ℕ) (q : RuleCounts) (marks : List ℕ) : Type 0 where
   pub held : HeldRuled l2 l3 l4 l6 q
   pub marked : Marked s (contents ruleFormat l2 (q .rules)) marks
-  pub within : i ≤ length s
-  pub starts : lineEndLen s i ≡ 0
+  pub within : x .start ≤ length s
+  pub ends : Between (x .start) (length s) (lineEnd s (x .start)) (x .end)
+  pub starts : lineEndLen s (x .start) ≡ 0
   pub long2 : length l2 ≡ length k2
   pub long3 : length l3 ≡ length k3
   pub long4 : length l4 ≡ length k4
   pub long6 : length l6 ≡ length k6
-  pub loops : Loops whole (inSection s) (body s flags verdicts xs) (length s) (sizes k2 k3 k4 k6) (sizes l2 l3 l4 l6) i (ruledIn l2 l3 l4 l6 q)
+  pub loops : Loops whole (inSection s) (body s flags verdicts xs) (length s) (sizes k2 k3 k4 k6) (sizes l2 l3 l4 l6) (x .start) (ruledIn l2 l3 l4 l6 q)
 
-pub rules-start : (s : List ℕ) (flags : ℕ) (verdicts : List ℕ) (xs : List State) (i j : ℕ) (l2 l3 l4 l6 : List ℕ) (q : RuleCounts) → HeldRuled l2 l3 l4 l6 q → Between i (length s) (toRule s flags i) j
+pub rules-start : (s : List ℕ) (flags : ℕ) (verdicts : List ℕ) (xs : List State) (i : ℕ) (x : Line) (l2 l3 l4 l6 : List ℕ) (q : RuleCounts) → HeldRuled l2 l3 l4 l6 q → NextLine s (toRule s flags) i x
     → (marks : List ℕ) → Marked s (contents ruleFormat l2 (q .rules)) marks
-    → Rules (rules s flags verdicts xs (sizesOf (length l2) (length l3) (length l4)) (length l6) i (ruledIn l2 l3 l4 l6 q)) s flags verdicts xs l2 l3 l4 l6 j l2 l3 l4 l6 q marks
+    → Rules (rules s flags verdicts xs (sizesOf (length l2) (length l3) (length l4)) (length l6) i (ruledIn l2 l3 l4 l6 q)) s flags verdicts xs l2 l3 l4 l6 x l2 l3 l4 l6 q marks
 unfolding rules
-rules-start s flags verdicts xs i j l2 l3 l4 l6 q h b marks m = record {
+rules-start s flags verdicts xs i x l2 l3 l4 l6 q h b marks m = record {
   held = h;
   marked = m;
-  within = b .to;
-  starts = rw (b .is) (rule-starts s flags i);
+  within = b .starts .to;
+  ends = b .ends;
+  starts = rw (b .starts .is) (rule-starts s flags i);
   long2 = refl;
   long3 = refl;
   long4 = refl;
   long6 = refl;
   loops = record {
-    going = rw (← b .is) (going-start (inSection s) (nextRule s flags verdicts xs (sizesOf (length l2) (length l3) (length l4)) (length l6)) (length s) j (ruledIn l2 l3 l4 l6 q) (length s) (omega arith));
+    going = rw (← b .starts .is) (going-start (inSection s) (nextRule s flags verdicts xs (sizesOf (length l2) (length l3) (length l4)) (length l6)) (length s) (x .start) (ruledIn l2 l3 l4 l6 q) (length s) (omega arith));
     same = refl;
   };
 }
 
-module _ {whole : Out Ruled} {s : List ℕ} {flags : ℕ} {verdicts : List ℕ} {xs : List State} {k2 k3 k4 k6 : List ℕ} {i : ℕ} {l2 l3 l4 l6 : List ℕ} {q : RuleCounts} {marks : List ℕ}
-    (x : Rules whole s flags verdicts xs k2 k3 k4 k6 i l2 l3 l4 l6 q marks) (t : Bool) (tested : t ≡ inSection s i) (pass : t ≡ true) (e : ℕ) (b : Between i (length s) (lineEnd s i) e)
+module _ {whole : Out Ruled} {s : List ℕ} {flags : ℕ} {verdicts : List ℕ} {xs : List State} {k2 k3 k4 k6 : List ℕ} {here : Line} {l2 l3 l4 l6 : List ℕ} {q : RuleCounts} {marks : List ℕ}
+    (x : Rules whole s flags verdicts xs k2 k3 k4 k6 here l2 l3 l4 l6 q marks) (t : Bool) (tested : t ≡ inSection s (here .start)) (pass : t ≡ true)
     {v2 v3 v4 v6 : List ℕ} (r : RuleProgress)
-    (d : Does (HeldRuled v2 v3 v4 v6) (line s flags verdicts xs (sizesOf (length l2) (length l3) (length l4)) (length l6) i e) (ruledIn l2 l3 l4 l6 q) (ruledIn v2 v3 v4 v6) (ruleProgress r)) where
+    (d : Does (HeldRuled v2 v3 v4 v6) (line s flags verdicts xs (sizesOf (length l2) (length l3) (length l4)) (length l6) (here .start) (here .end)) (ruledIn l2 l3 l4 l6 q) (ruledIn v2 v3 v4 v6) (ruleProgress r)) where
+  abbrev i : ℕ
+  i = here .start
+
+  abbrev e : ℕ
+  e = here .end
+
   inside : i < length s
   inside = in-section-inside s i t tested pass (x .within)
 
   is-next : body s flags verdicts xs (sizes l2 l3 l4 l6) i (ruledIn l2 l3 l4 l6 q)
       ≡ next (line s flags verdicts xs (sizesOf (length l2) (length l3) (length l4)) (length l6) i e (ruledIn l2 l3 l4 l6 q)) (λ _ y. go (toRule s flags e) y)
   unfolding nextRule
-  is-next = rw (← b .is)
+  is-next = rw (← x .ends .is)
 
-  module _ (j : ℕ) (p : RuleCounts) (z : r ≡ Go j p) (m : ℕ) (c : Between e (length s) (toRule s flags e) m) where
-    went : Does (HeldRuled v2 v3 v4 v6) (body s flags verdicts xs (sizes l2 l3 l4 l6) i) (ruledIn l2 l3 l4 l6 q) (ruledIn v2 v3 v4 v6) (go m p)
-    went = rw (c .is) (then-go (λ _. toRule s flags e) is-next d (ap ruleProgress z))
+  module _ (j : ℕ) (p : RuleCounts) (z : r ≡ Go j p) (y : Line) (c : NextLine s (toRule s flags) e y) where
+    went : Does (HeldRuled v2 v3 v4 v6) (body s flags verdicts xs (sizes l2 l3 l4 l6) i) (ruledIn l2 l3 l4 l6 q) (ruledIn v2 v3 v4 v6) (go (y .start) p)
+    went = rw (c .starts .is) (then-go (λ _. toRule s flags e) is-next d (ap ruleProgress z))
 
-    forward : i < m
-    forward = omega (arith, line-has-byte s i inside (x .starts), b .is, c .from)
+    forward : i < y .start
+    forward = omega (arith, line-has-byte s i inside (x .starts), x .ends .is, c .starts .from)
 
-    pub rules-less : length s - m < length s - i
-    rules-less = omega (arith, forward, c .to)
+    pub rules-less : length s - y .start < length s - i
+    rules-less = omega (arith, forward, c .starts .to)
 
     pub rules-next : length v2 ≡ length l2 → length v3 ≡ length l3 → length v4 ≡ length l4 → length v6 ≡ length l6 → (marks′ : List ℕ) → Marked s (contents ruleFormat v2 (p .rules)) marks′
-        → Rules whole s flags verdicts xs k2 k3 k4 k6 m v2 v3 v4 v6 p marks′
-    rules-next e2 e3 e4 e6 marks′ y = record {
+        → Rules whole s flags verdicts xs k2 k3 k4 k6 y v2 v3 v4 v6 p marks′
+    rules-next e2 e3 e4 e6 marks′ m = record {
       held = d .goes j p (ap ruleProgress z);
-      marked = y;
-      within = c .to;
-      starts = rw (c .is) (rule-starts s flags e);
+      marked = m;
+      within = c .starts .to;
+      ends = c .ends;
+      starts = rw (c .starts .is) (rule-starts s flags e);
       long2 = e2 ∙ x .long2;
       long3 = e3 ∙ x .long3;
       long4 = e4 ∙ x .long4;
@@ -204,33 +215,33 @@ module _ {whole : Out Ruled} {s : List ℕ} {flags : ℕ} {verdicts : List ℕ} 
   whole-full n z = loops-full (x .loops) (sym tested ∙ pass) inside (then-full (λ _. toRule s flags e) is-next d (ap ruleProgress z)) refl
 
 -- the section as a whole began at i₀ with the state r₀
-module _ (s : List ℕ) (flags : ℕ) (verdicts : List ℕ) (xs : List State) (k : Caps) (c6 i₀ : ℕ) (r₀ : Ruled) {k2 k3 k4 k6 : List ℕ} {i : ℕ} {l2 l3 l4 l6 : List ℕ} {q : RuleCounts} {marks : List ℕ}
-    (x : Rules (rules s flags verdicts xs k c6 i₀ r₀) s flags verdicts xs k2 k3 k4 k6 i l2 l3 l4 l6 q marks) (t : Bool) (tested : t ≡ inSection s i) where
+module _ (s : List ℕ) (flags : ℕ) (verdicts : List ℕ) (xs : List State) (k : Caps) (c6 i₀ : ℕ) (r₀ : Ruled) {k2 k3 k4 k6 : List ℕ} {here : Line} {l2 l3 l4 l6 : List ℕ} {q : RuleCounts} {marks : List ℕ}
+    (x : Rules (rules s flags verdicts xs k c6 i₀ r₀) s flags verdicts xs k2 k3 k4 k6 here l2 l3 l4 l6 q marks) (t : Bool) (tested : t ≡ inSection s (here .start)) where
   abbrev Ended : List ℕ → List ℕ → List ℕ → List ℕ → Out RuleCounts → Type 0
   Ended v2 v3 v4 v6 o = Does (HeldRuled v2 v3 v4 v6) (rulesSection s flags verdicts xs k c6 i₀) r₀ (ruledIn v2 v3 v4 v6) o
 
-  module _ (stop : t ≡ false) (m : Bool) (is : m ≡ hasRoutines s i) where
-    at-end : rulesSection s flags verdicts xs k c6 i₀ r₀ ≡ routines s i (ruledIn l2 l3 l4 l6 q)
+  module _ (stop : t ≡ false) (m : Bool) (is : m ≡ hasRoutines s (here .start)) where
+    at-end : rulesSection s flags verdicts xs k c6 i₀ r₀ ≡ routines s (here .start) (ruledIn l2 l3 l4 l6 q)
     unfolding rulesSection
     at-end = ap (λ (o : Out Ruled). next o (routines s)) (loops-stop (x .loops) (sym tested ∙ stop))
 
-    pub rules-end : m ≡ false → Ended l2 l3 l4 l6 (go i q)
+    pub rules-end : m ≡ false → Ended l2 l3 l4 l6 (go (here .start) q)
     unfolding routines
     rules-end z = does-go (at-end ∙ rw (← is, z)) (x .held)
 
-    pub rules-routines : m ≡ true → Ended l2 l3 l4 l6 (bad RoutinesNotSupported i q)
+    pub rules-routines : m ≡ true → Ended l2 l3 l4 l6 (bad RoutinesNotSupported (here .start) q)
     unfolding routines
     rules-routines z = does-bad (at-end ∙ rw (← is, z)) (x .held)
 
-  module _ (pass : t ≡ true) (e : ℕ) (b : Between i (length s) (lineEnd s i) e) {v2 v3 v4 v6 : List ℕ} (r : RuleProgress)
-      (d : Does (HeldRuled v2 v3 v4 v6) (line s flags verdicts xs (sizesOf (length l2) (length l3) (length l4)) (length l6) i e) (ruledIn l2 l3 l4 l6 q) (ruledIn v2 v3 v4 v6) (ruleProgress r)) where
+  module _ (pass : t ≡ true) {v2 v3 v4 v6 : List ℕ} (r : RuleProgress)
+      (d : Does (HeldRuled v2 v3 v4 v6) (line s flags verdicts xs (sizesOf (length l2) (length l3) (length l4)) (length l6) (here .start) (here .end)) (ruledIn l2 l3 l4 l6 q) (ruledIn v2 v3 v4 v6) (ruleProgress r)) where
     pub rules-bad : (kind at : ℕ) (p : RuleCounts) → r ≡ Bad kind at p → Ended v2 v3 v4 v6 (bad kind at p)
     unfolding rulesSection
     rules-bad kind at p z =
-        does-bad (ap (λ (o : Out Ruled). next o (routines s)) (whole-bad x t tested pass e b r d kind at p z)) (d .ends kind at p (ap ruleProgress z))
+        does-bad (ap (λ (o : Out Ruled). next o (routines s)) (whole-bad x t tested pass r d kind at p z)) (d .ends kind at p (ap ruleProgress z))
 
     pub rules-full : (n : ℕ) → r ≡ Full n → Ended v2 v3 v4 v6 (full n)
     unfolding rulesSection
-    rules-full n z = does-full (ap (λ (o : Out Ruled). next o (routines s)) (whole-full x t tested pass e b r d n z))
+    rules-full n z = does-full (ap (λ (o : Out Ruled). next o (routines s)) (whole-full x t tested pass r d n z))
 
 pub ruleset sectioning = (needs, rules-start, rules-end, rules-bad, rules-full)

@@ -13,8 +13,7 @@ use names::marks::MARKS;
 use names::marks::mark_rules;
 use section::has_routines;
 use section::in_section;
-use section::to_rule;
-use text::scan::line_end;
+use section::reader::next_rule;
 
 // The rules from i on, and what follows them. The marks of the rules so far spare most names a look at each of these rules.
 pub fn parse_rules(
@@ -35,18 +34,17 @@ pub fn parse_rules(
     requires { ⌜ HeldRuled (now area2) (now area3) (now area4) (now area6) q ⌝ }
     ensures { λ r. ⌜ Does (HeldRuled (now (area2 .exit)) (now (area3 .exit)) (now (area4 .exit)) (now (area6 .exit))) (rulesSection (now (src .entry)) flags (now (verdicts .entry)) (contents stateFormat (now (area1 .entry)) n1) (sizesOf (length (now (area2 .entry))) (length (now (area3 .entry))) (length (now (area4 .entry)))) (length (now (area6 .entry))) i) (ruledIn (now (area2 .entry)) (now (area3 .entry)) (now (area4 .entry)) (now (area6 .entry)) q) (ruledIn (now (area2 .exit)) (now (area3 .exit)) (now (area4 .exit)) (now (area6 .exit))) (ruleProgress r) ⌝ }
 {
-    let mut at = to_rule(src, flags, i);
+    let mut line = next_rule(src, flags, i);
     let mut counts = q;
     let mut marks = [0; MARKS];
     mark_rules(src, area2, 0, q.rules, &mut marks);
-    while in_section(src, at) {
-        let e = line_end(src, at);
+    while in_section(src, line.start) {
         match parse_line(
             src,
             flags,
             verdicts,
-            at,
-            e,
+            line.start,
+            line.end,
             counts,
             area1,
             n1,
@@ -57,7 +55,7 @@ pub fn parse_rules(
             &marks,
         ) {
             RuleProgress::Go(_, p) => {
-                at = to_rule(src, flags, e);
+                line = next_rule(src, flags, line.end);
                 mark_rules(src, area2, counts.rules, p.rules, &mut marks);
                 counts = p;
             }
@@ -69,8 +67,8 @@ pub fn parse_rules(
             }
         }
     }
-    if has_routines(src, at) {
-        return RuleProgress::Bad(ROUTINES_NOT_SUPPORTED, at as u16, counts);
+    if has_routines(src, line.start) {
+        return RuleProgress::Bad(ROUTINES_NOT_SUPPORTED, line.start as u16, counts);
     }
-    RuleProgress::Go(at, counts)
+    RuleProgress::Go(line.start, counts)
 }

@@ -20,7 +20,7 @@ use Rattle.text.specs.Scan.{lineEnd, skipWhitespace, skipLineEnds}
 use Rattle.text.specs.declared.Found.{Found}
 use Rattle.text.specs.declared.Found.the-variants.{At, Nothing}
 use Rattle.text.proofs.Tests.{le-or-lt, and-right, and-false, by-test}
-use Rattle.text.proofs.Walks.{first-here, first-next, first-from, first-to, repeat-stop, repeat-go, repeat-stays, skip-stays, skip-stops, skip-from, skip-to}
+use Rattle.text.proofs.Walks.{first-here, first-next, first-from, first-to, repeat-stop, repeat-keeps, repeat-go, repeat-stays, skip-stays, skip-stops, skip-from, skip-to}
 use Rattle.text.proofs.Spaces.{end-one, white-inside, end-inside}
 use Rattle.text.proofs.Ranges.{ahead-short, same-equal}
 use Rattle.section.specs.Section.{comments, found, percents, slashes, isComment, pastComment, pastLine, toDeclaration, pastRuleLine, toRule, inSection, hasRoutines}
@@ -131,17 +131,6 @@ module _ (s : List ℕ) (i : ℕ) (stand : found (lookaheadIs s slashes i) ≡ t
   pub comment-ends : (r : ℕ) → Between (i + 2) (length s) (lineEnd s (i + 2)) r → Between (i + 2) (length s) (lineEnd s i) r
   comment-ends r b = record { is = b .is ∙ sym slashes-passed; from = b .from; to = b .to }
 
-  pub comment-inside : lineEnd s i ≤ length s
-  comment-inside = first-to (atLineEnd s) i (length s) (omega (arith, slashes-inside))
-
-  -- what is skipped behind the comment
-  pub comment-passed : (width : ℕ → ℕ) → ((k : ℕ) → 0 < width k → k + width k ≤ length s) → (r : ℕ) → r ≡ skip width (length s) (lineEnd s i) → Between (i + 2) (length s) (skip width (length s) (lineEnd s i)) r
-  comment-passed width inside r e = record {
-    is = e;
-    from = omega (arith, slashes-passed, first-from (atLineEnd s) (i + 2) (length s), skip-from width (length s) inside (lineEnd s i));
-    to = omega (arith, skip-to width (length s) inside (lineEnd s i) comment-inside);
-  }
-
 pub ruleset ending = (needs, slashes-inside, comment-empty, comment-ends)
 
 -- ---- going forward
@@ -203,10 +192,18 @@ module _ (s : List ℕ) (flags : ℕ) (width : ℕ → ℕ) where
   walk i = repeat step (length s) i
 
 module _ (s : List ℕ) (flags : ℕ) (width : ℕ → ℕ) (inside : (k : ℕ) → 0 < width k → k + width k ≤ length s) where
+  steps : Forward (step s flags width) (length s)
+  steps = forward-both (skip width (length s)) (pastComment s flags) (length s) (forward-skip width (length s) inside) (forward-comment s flags)
+
   falls : (k : ℕ) → (step s flags width k ≡ k → ⊥) → length s - step s flags width k < length s - k
-  falls =
-      forward-falls (step s flags width) (length s)
-      (forward-both (skip width (length s)) (pastComment s flags) (length s) (forward-skip width (length s) inside) (forward-comment s flags))
+  falls = forward-falls (step s flags width) (length s) steps
+
+  walk-between : (i : ℕ) → i ≤ length s → Between i (length s) (walk s flags width i) (walk s flags width i)
+  walk-between i h = record {
+    is = refl;
+    from = repeat-keeps (λ k. i ≤ k) (step s flags width) (λ k l. omega (arith, steps .from k)) (length s) i (omega arith);
+    to = repeat-keeps (λ k. k ≤ length s) (step s flags width) (steps .to) (length s) i h;
+  }
 
   onward : (k : ℕ) → walk s flags width k ≡ walk s flags width (step s flags width k)
   onward k = go (eqb (step s flags width k) k) refl
@@ -231,9 +228,9 @@ module _ (s : List ℕ) (flags : ℕ) (width : ℕ → ℕ) (inside : (k : ℕ) 
     unfolding pastComment
     rests t = repeat-stop (step s flags width) (length s) k (step-there k none ∙ rw (← told, t)) ∙ sym before
 
-    passes : (j : ℕ) → r ≡ true → j ≡ skip width (length s) (lineEnd s k) → walk s flags width i ≡ walk s flags width j
+    passes : (e j : ℕ) → r ≡ true → e ≡ lineEnd s k → j ≡ skip width (length s) e → walk s flags width i ≡ walk s flags width j
     unfolding pastComment
-    passes j t z = before ∙ onward k ∙ ap (walk s flags width) (step-there k none ∙ rw (← told, t)) ∙ skipped (lineEnd s k) j z
+    passes e j t ends z = before ∙ onward k ∙ ap (walk s flags width) (step-there k none ∙ rw (← told, t) (sym ends)) ∙ skipped e j z
 
   -- where the walk comes to rest, nothing is left to skip: the step that stays there has skipped nothing
   none-there : (i : ℕ) → width (walk s flags width i) ≡ 0
@@ -259,6 +256,14 @@ module _ (s : List ℕ) (flags i : ℕ) where
   unfolding toRule pastRuleLine
   rule-starts = none-there s flags (lineEndLen s) (end-inside s) i
 
+  pub declaration-between : i ≤ length s → Between i (length s) (toDeclaration s flags i) (toDeclaration s flags i)
+  unfolding toDeclaration pastLine
+  declaration-between = walk-between s flags (whitespaceLen s) (white-inside s) i
+
+  pub rule-between : i ≤ length s → Between i (length s) (toRule s flags i) (toRule s flags i)
+  unfolding toRule pastRuleLine
+  rule-between = walk-between s flags (lineEndLen s) (end-inside s) i
+
 -- the loop began at i and stands at k
 module _ (s : List ℕ) (flags i k : ℕ) where
   pub declaration-begun : k ≡ skipWhitespace s i → toDeclaration s flags i ≡ toDeclaration s flags k
@@ -274,9 +279,10 @@ module _ (s : List ℕ) (flags i k : ℕ) where
       → whitespaceLen s k ≡ 0
       → (r : Bool)
       → r ≡ isComment s flags k
-      → (j : ℕ)
+      → (e j : ℕ)
       → r ≡ true
-      → j ≡ skipWhitespace s (lineEnd s k)
+      → e ≡ lineEnd s k
+      → j ≡ skipWhitespace s e
       → toDeclaration s flags i ≡ toDeclaration s flags j
   unfolding toDeclaration pastLine
   declaration-further = passes s flags (whitespaceLen s) (white-inside s) i k
@@ -294,9 +300,10 @@ module _ (s : List ℕ) (flags i k : ℕ) where
       → lineEndLen s k ≡ 0
       → (r : Bool)
       → r ≡ isComment s flags k
-      → (j : ℕ)
+      → (e j : ℕ)
       → r ≡ true
-      → j ≡ skipLineEnds s (lineEnd s k)
+      → e ≡ lineEnd s k
+      → j ≡ skipLineEnds s e
       → toRule s flags i ≡ toRule s flags j
   unfolding toRule pastRuleLine
   rule-further = passes s flags (lineEndLen s) (end-inside s) i k

@@ -9,8 +9,6 @@ ghost use Rattle.text.specs.Walk.{Between};
 ghost use Rattle.text.specs.Range.{lookaheadIs};
 ghost use Rattle.text.specs.Scan.{lineEnd};
 ghost use Rattle.section.specs.Section.{found, slashes, isComment, toDeclaration, toRule, inSection, hasRoutines};
-use crate::reader::next_declaration;
-use crate::reader::next_rule;
 use text::Found;
 use text::class::is_line_end;
 use text::range::lookahead_is;
@@ -52,25 +50,25 @@ fn comment_end(src: &[u8], i: usize) -> usize
 }
 
 // Past whitespace and lines that flag 1 skips, to a declaration or the section's end.
-pub fn to_declaration(src: &[u8], flags: u64, i: usize) -> usize
+fn to_declaration(src: &[u8], flags: u64, i: usize) -> usize
     requires { ⌜ i ≤ length (now src) ⌝ }
     ensures { λ r. ⌜ Between i (length (now (src .entry))) (toDeclaration (now (src .entry)) flags i) r ⌝ }
 {
     let mut k = parse_ws(src, i);
     while is_comment(src, flags, k) {
-        k = next_declaration(src, k);
+        k = parse_ws(src, comment_end(src, k));
     }
     k
 }
 
 // Past line ends and lines that flag 1 skips, to a rule's line or the section's end.
-pub fn to_rule(src: &[u8], flags: u64, i: usize) -> usize
+fn to_rule(src: &[u8], flags: u64, i: usize) -> usize
     requires { ⌜ i ≤ length (now src) ⌝ }
     ensures { λ r. ⌜ Between i (length (now (src .entry))) (toRule (now (src .entry)) flags i) r ⌝ }
 {
     let mut k = parse_nl(src, i);
     while is_comment(src, flags, k) {
-        k = next_rule(src, k);
+        k = parse_nl(src, comment_end(src, k));
     }
     k
 }

@@ -1,20 +1,26 @@
 // A reader: the source and a place in it, which travel together. Its functions are thin: the work is in the scanners.
+// The walks over the sections go from line to line by `next_declaration` and `next_rule`, whose parameters are plain.
 ghost use mathlib.Core.Path.{_≡_};
-ghost use mathlib.Core.Bool.{true};
-ghost use Prim.Native.Nat.{_+_, _≤_};
+ghost use Prim.Native.Nat.{_≤_};
 ghost use lib.ListN.{length};
 ghost use Rattle.text.specs.Walk.{Between};
-ghost use Rattle.text.specs.Range.{lookaheadIs};
-ghost use Rattle.text.specs.Scan.{lineEnd, skipWhitespace, skipLineEnds};
-ghost use Rattle.section.specs.Section.{found, slashes};
-ghost use Rattle.section.specs.Reader.{readerAt, moved};
-use crate::comment_end;
-use text::scan::parse_nl;
-use text::scan::parse_ws;
+ghost use Rattle.text.specs.Scan.{lineEnd, skipBlanks};
+ghost use Rattle.section.specs.Section.{toDeclaration, toRule};
+ghost use Rattle.section.specs.Reader.{readerAt, moved, movedBy, NextLine};
+use crate::to_declaration;
+use crate::to_rule;
+use text::scan::line_end;
+use text::scan::parse_spaces;
 
 pub struct Reader<'a> {
     pub source: &'a [u8],
     pub offset: usize,
+}
+
+// A line that is read: where it starts and where it ends.
+pub struct Line {
+    pub start: usize,
+    pub end: usize,
 }
 
 pub fn reader_at<'a>(source: &'a [u8], offset: usize) -> Reader<'a>
@@ -23,52 +29,73 @@ pub fn reader_at<'a>(source: &'a [u8], offset: usize) -> Reader<'a>
     Reader { source, offset }
 }
 
-pub fn offset<'a>(r: Reader<'a>) -> usize
-    ensures { λ n. ⌜ n ≡ r .entry .offset ⌝ }
-{
-    r.offset
-}
-
-// To the end of the comment that starts there.
-pub fn past_comment<'a>(mut r: Reader<'a>) -> Reader<'a>
-    requires { ⌜ found (lookaheadIs (now (r .source)) slashes (r .offset)) ≡ true ⌝ }
+pub fn move_to_line_end<'a>(mut r: Reader<'a>) -> Reader<'a>
+    requires { ⌜ r .offset ≤ length (now (r .source)) ⌝ }
     ensures { λ q. ⌜ q ≡ moved lineEnd (r .entry) ⌝ }
 {
-    let k = comment_end(r.source, r.offset);
+    let k = line_end(r.source, r.offset);
     r.offset = k;
     r
 }
 
-pub fn past_line_ends<'a>(mut r: Reader<'a>) -> Reader<'a>
+pub fn move_past_blanks<'a>(mut r: Reader<'a>) -> Reader<'a>
     requires { ⌜ r .offset ≤ length (now (r .source)) ⌝ }
-    ensures { λ q. ⌜ q ≡ moved skipLineEnds (r .entry) ⌝ }
+    ensures { λ q. ⌜ q ≡ moved skipBlanks (r .entry) ⌝ }
 {
-    let k = parse_nl(r.source, r.offset);
+    let k = parse_spaces(r.source, r.offset);
     r.offset = k;
     r
 }
 
-pub fn past_whitespace<'a>(mut r: Reader<'a>) -> Reader<'a>
+pub fn move_to_declaration<'a>(mut r: Reader<'a>, flags: u64) -> Reader<'a>
     requires { ⌜ r .offset ≤ length (now (r .source)) ⌝ }
-    ensures { λ q. ⌜ q ≡ moved skipWhitespace (r .entry) ⌝ }
+    ensures { λ q. ⌜ q ≡ movedBy toDeclaration flags (r .entry) ⌝ }
 {
-    let k = parse_ws(r.source, r.offset);
+    let k = to_declaration(r.source, flags, r.offset);
     r.offset = k;
     r
 }
 
-// Past the comment at k and the line ends behind it.
-pub fn next_rule(src: &[u8], k: usize) -> usize
-    requires { ⌜ found (lookaheadIs (now src) slashes k) ≡ true ⌝ }
-    ensures { λ r. ⌜ Between (k + 2) (length (now (src .entry))) (skipLineEnds (now (src .entry)) (lineEnd (now (src .entry)) k)) r ⌝ }
+pub fn move_to_rule<'a>(mut r: Reader<'a>, flags: u64) -> Reader<'a>
+    requires { ⌜ r .offset ≤ length (now (r .source)) ⌝ }
+    ensures { λ q. ⌜ q ≡ movedBy toRule flags (r .entry) ⌝ }
 {
-    offset(past_line_ends(past_comment(reader_at(src, k))))
+    let k = to_rule(r.source, flags, r.offset);
+    r.offset = k;
+    r
 }
 
-// Past the comment at k and the whitespace behind it.
-pub fn next_declaration(src: &[u8], k: usize) -> usize
-    requires { ⌜ found (lookaheadIs (now src) slashes k) ≡ true ⌝ }
-    ensures { λ r. ⌜ Between (k + 2) (length (now (src .entry))) (skipWhitespace (now (src .entry)) (lineEnd (now (src .entry)) k)) r ⌝ }
+// The line of the next declaration from i on.
+pub fn next_declaration(src: &[u8], flags: u64, i: usize) -> Line
+    requires { ⌜ i ≤ length (now src) ⌝ }
+    ensures { λ r. ⌜ NextLine (now (src .entry)) (toDeclaration (now (src .entry)) flags) i r ⌝ }
 {
-    offset(past_whitespace(past_comment(reader_at(src, k))))
+    let r = move_to_declaration(reader_at(src, i), flags);
+    let q = move_to_line_end(r);
+    Line {
+        start: r.offset,
+        end: q.offset,
+    }
+}
+
+// The next rule's line from i on.
+pub fn next_rule(src: &[u8], flags: u64, i: usize) -> Line
+    requires { ⌜ i ≤ length (now src) ⌝ }
+    ensures { λ r. ⌜ NextLine (now (src .entry)) (toRule (now (src .entry)) flags) i r ⌝ }
+{
+    let r = move_to_rule(reader_at(src, i), flags);
+    let q = move_to_line_end(r);
+    Line {
+        start: r.offset,
+        end: q.offset,
+    }
+}
+
+// Past the blanks at i.
+pub fn past_blanks(src: &[u8], i: usize) -> usize
+    requires { ⌜ i ≤ length (now src) ⌝ }
+    ensures { λ r. ⌜ Between i (length (now (src .entry))) (skipBlanks (now (src .entry)) i) r ⌝ }
+{
+    let r = move_past_blanks(reader_at(src, i));
+    r.offset
 }

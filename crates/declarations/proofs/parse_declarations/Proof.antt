@@ -1,4 +1,4 @@
--- `declarations::parse_declarations` meets its contract: the loop has come to the place `at`.
+-- `declarations::parse_declarations` meets its contract: the loop has come to the line `line`.
 use Prim.Native.Nat.{_-_}
 use lib.ListN.{length}
 use Rattle.declarations.specs.Answers.{capsOf, declaredIn}
@@ -8,10 +8,10 @@ use Rattle.declarations.proofs.parse_declarations.Statement.{statement}
 use Rattle.declarations.proofs.parse_declarations.Tie as tie
 
 abbrev Inv-loop : tie.InvT-loop
-Inv-loop src flags i area1₀ area5₀ area6₀ at₀ counts₀ t17 area1 area5 area6 at counts = Sections (section src flags (capsOf (length area1₀) (length area5₀) (length area6₀)) i (declaredIn area1₀ area5₀ area6₀ counts₀)) src flags area1₀ area5₀ area6₀ at area1 area5 area6 counts
+Inv-loop src flags i area1₀ area5₀ area6₀ line₀ counts₀ t17 area1 area5 area6 line counts = Sections (section src flags (capsOf (length area1₀) (length area5₀) (length area6₀)) i (declaredIn area1₀ area5₀ area6₀ counts₀)) src flags area1₀ area5₀ area6₀ line area1 area5 area6 counts
 
 abbrev μ-loop : tie.MeasureT-loop
-μ-loop src flags i area1₀ area5₀ area6₀ at₀ counts₀ t17 area1 area5 area6 at counts = length src - at
+μ-loop src flags i area1₀ area5₀ area6₀ line₀ counts₀ t17 area1 area5 area6 line counts = length src - line .start
 
 pub parse-declarations-spec : {M : Type 1} → statement M
 parse-declarations-spec =
@@ -21,7 +21,6 @@ parse-declarations-spec =
     μ-loop
     (λ c κs. search sectioning)
     (λ c. search sectioning)
-    (λ c κs. search sectioning)
     (λ c κs. search sectioning)
     (λ c κs. search sectioning)
     (λ c. search sectioning)

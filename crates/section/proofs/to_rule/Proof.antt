@@ -24,6 +24,7 @@ to-rule-spec =
     (λ c. search resting)
     (λ c κs. search resting)
     (λ c κs. search resting)
+    (λ c κs. search resting)
     (λ c. search resting)
     (λ c. search resting)
     (λ c. search resting))
