@@ -3,6 +3,7 @@ ghost use Prim.Native.Nat.{_≤_};
 ghost use lib.ListN.{length};
 use libc::STDIN_FILENO;
 use libc::STDOUT_FILENO;
+use sheet_print::SHEET_ROOM;
 use sheet_print::sheet;
 
 struct Source {
@@ -32,7 +33,7 @@ fn read_source(buffer: &mut [u8]) -> Source
     }
 }
 
-// A byte more than a file may have is read, so that a file that is too long is refused. The text of a sheet has less than 524,288 bytes.
+// A byte more than a file may have is read, so that a file that is too long is refused.
 fn main() {
     let mut buffer = io::large_buffer();
     let source = read_source(&mut buffer);
@@ -41,7 +42,7 @@ fn main() {
         return;
     }
     let length = source.length;
-    let mut out = [0u8; 524288];
+    let mut out = [0u8; SHEET_ROOM];
     let n = sheet(&buffer[..length], &mut out);
     if !io::write_all(STDOUT_FILENO, &out[..n]) {
         os::fail(b"standard output");

@@ -1,5 +1,5 @@
 -- The lines that `sheet` prints of a file (01, Files to try, the end; the words are ASCII).
-use Prim.Native.Nat.{ℕ, zero, suc}
+use Prim.Native.Nat.{ℕ, zero, suc, _+_, _*_}
 use mathlib.Core.Bool.{cond}
 use mathlib.Core.List.{List, [], _∷_, _++_}
 use lib.Dec.{eqb}
@@ -74,6 +74,11 @@ lent = caps 384 57344 32768 32768 32768 32768
 -- what `sheet` prints of the file s: flags 0, no verdicts
 unfoldable pub sheetText : List ℕ → List ℕ
 sheetText s = textOf s (outcome s 0 [] lent)
+
+-- as many bytes as no sheet's text passes: 64 lines of a state without its name, with INITIAL counted in each; the names, which do not overlap
+-- in a file of at most 65,535 bytes; and 2,048 lines of a rule (01, Areas, the limits)
+abbrev pub sheetRoom : ℕ
+sheetRoom = 64 * 38 + 65535 + 2048 * 95
 
 -- ---- the same, from the areas' bytes
 

@@ -11,6 +11,11 @@ pub record Written (t l : List ℕ) (n : ℕ) : Type 0 where
   pub count : n ≡ min (length t) (length l)
   pub is : take n l ≡ take n t
 
+-- the first n bytes of the buffer l are the text t, all of it
+pub record AllWritten (t l : List ℕ) (n : ℕ) : Type 0 where
+  pub count : n ≡ length t
+  pub is : take n l ≡ t
+
 -- a call that finds n bytes in the buffer l and leaves r bytes in the buffer e appends the text v
 pub record Appends (v l : List ℕ) (n : ℕ) (e : List ℕ) (r : ℕ) : Type 0 where
   pub long : length e ≡ length l

@@ -2,9 +2,10 @@
 mod lines;
 pub mod output;
 
-ghost use lib.ListN.{getD};
-ghost use Rattle.sheet_print.specs.Output.{Appends, Written};
-ghost use Rattle.sheet_print.specs.Lines.{refusedLine, fullLine, sheetIn, answerText, sheetText};
+ghost use Prim.Native.Nat.{_≤_};
+ghost use lib.ListN.{length, getD};
+ghost use Rattle.sheet_print.specs.Output.{Appends, Written, AllWritten};
+ghost use Rattle.sheet_print.specs.Lines.{refusedLine, fullLine, sheetIn, answerText, sheetText, sheetRoom};
 use lines::put_faults;
 use lines::put_rules;
 use lines::put_states;
@@ -13,6 +14,9 @@ use output::put_line_end;
 use output::put_text;
 use parse::Answer;
 use parse::call::parse;
+
+// The room that `sheet` asks for.
+pub const SHEET_ROOM: usize = 262527;
 
 fn put_refused(out: &mut [u8], n: usize, number: u16) -> usize
     ensures { λ r. ⌜ Appends (refusedLine number) (now (out .entry)) n (now (out .exit)) r ⌝ }
@@ -68,9 +72,10 @@ fn put_answer(
     }
 }
 
-// The lines of a file with flags 0 and no verdicts, as far as there is room, and how many bytes they have.
+// All lines of a file with flags 0 and no verdicts, and how many bytes they have.
 pub fn sheet(src: &[u8], out: &mut [u8]) -> usize
-    ensures { λ r. ⌜ Written (sheetText (now (src .entry))) (now (out .exit)) r ⌝ }
+    requires { ⌜ sheetRoom ≤ length (now out) ⌝ }
+    ensures { λ r. ⌜ AllWritten (sheetText (now (src .entry))) (now (out .exit)) r ⌝ }
 {
     let mut counts = [0u16; 6];
     let mut area1 = [0u8; 384];

@@ -1,14 +1,19 @@
--- `sheet_print::sheet` meets its contract: the call leaves what the outcome of the file has, and the lines are those of what it left.
+-- `sheet_print::sheet` meets its contract: the call leaves what the outcome of the file has, the lines are those of what it left, and there is room
+-- for all of them.
 use Prim.Native.Nat.{ℕ}
 use lib.ListN.{length-replicate}
 use borrow.Author.Needs.{needs}
 use Rattle.sheet_print.proofs.Answering.{sheet-written}
+use Rattle.sheet_print.proofs.Lengths.{all-written}
 use Rattle.sheet_print.proofs.sheet.Statement.{statement}
 use Rattle.sheet_print.proofs.sheet.Tie as tie
 
 returns : tie.Need-returns
 returns c =
-    sheet-written (c .before .before .before .before .before .before .before .before .before .before .before .before .before .before .before .before .before .before .before .before .before .before .before .before .args .src .now) (c .before .before .before .before .before .before .before .before .before .before .before .before .before .parse .result) _ _ _ _ _ _ _ _ _ _ _ _ _
+    all-written _ _
+    (c .before .before .before .before .before .before .before .before .before .before .before .before .before .before .before .before .before .before .before .before .before .before .before .before .pre)
+    (c .before .out .given)
+    (sheet-written (c .before .before .before .before .before .before .before .before .before .before .before .before .before .before .before .before .before .before .before .before .before .before .before .before .args .src .now) (c .before .before .before .before .before .before .before .before .before .before .before .before .before .parse .result) _ _ _ _ _ _ _ _ _ _ _ _ _
     (c .before .before .before .before .before .before .before .before .before .before .before .before .before .parse .ensures)
     (length-replicate {A = ℕ} 384 0)
     (length-replicate {A = ℕ} 57344 0)
@@ -19,7 +24,7 @@ returns c =
     (c .before .before .before .before .before .before .before .before .before .before .before .before .area12 .given)
     (c .before .before .before .before .before .before .before .before .before .before .before .area22 .given)
     (c .before .before .before .before .before .before .before .area62 .given)
-    (c .before .before .put-answer .ensures)
+    (c .before .before .put-answer .ensures))
 
 pub sheet-spec : {M : Type 1} → statement M
 sheet-spec =
