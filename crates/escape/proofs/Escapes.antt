@@ -1,20 +1,18 @@
 -- The list of a pattern's escapes, one step at a time: from p on it is empty, or it begins with the next escape and goes on from that one's end.
 -- Each escape ends nearer to the pattern's end, so that there are no more of them than bytes.
 use mathlib.Core.Path.{_≡_, refl, sym, ap, _∙_}
-use mathlib.Core.Bool.{Bool, true, false, cond, not}
+use mathlib.Core.Bool.{Bool, true, false, cond}
 use mathlib.Core.List.{List, [], _∷_}
 use Prim.Native.Nat.{ℕ, zero, suc, _+_, _-_, _≤_, _<_}
 use native.Mathlib.Nat.{le-refl}
 use native.Mathlib.Omega.{arith}
 use borrow.Author.Tests.{le-ltb, ltb-true}
-use Rattle.text.specs.Whitespace.{byte}
-use Rattle.text.specs.Utf8.{isContinuation}
 use Rattle.text.proofs.Walks.{first-from}
-use Rattle.escape.specs.Escape.{Escape, nextBackslash, charEnd, nextEscape, isWhole, escapesFrom, escapes, lastEnd, lastWhole}
+use Rattle.escape.specs.Escape.{Escape, nextBackslash, atEdge, charEnd, nextEscape, isWhole, escapesFrom, escapes, lastEnd, lastWhole}
 use Rattle.escape.proofs.Backslashes.{isBackslash, backslash-again}
 
 pub char-from : (s : List ℕ) (c q : ℕ) → q + 1 ≤ charEnd s c q
-char-from s c q = first-from (λ k. not (isContinuation (byte s k))) (q + 1) c
+char-from s c q = first-from (atEdge s) (q + 1) c
 
 module _ (s : List ℕ) (c p : ℕ) where
   -- the next escape stands behind p

@@ -4,3 +4,4 @@ pub mod Escapes
 pub mod Passed
 pub mod Ends
 pub mod Pieces
+pub mod Characters

@@ -22,9 +22,13 @@ pub record Escape : Type 0 where
 abbrev pub nextBackslash : List ℕ → ℕ → ℕ → ℕ
 nextBackslash s e p = findByte s p e 0x5c
 
+-- no character of the text goes on at k: the byte there is not one inside a character
+abbrev pub atEdge : List ℕ → ℕ → Bool
+atEdge s k = not (isContinuation (byte s k))
+
 -- where the character ends that starts at q: an escape is a whole character (01, Rules)
 abbrev pub charEnd : List ℕ → ℕ → ℕ → ℕ
-charEnd s c q = first (λ k. not (isContinuation (byte s k))) (q + 1) c
+charEnd s c q = first (atEdge s) (q + 1) c
 
 -- the next escape from p on: the next backslash and the character behind it (01, Rules)
 unfoldable pub nextEscape : List ℕ → ℕ → ℕ → Escape

@@ -1,5 +1,6 @@
--- This mirrors the code, which goes from piece to piece: the contracts of private functions cite it, and no sentence of 01 is in it. That the pieces
--- one behind the other make the text of the definitions is proved in proofs/Pieces.antt.
+-- This mirrors the code, which goes from escape to escape and from piece to piece: the contracts of private functions cite it, and no sentence of 01
+-- is in it. That the pieces one behind the other make the text of the definitions is `text-piece` and `text-ended` of proofs/Pieces.antt; that the
+-- last escape passed is the last of the list, `whole-past` of proofs/Passed.antt.
 use Prim.Native.Nat.{ℕ, _+_, _-_}
 use mathlib.Core.Bool.{cond}
 use mathlib.Core.List.{List}

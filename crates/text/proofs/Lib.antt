@@ -10,5 +10,6 @@ pub mod Chars
 pub mod Blocks
 pub mod Codes
 pub mod Uax31
+pub mod Ascii
 pub mod Encoding
 pub mod Decoding

@@ -1,17 +1,14 @@
 -- `escape::char_end` meets its contract: from where the loop stands the first position is the same.
 use mathlib.Core.Path.{_≡_}
-use mathlib.Core.Bool.{not}
 use Prim.Native.Nat.{_≤_, _-_, _+_}
 use Rattle.text.specs.Walk.{first}
-use Rattle.text.specs.Utf8.{isContinuation}
-use Rattle.text.specs.Whitespace.{byte}
-use Rattle.escape.specs.Escape.{charEnd}
+use Rattle.escape.specs.Escape.{atEdge, charEnd}
 use Rattle.text.proofs.Walks.{scanning}
 use Rattle.escape.proofs.char_end.Statement.{statement}
 use Rattle.escape.proofs.char_end.Tie as tie
 
 abbrev Inv-loop : tie.InvT-loop
-Inv-loop src c q k₀ k = (q + 1 ≤ k) × (k ≤ c) × (charEnd src c q ≡ first (λ j. not (isContinuation (byte src j))) k c)
+Inv-loop src c q k₀ k = (q + 1 ≤ k) × (k ≤ c) × (charEnd src c q ≡ first (atEdge src) k c)
 
 abbrev μ-loop : tie.MeasureT-loop
 μ-loop src c q k₀ k = c - k

@@ -1,0 +1,99 @@
+-- An escape is a whole character in the sense of Unicode: in a text of code points the character that starts at an edge ends behind the bytes of its
+-- code point. The bytes up to there are inside it, from 80 to BF; at the next edge stands the first byte of another character, which is not, or the end.
+use mathlib.Core.Path.{_≡_, sym, ap, _∙_}
+use mathlib.Core.Bool.{true, false, not}
+use mathlib.Core.List.{List, [], _∷_, _++_, append-assoc}
+use Prim.Native.Nat.{ℕ, _+_, _-_, _/_, _≤_, _<_}
+use native.Mathlib.Omega.{arith}
+use borrow.Author.Tests.{lt-leb}
+use lib.ListN.{length, length-append}
+use Rattle.text.specs.Walk.{first}
+use Rattle.text.specs.Whitespace.{byte}
+use Rattle.text.specs.Unicode.{encode, encodeAll}
+use Rattle.text.specs.Utf8.{isContinuation}
+use Rattle.text.proofs.Tests.{in-range, above-range}
+use Rattle.text.proofs.Walks.{first-here, first-none, first-over}
+use Rattle.text.proofs.Codes.{by-size, encode-1, encode-2, encode-3, encode-4, encode-long, encodeAll-append}
+use Rattle.text.proofs.Ascii.{first-at, inner-at, ascii-whole}
+use Rattle.escape.specs.Escape.{nextBackslash, atEdge, charEnd, nextEscape}
+use Rattle.escape.proofs.Backslashes.{isBackslash}
+
+-- the first byte of a character is no byte from 80 to BF
+first-outside : (y : ℕ) (t : List ℕ) → isContinuation (byte (encode y ++ t) 0) ≡ false
+first-outside y t =
+    by-size y
+    (λ r. rw (encode-1 y r, lt-leb 0x80 y r))
+    (λ l r. rw (encode-2 y l r) (above-range 0x80 0xbf (0xc0 + y / 0x40) (omega arith)))
+    (λ l r. rw (encode-3 y l r) (above-range 0x80 0xbf (0xe0 + y / 0x1000) (omega arith)))
+    (λ l. rw (encode-4 y l) (above-range 0x80 0xbf (0xf0 + y / 0x40000) (omega arith)))
+
+module _ (xs : List ℕ) (x : ℕ) where
+  -- how long a text is that goes on with x, and where the bytes of x end
+  length-all : (ys : List ℕ) → length (encodeAll (xs ++ x ∷ ys)) ≡ length (encodeAll xs) + (length (encode x) + length (encodeAll ys))
+  unfolding encodeAll
+  length-all ys =
+      ap length (encodeAll-append xs (x ∷ ys))
+      ∙ length-append (encodeAll xs) (encode x ++ encodeAll ys)
+      ∙ ap (λ (n : ℕ). length (encodeAll xs) + n) (length-append (encode x) (encodeAll ys))
+
+  edge-behind : length (encodeAll (xs ++ x ∷ [])) ≡ length (encodeAll xs) + length (encode x)
+  unfolding encodeAll
+  edge-behind = omega (arith, length-all [])
+
+  -- inside the character is no edge
+  no-edge-inside : (t : List ℕ) (m : ℕ) → length (encodeAll xs) + 1 ≤ m → m < length (encodeAll xs) + length (encode x) → atEdge (encodeAll (xs ++ x ∷ t)) m ≡ false
+  no-edge-inside t m h l =
+      let q : length (encodeAll xs) + (m - length (encodeAll xs)) ≡ m = omega arith in
+      let b = inner-at xs x t (m - length (encodeAll xs)) (omega arith) (omega arith) in
+      let d : isContinuation (byte (encodeAll (xs ++ x ∷ t)) (length (encodeAll xs) + (m - length (encodeAll xs)))) ≡ true = in-range 0x80 0xbf _ (b .0) (omega (arith, b .1)) in
+      ap (λ (k : ℕ). atEdge (encodeAll (xs ++ x ∷ t)) k) (sym q) ∙ ap not d
+
+  -- behind it another character starts, or the pattern ends
+  edge-next : (y : ℕ) (t : List ℕ) → atEdge (encodeAll (xs ++ x ∷ y ∷ t)) (length (encodeAll xs) + length (encode x)) ≡ true
+  edge-next y t =
+      ap (λ (k : ℕ). atEdge (encodeAll (xs ++ x ∷ y ∷ t)) k) (sym edge-behind)
+      ∙ ap (λ (l : List ℕ). atEdge (encodeAll l) (length (encodeAll (xs ++ x ∷ [])))) (sym (append-assoc xs (x ∷ []) (y ∷ t)))
+      ∙ ap (λ (b : ℕ). not (isContinuation b)) (first-at (xs ++ x ∷ []) y t)
+      ∙ ap not (first-outside y (encodeAll t))
+
+  stops : (ys zs : List ℕ) → length (encodeAll xs) + length (encode x) ≡ first (atEdge (encodeAll (xs ++ x ∷ (ys ++ zs)))) (length (encodeAll xs) + length (encode x)) (length (encodeAll (xs ++ x ∷ ys)))
+  unfolding encodeAll
+  stops [] zs = first-none _ _ _ (omega (arith, length-all []))
+  stops (y ∷ ys) zs =
+      first-here (atEdge (encodeAll (xs ++ x ∷ (y ∷ (ys ++ zs))))) _ _
+      (omega (arith, length-all (y ∷ ys), encode-long y, length-append (encode y) (encodeAll ys)))
+      (edge-next y (ys ++ zs))
+
+  -- the pattern ends behind the characters xs, x and ys, and zs follow it: at x a character has the bytes of x
+  pub char-end-at : (ys zs : List ℕ) → charEnd (encodeAll ((xs ++ x ∷ ys) ++ zs)) (length (encodeAll (xs ++ x ∷ ys))) (length (encodeAll xs)) ≡ length (encodeAll xs) + length (encode x)
+  char-end-at ys zs =
+      ap (λ (l : List ℕ). charEnd (encodeAll l) (length (encodeAll (xs ++ x ∷ ys))) (length (encodeAll xs))) (append-assoc xs (x ∷ ys) zs)
+      ∙ first-over (atEdge (encodeAll (xs ++ x ∷ (ys ++ zs)))) (length (encodeAll xs) + 1) (length (encodeAll xs) + length (encode x)) (length (encodeAll (xs ++ x ∷ ys)))
+      (omega (arith, encode-long x))
+      (omega (arith, length-all ys))
+      (no-edge-inside (ys ++ zs))
+      ∙ sym (stops ys zs)
+
+-- at the code point of a backslash the next escape is that backslash and the whole character x behind it
+module _ (xs : List ℕ) (x : ℕ) (ys zs : List ℕ) where
+  backslash-at : nextBackslash (encodeAll ((xs ++ 0x5c ∷ x ∷ ys) ++ zs)) (length (encodeAll (xs ++ 0x5c ∷ x ∷ ys))) (length (encodeAll xs)) ≡ length (encodeAll xs)
+  unfolding encode
+  backslash-at =
+      sym (first-here (isBackslash (encodeAll ((xs ++ 0x5c ∷ x ∷ ys) ++ zs))) (length (encodeAll xs)) (length (encodeAll (xs ++ 0x5c ∷ x ∷ ys)))
+      (omega (arith, length-all xs 0x5c (x ∷ ys)))
+      (ap (λ (l : List ℕ). isBackslash (encodeAll l) (length (encodeAll xs))) (append-assoc xs (0x5c ∷ x ∷ ys) zs)
+      ∙ ascii-whole xs 0x5c (x ∷ (ys ++ zs)) 0x5c (omega arith) .edge))
+
+  char-behind : charEnd (encodeAll ((xs ++ 0x5c ∷ x ∷ ys) ++ zs)) (length (encodeAll (xs ++ 0x5c ∷ x ∷ ys))) (length (encodeAll xs) + 1) ≡ length (encodeAll xs) + 1 + length (encode x)
+  unfolding encode
+  char-behind =
+      ap (λ (k : ℕ). charEnd (encodeAll ((xs ++ 0x5c ∷ x ∷ ys) ++ zs)) (length (encodeAll (xs ++ 0x5c ∷ x ∷ ys))) k) (sym (edge-behind xs 0x5c))
+      ∙ ap (λ (l : List ℕ). charEnd (encodeAll (l ++ zs)) (length (encodeAll l)) (length (encodeAll (xs ++ 0x5c ∷ [])))) (sym (append-assoc xs (0x5c ∷ []) (x ∷ ys)))
+      ∙ char-end-at (xs ++ 0x5c ∷ []) x ys zs
+      ∙ ap (λ (k : ℕ). k + length (encode x)) (edge-behind xs 0x5c)
+
+  pub escape-at :
+      nextEscape (encodeAll ((xs ++ 0x5c ∷ x ∷ ys) ++ zs)) (length (encodeAll (xs ++ 0x5c ∷ x ∷ ys))) (length (encodeAll xs))
+      ≡ record { backslash = length (encodeAll xs); start = length (encodeAll xs) + 1; end = length (encodeAll xs) + 1 + length (encode x) }
+  unfolding nextEscape
+  escape-at = rw (backslash-at, char-behind)
