@@ -15,7 +15,7 @@ use Rattle.text.specs.Class.{isWhitespaceByte, isLineEnd, isBlank, isOth
 use Rattle.text.specs.Walk.{skip}
 use Rattle.text.specs.Shortcuts.{RulesOut, mayEndLine, mayBeWhitespace}
 use Rattle.text.specs.Whitespace.{byte, isNextLine, isMark, isSeparator, whitespaceOf, lineEndOf, whitespaceLen, lineEndLen, atLineEnd, Width}
-use Rattle.text.proofs.Tests.{by-test, answer, and-left, and-false, or-true, or-none, not-true}
+use Rattle.text.proofs.Tests.{by-test, answer, and-left, and-false, or-true, or-none, not-true, answer-or}
 use Rattle.text.proofs.Walks.{skip-ended, skip-again}
 
 -- ---- the branches
@@ -169,7 +169,7 @@ pub end-may-start : (s : List ℕ) (i : ℕ) (r : Bool) → RulesOut (mayEndLine
 unfolding lineEndLen
 end-may-start s i r f = record { none = λ e. rw (← end-ruled-out (byte s i) (byte s (i + 1)) (byte s (i + 2)) (f .none e)) refl }
 
-pub ruleset measuring = (needs, answer, white-two, white-three, white-none, white-width, white-one-width, white-none-width, end-three, end-none, end-width, end-one-width, end-none-width)
+pub ruleset measuring = (needs, answer, answer-or, white-two, white-three, white-none, white-width, white-one-width, white-none-width, end-three, end-none, end-width, end-one-width, end-none-width)
 
 -- ---- the loops that skip: the walk began at i and stands at k, where n bytes of whitespace, or of a line end, stand
 

@@ -278,14 +278,14 @@ pub fn class(b: u8) -> u8
 // ---- quick tests: they settle most bytes without a look into the table, which is asked about all others
 
 // Line feed.
-pub fn is_common_line_end(b: u8) -> bool
+fn is_common_line_end(b: u8) -> bool
     ensures { λ r. ⌜ Tells (isLineEnd b) r ⌝ }
 {
     b == 0x0a
 }
 
 // Space.
-pub fn is_common_blank(b: u8) -> bool
+fn is_common_blank(b: u8) -> bool
     ensures { λ r. ⌜ Tells (isBlank b) r ⌝ }
 {
     b == 0x20

@@ -4,7 +4,7 @@ ghost use mathlib.Core.Bool.{false};
 ghost use Prim.Native.Nat.{_≤_};
 ghost use lib.ListN.{length};
 ghost use Rattle.text.specs.Class.{isLineEnd, isWhitespaceByte};
-ghost use Rattle.text.specs.Whitespace.{Width, byte, whitespaceOf, lineEndOf, whitespaceLen, lineEndLen, atWhitespace, atLineEnd};
+ghost use Rattle.text.specs.Whitespace.{Width, byte, isSeparator, whitespaceOf, lineEndOf, whitespaceLen, lineEndLen, atWhitespace, atLineEnd};
 use crate::class::is_line_end;
 use crate::class::is_whitespace_byte;
 use crate::class::may_be_whitespace;
@@ -17,6 +17,13 @@ pub fn byte_at(s: &[u8], i: usize) -> u8
     if i < s.len() { s[i] } else { 0 }
 }
 
+// Whether the bytes are a line end of three bytes.
+fn is_separator(a: u8, b: u8, c: u8) -> bool
+    ensures { λ r. ⌜ r ≡ isSeparator a b c ⌝ }
+{
+    (a == 0xe2) & ((b == 0x80) & ((c == 0xa8) | (c == 0xa9)))
+}
+
 // Of the bytes a b c, of which a is none by itself, how many the whitespace character has that they start with.
 fn wide_whitespace_of(a: u8, b: u8, c: u8) -> usize
     requires { ⌜ isWhitespaceByte a ≡ false ⌝ }
@@ -26,8 +33,7 @@ fn wide_whitespace_of(a: u8, b: u8, c: u8) -> usize
         return 2;
     }
     let mark = (a == 0xe2) & ((b == 0x80) & ((c == 0x8e) | (c == 0x8f)));
-    let separator = (a == 0xe2) & ((b == 0x80) & ((c == 0xa8) | (c == 0xa9)));
-    if mark | separator {
+    if mark | is_separator(a, b, c) {
         return 3;
     }
     0
@@ -37,7 +43,7 @@ fn wide_line_end_of(a: u8, b: u8, c: u8) -> usize
     requires { ⌜ isLineEnd a ≡ false ⌝ }
     ensures { λ r. ⌜ r ≡ lineEndOf a b c ⌝ }
 {
-    if (a == 0xe2) & ((b == 0x80) & ((c == 0xa8) | (c == 0xa9))) {
+    if is_separator(a, b, c) {
         return 3;
     }
     0

@@ -7,5 +7,6 @@ pub wide-line-end-of-spec : {M : Type 1} → statement M
 wide-line-end-of-spec =
     tie.close
     (tie.spec
+    (λ c κs. search measuring)
     (λ c. search measuring)
     (λ c. search measuring))

@@ -8,5 +8,6 @@ wide-whitespace-of-spec =
     tie.close
     (tie.spec
     (λ c. search measuring)
+    (λ c κs. search measuring)
     (λ c. search measuring)
     (λ c. search measuring))
