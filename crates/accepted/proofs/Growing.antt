@@ -1,13 +1,14 @@
--- Larger areas change nothing but where an area was full: one law for each way to join steps, one line for each definition. So an accepted
--- outcome is the file's meaning, whatever the areas had.
-use Prim.Native.Nat.{ℕ, zero, suc, _+_, _*_, _-_}
+-- Larger areas change nothing but where an area was full, and that is one of the six: one law for each way to join steps, one line for each
+-- definition. So an accepted outcome is the file's meaning, whatever the areas had.
+use Prim.Native.Nat.{ℕ, zero, suc, _+_, _*_, _-_, _≤_}
 use mathlib.Core.Path.{_≡_, refl, ap, subst}
 use mathlib.Core.Bool.{Bool, true, false, cond, not, _&&_}
 use mathlib.Core.List.{List, [], _∷_, _++_}
 use mathlib.Core.Option.{Option, none, some}
 use native.Mathlib.Nat.{mul-le-mul-right}
+use native.Mathlib.Omega.{arith}
 use borrow.Author.Tests.{le-leb, leb-true}
-use lib.Dec.{leb, ltb}
+use lib.Dec.{eqb, leb, ltb}
 use lib.ListN.{length}
 use Rattle.text.proofs.Tests.{and-left}
 use Rattle.text.specs.Utf8.{utf8}
@@ -20,7 +21,8 @@ use Rattle.area.specs.Records.{faultWidth, mostOthers}
 use Rattle.text.specs.Scan.{lineEnd}
 use Rattle.text.specs.Whitespace.{atWhitespace}
 use Rattle.escape.specs.Escape.{unescaped}
-use Rattle.section.specs.Section.{toDeclaration, toRule}
+use Rattle.text.specs.Range.{lookaheadIs}
+use Rattle.section.specs.Section.{found, percents, toDeclaration, toRule, hasRoutines}
 use Rattle.area.specs.Contents.{Format, append, stateFormat, ruleFormat, entryFormat, textFormat, expectedFormat, faultFormat}
 use Rattle.fault.specs.Step.{Out, go, bad, full, next, onto, written, loop}
 use Rattle.fault.specs.Faults.{findFault, UnknownDeclaration, InvalidName, UnknownStartState, DuplicateStartState, InvalidStartState, InvalidStartStateName, DuplicateName, RegexError, VerbatimNotSupported, addFault, addSpan, addPair, repeatAt, addRepeat}
@@ -83,9 +85,9 @@ record Grown {A : Type 0} (a b : Option A) : Type 0 where
 abbrev StaysAs : {S : Type 0} → Out S → Out S → Type 0
 StaysAs (go i s) p = p ≡ go i s
 StaysAs (bad kind at s) p = p ≡ bad kind at s
-StaysAs (full n) p = Unit {0}
+StaysAs (full n) p = n ≤ 6
 
--- the outcome o is p, unless an area was full
+-- the outcome o is p, unless an area was full, one of the six
 record Stays {S : Type 0} (o p : Out S) : Type 0 where
   kept : StaysAs o p
 
@@ -101,10 +103,11 @@ grown-either : {A : Type 0} (t : Bool) {x y u v : Option A} → Grown x u → Gr
 grown-either true p q = p
 grown-either false p q = q
 
-stays-self : {S : Type 0} (o : Out S) → Stays o o
-stays-self (go i s) = record { kept = refl }
-stays-self (bad kind at s) = record { kept = refl }
-stays-self (full n) = record { kept = tt }
+stays-go : {S : Type 0} (i : ℕ) (s : S) → Stays (go i s) (go i s)
+stays-go i s = record { kept = refl }
+
+stays-bad : {S : Type 0} (kind at : ℕ) (s : S) → Stays (bad kind at s) (bad kind at s)
+stays-bad kind at s = record { kept = refl }
 
 stays-if : {S : Type 0} (t : Bool) {x y u v : Out S} → Stays x u → Stays y v → Stays (cond t x y) (cond t u v)
 stays-if true p q = p
@@ -113,21 +116,21 @@ stays-if false p q = q
 stays-next : {S : Type 0} {o p : Out S} {f g : ℕ → S → Out S} → Stays o p → ((i : ℕ) (s : S) → Stays (f i s) (g i s)) → Stays (next o f) (next p g)
 stays-next {o = go i s} {f = f} h k = rw (h .kept) (k i s)
 stays-next {o = bad kind at s} {g = g} h k = record { kept = ap (λ x. next x g) (h .kept) }
-stays-next {o = full n} h k = record { kept = tt }
+stays-next {o = full n} h k = record { kept = h .kept }
 
 stays-onto : {S T : Type 0} (f : S → T) {o p : Out S} → Stays o p → Stays (onto f o) (onto f p)
 stays-onto f {o = go i s} h = record { kept = ap (onto f) (h .kept) }
 stays-onto f {o = bad kind at s} h = record { kept = ap (onto f) (h .kept) }
-stays-onto f {o = full n} h = record { kept = tt }
+stays-onto f {o = full n} h = record { kept = h .kept }
 
-stays-written : {S : Type 0} (n i : ℕ) {a b : Option S} → Grown a b → Stays (written n i a) (written n i b)
-stays-written n i {a = none} h = record { kept = tt }
-stays-written n i {a = some s} h = record { kept = ap (written n i) (h .kept) }
+stays-written : {S : Type 0} (n i : ℕ) → n ≤ 6 → {a b : Option S} → Grown a b → Stays (written n i a) (written n i b)
+stays-written n i l {a = none} h = record { kept = l }
+stays-written n i l {a = some s} h = record { kept = ap (written n i) (h .kept) }
 
 stays-loop : {S : Type 0} (test : ℕ → Bool) (f g : ℕ → S → Out S) → ((i : ℕ) (s : S) → Stays (f i s) (g i s)) → (n i : ℕ) (s : S) → Stays (loop n test f i s) (loop n test g i s)
 unfolding loop
-stays-loop test f g h zero i s = stays-self (go i s)
-stays-loop test f g h (suc n) i s = stays-if (test i) (stays-next (h i s) (λ j t. stays-loop test f g h n j t)) (stays-self (go i s))
+stays-loop test f g h zero i s = stays-go i s
+stays-loop test f g h (suc n) i s = stays-if (test i) (stays-next (h i s) (λ j t. stays-loop test f g h n j t)) (stays-go i s)
 
 -- ---- faults
 
@@ -154,10 +157,10 @@ module _ (k l : Caps) (w : Wider k l) (s : List ℕ) (flags : ℕ) where
   grow-state : (x : State) (n : Names) → Stays (declareState s (nameCaps (k .c1) (k .c6)) x n) (declareState s (nameCaps (l .c1) (l .c6)) x n)
   unfolding declareState repeatState addState
   grow-state x n =
-      stays-if (not (isStateName s (x .start) (x .end))) (stays-self (bad InvalidStartStateName (x .start) n))
+      stays-if (not (isStateName s (x .start) (x .end))) (stays-bad InvalidStartStateName (x .start) n)
       (stays-if (ltb (stateNamed s x (n .states)) (length (n .states)))
-      (stays-onto (names (n .states)) (stays-written 6 (behindName s x) (grown-repeat (k .c6) (l .c6) (w .w6) DuplicateStartState _ _ (x .start) (x .end) (n .faults))))
-      (stays-onto (λ xs. names xs (n .faults)) (stays-written 1 (behindName s x) (grown-append stateFormat (k .c1) (l .c1) (w .w1) (x ∷ []) (n .states)))))
+      (stays-onto (names (n .states)) (stays-written 6 (behindName s x) (omega arith) (grown-repeat (k .c6) (l .c6) (w .w6) DuplicateStartState _ _ (x .start) (x .end) (n .faults))))
+      (stays-onto (λ xs. names xs (n .faults)) (stays-written 1 (behindName s x) (omega arith) (grown-append stateFormat (k .c1) (l .c1) (w .w1) (x ∷ []) (n .states)))))
 
   grow-names : (exclusive : ℕ) (r : Range) (n : Names) → Stays (stateNames s (nameCaps (k .c1) (k .c6)) exclusive r n) (stateNames s (nameCaps (l .c1) (l .c6)) exclusive r n)
   unfolding stateNames
@@ -166,7 +169,7 @@ module _ (k l : Caps) (w : Wider k l) (s : List ℕ) (flags : ℕ) where
   grow-quoted : (line word : Range) (xs : List Expected) → Stays (declareExpected s (k .c5) line word xs) (declareExpected s (l .c5) line word xs)
   unfolding declareExpected
   grow-quoted line word xs =
-      stays-if (isQuoted s word) (stays-written 5 _ (grown-append expectedFormat (k .c5) (l .c5) (w .w5) (expected (word .from + 1) (word .to - 1) ∷ []) xs)) (stays-self (bad InvalidName (line .from) xs))
+      stays-if (isQuoted s word) (stays-written 5 _ (omega arith) (grown-append expectedFormat (k .c5) (l .c5) (w .w5) (expected (word .from + 1) (word .to - 1) ∷ []) xs)) (stays-bad InvalidName (line .from) xs)
 
   grow-expected : (line : Range) (a : ℕ) (xs : List Expected) → Stays (expectedNames s (k .c5) line a xs) (expectedNames s (l .c5) line a xs)
   unfolding expectedNames
@@ -174,21 +177,21 @@ module _ (k l : Caps) (w : Wider k l) (s : List ℕ) (flags : ℕ) where
 
   grow-declare : (line : Range) (x : Declaration) (d : Declared) → Stays (declareAs s (declarationCaps k) line x d) (declareAs s (declarationCaps l) line x d)
   unfolding declareAs
-  grow-declare line (States exclusive a e) d = stays-next (stays-onto (withNames d) (grow-names exclusive (range a e) (names (d .states) (d .faults)))) (λ j m. stays-self (go (line .to) m))
-  grow-declare line (Expecting a) d = stays-next (stays-onto (withExpected d) (grow-expected line a (d .expected))) (λ j m. stays-self (go (line .to) m))
-  grow-declare line Unknown d = stays-self (bad UnknownDeclaration (line .from) d)
+  grow-declare line (States exclusive a e) d = stays-next (stays-onto (withNames d) (grow-names exclusive (range a e) (names (d .states) (d .faults)))) (λ j m. stays-go (line .to) m)
+  grow-declare line (Expecting a) d = stays-next (stays-onto (withExpected d) (grow-expected line a (d .expected))) (λ j m. stays-go (line .to) m)
+  grow-declare line Unknown d = stays-bad UnknownDeclaration (line .from) d
 
   grow-declarations : (i : ℕ) (d : Declared) → Stays (declarations s flags (declarationCaps k) i d) (declarations s flags (declarationCaps l) i d)
-  unfolding declarations nextDeclaration declaration
+  unfolding declarations nextDeclaration declaration endDeclarations
   grow-declarations i d =
-      stays-next (stays-loop _ _ _ (λ j m. stays-next (grow-declare _ _ m) (λ p t. stays-self (go (toDeclaration s flags p) t))) (length s) _ d) (λ j m. stays-self (endDeclarations s j m))
+      stays-next (stays-loop _ _ _ (λ j m. stays-next (grow-declare _ _ m) (λ p t. stays-go (toDeclaration s flags p) t)) (length s) _ d) (λ j m. stays-if (found (lookaheadIs s percents j)) (stays-go _ m) (stays-bad _ _ m))
 
   -- ---- rules
 
   module _ (verdicts : List ℕ) (xs : List State) where
     grow-entry : (n i a j : ℕ) (ids : List ℕ) → Stays (entryAt (k .c3) n i a j ids) (entryAt (l .c3) n i a j ids)
     unfolding entryAt
-    grow-entry n i a j ids = stays-if (ltb j n) (stays-written 3 a (grown-append entryFormat (k .c3) (l .c3) (w .w3) (j ∷ []) ids)) (stays-self (bad UnknownStartState i ids))
+    grow-entry n i a j ids = stays-if (ltb j n) (stays-written 3 a (omega arith) (grown-append entryFormat (k .c3) (l .c3) (w .w3) (j ∷ []) ids)) (stays-bad UnknownStartState i ids)
 
     grow-entries : (i g : ℕ) (ids : List ℕ) → Stays (entries s (k .c3) xs i g ids) (entries s (l .c3) xs i g ids)
     unfolding entries nextEntry entryFrom
@@ -196,7 +199,7 @@ module _ (k l : Caps) (w : Wider k l) (s : List ℕ) (flags : ℕ) where
 
     grow-record : (i e : ℕ) (x : Rule) (rs : List Rule) → Stays (recordRule verdicts (k .c2) i e x rs) (recordRule verdicts (l .c2) i e x rs)
     unfolding recordRule
-    grow-record i e x rs = stays-if (refuses verdicts (length rs)) (stays-self (bad RegexError i rs)) (stays-written 2 e (grown-append ruleFormat (k .c2) (l .c2) (w .w2) (x ∷ []) rs))
+    grow-record i e x rs = stays-if (refuses verdicts (length rs)) (stays-bad RegexError i rs) (stays-written 2 e (omega arith) (grown-append ruleFormat (k .c2) (l .c2) (w .w2) (x ∷ []) rs))
 
     grow-source : (i e : ℕ) (h : Head) (from len list : ℕ) (ids : List ℕ) (v : Sheet)
         → Stays (sourceRule verdicts (ruleCaps k) i e h from len list ids v) (sourceRule verdicts (ruleCaps l) i e h from len list ids v)
@@ -208,36 +211,36 @@ module _ (k l : Caps) (w : Wider k l) (s : List ℕ) (flags : ℕ) where
     unfolding listedRule
     grow-listed i e h from len v (go j ids) p q = rw (q .kept) (grow-source i e h from len (length (v .lists)) ids v)
     grow-listed i e h from len v (bad kind at ids) p q = record { kept = ap (listedRule verdicts (ruleCaps l) i e h from len v) (q .kept) }
-    grow-listed i e h from len v (full n) p q = record { kept = tt }
+    grow-listed i e h from len v (full n) p q = record { kept = q .kept }
 
     grow-rewritten : (i e : ℕ) (h : Head) (v : Sheet) (a b : Option (List ℕ)) → Grown a b
         → Stays (rewrittenRule verdicts (ruleCaps k) i e h v a) (rewrittenRule verdicts (ruleCaps l) i e h v b)
     unfolding rewrittenRule
-    grow-rewritten i e h v none b q = record { kept = tt }
+    grow-rewritten i e h v none b q = record { kept = omega arith }
     grow-rewritten i e h v (some t) b q = rw (q .kept) (stays-onto (λ rs. sheet rs (v .lists) t) (grow-record i e _ (v .rules)))
 
     grow-body : (i e : ℕ) (h : Head) (c : ℕ) (x : Body) (v : Sheet) → Stays (ruleBody s flags verdicts xs (ruleCaps k) i e h c x v) (ruleBody s flags verdicts xs (ruleCaps l) i e h c x v)
     unfolding ruleBody
-    grow-body i e h c Unclosed v = stays-self (bad InvalidStartState i v)
+    grow-body i e h c Unclosed v = stays-bad InvalidStartState i v
     grow-body i e h c (Listed g) v = grow-listed i e h _ _ v _ _ (grow-entries i g (v .lists))
     grow-body i e h c Rewritten v = grow-rewritten i e h v _ _ (grown-append textFormat (k .c4) (l .c4) (w .w4) (unescaped s flags i c) (v .text))
     grow-body i e h c Plain v = grow-source i e h i (c - i) (length (v .lists)) (v .lists) v
 
     grow-rule : (i e : ℕ) (x : Heading) (r : Ruled) → Stays (ruleAs s flags verdicts xs (ruleCaps k) (k .c6) i e x r) (ruleAs s flags verdicts xs (ruleCaps l) (l .c6) i e x r)
     unfolding ruleAs pattern
-    grow-rule i e (Faulty kind at) r = stays-self (bad kind at r)
-    grow-rule i e (Repeated x y a z) r = stays-onto (withFaults r) (stays-written 6 e (grown-repeat (k .c6) (l .c6) (w .w6) DuplicateName x y a z (r .faults)))
+    grow-rule i e (Faulty kind at) r = stays-bad kind at r
+    grow-rule i e (Repeated x y a z) r = stays-onto (withFaults r) (stays-written 6 e (omega arith) (grown-repeat (k .c6) (l .c6) (w .w6) DuplicateName x y a z (r .faults)))
     grow-rule i e (Fresh b h) r = stays-onto (withSheet r) (grow-body i e h _ _ (sheetOf r))
 
     grow-line : (i e : ℕ) (r : Ruled) → Stays (line s flags verdicts xs (ruleCaps k) (k .c6) i e r) (line s flags verdicts xs (ruleCaps l) (l .c6) i e r)
     unfolding line rule
     grow-line i e r =
-        stays-if (atWhitespace s i) (stays-onto (withFaults r) (stays-written 6 e (grown-fault (k .c6) (l .c6) (w .w6) VerbatimNotSupported i e (r .faults)))) (grow-rule i e _ r)
+        stays-if (atWhitespace s i) (stays-onto (withFaults r) (stays-written 6 e (omega arith) (grown-fault (k .c6) (l .c6) (w .w6) VerbatimNotSupported i e (r .faults)))) (grow-rule i e _ r)
 
     grow-rules : (i : ℕ) (r : Ruled) → Stays (rulesSection s flags verdicts xs (ruleCaps k) (k .c6) i r) (rulesSection s flags verdicts xs (ruleCaps l) (l .c6) i r)
-    unfolding rulesSection rules nextRule
+    unfolding rulesSection rules nextRule routines
     grow-rules i r =
-        stays-next (stays-loop _ _ _ (λ j t. stays-next (grow-line j (lineEnd s j) t) (λ p q. stays-self (go (toRule s flags (lineEnd s j)) q))) (length s) _ r) (λ j t. stays-self (routines s j t))
+        stays-next (stays-loop _ _ _ (λ j t. stays-next (grow-line j (lineEnd s j) t) (λ p q. stays-go (toRule s flags (lineEnd s j)) q)) (length s) _ r) (λ j t. stays-if (hasRoutines s j) (stays-bad _ _ t) (stays-go _ t))
 
 -- ---- the file
 
@@ -245,56 +248,52 @@ abbrev SettledAs : Outcome → Outcome → Type 0
 SettledAs longFile p = p ≡ longFile
 SettledAs unknownFlag p = p ≡ unknownFlag
 SettledAs invalidUtf8 p = p ≡ invalidUtf8
-SettledAs (areaFull n) p = Unit {0}
+SettledAs (areaFull n) p = n ≤ 6
 SettledAs (faulty fs) p = p ≡ faulty fs
 SettledAs (accepted c) p = p ≡ accepted c
 
--- the outcome o is p, unless an area was full
+-- the outcome o is p, unless an area was full, one of the six
 pub record Settled (o p : Outcome) : Type 0 where
   pub kept : SettledAs o p
-
-settled-self : (o : Outcome) → Settled o o
-settled-self longFile = record { kept = refl }
-settled-self unknownFlag = record { kept = refl }
-settled-self invalidUtf8 = record { kept = refl }
-settled-self (areaFull n) = record { kept = tt }
-settled-self (faulty fs) = record { kept = refl }
-settled-self (accepted c) = record { kept = refl }
 
 settled-if : (t : Bool) {x y u v : Outcome} → Settled x u → Settled y v → Settled (cond t x y) (cond t u v)
 settled-if true p q = p
 settled-if false p q = q
 
+settled-judge : (c : Contents) → Settled (judge c) (judge c)
+unfolding judge
+settled-judge c = settled-if (eqb (length (c .faults)) 0) (record { kept = refl }) (record { kept = refl })
+
 settled-closed : (a b : Option (List Fault)) → Grown a b → Settled (closed a) (closed b)
 unfolding closed
-settled-closed none b h = record { kept = tt }
+settled-closed none b h = record { kept = omega arith }
 settled-closed (some fs) b h = record { kept = ap closed (h .kept) }
 
 settled-ending : {S : Type 0} (faults : S → List Fault) (c d : ℕ) → Roomier faultFormat c d → {o p : Out S} {f g : ℕ → S → Outcome} → Stays o p
     → ((i : ℕ) (s : S) → Settled (f i s) (g i s)) → Settled (ending faults c o f) (ending faults d p g)
 settled-ending faults c d w {o = go i s} h k = rw (h .kept) (k i s)
 settled-ending faults c d w {o = bad kind at s} h k = rw (h .kept) (settled-closed _ _ (grown-fault c d w kind at at (faults s)))
-settled-ending faults c d w {o = full n} h k = record { kept = tt }
+settled-ending faults c d w {o = full n} h k = record { kept = h .kept }
 
 module _ (k l : Caps) (w : Wider k l) (s : List ℕ) (flags : ℕ) (verdicts : List ℕ) where
   grow-opening : Stays (opening s flags (declarationCaps k) undeclared) (opening s flags (declarationCaps l) undeclared)
   unfolding opening
   grow-opening =
-      stays-next (stays-onto (withStates undeclared) (stays-written 1 0 (grown-append stateFormat (k .c1) (l .c1) (w .w1) (state 0 0 0 ∷ []) (undeclared .states))))
+      stays-next (stays-onto (withStates undeclared) (stays-written 1 0 (omega arith) (grown-append stateFormat (k .c1) (l .c1) (w .w1) (state 0 0 0 ∷ []) (undeclared .states))))
       (λ i d. grow-declarations k l w s flags i d)
 
   grow-file : Settled (file s flags verdicts k) (file s flags verdicts l)
   unfolding file rulesFrom
   grow-file =
       settled-ending (λ d. d .faults) (k .c6) (l .c6) (w .w6) grow-opening
-      (λ i d. settled-ending (λ r. r .faults) (k .c6) (l .c6) (w .w6) (grow-rules k l w s flags verdicts (d .states) i (noRules d)) (λ j r. settled-self (judge (contentsOf d r))))
+      (λ i d. settled-ending (λ r. r .faults) (k .c6) (l .c6) (w .w6) (grow-rules k l w s flags verdicts (d .states) i (noRules d)) (λ j r. settled-judge (contentsOf d r)))
 
   -- an outcome without a full area is the same in larger areas
   pub larger : Settled (outcome s flags verdicts k) (outcome s flags verdicts l)
   unfolding outcome
   larger =
-      settled-if (ltb 65535 (length s)) (settled-self longFile)
-      (settled-if (ltb 3 flags) (settled-self unknownFlag) (settled-if (utf8 s) grow-file (settled-self invalidUtf8)))
+      settled-if (ltb 65535 (length s)) (record { kept = refl })
+      (settled-if (ltb 3 flags) (record { kept = refl }) (settled-if (utf8 s) grow-file (record { kept = refl })))
 
 -- whatever the areas had, an accepted outcome is the file's meaning
 pub accepted-meaning : (s : List ℕ) (flags : ℕ) (verdicts : List ℕ) (k : Caps) (c : Contents) → outcome s flags verdicts k ≡ accepted c → meaning s flags verdicts ≡ accepted c

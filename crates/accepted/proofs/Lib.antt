@@ -10,3 +10,6 @@ pub mod Checking
 pub mod Fields
 pub mod Decoding
 pub mod Growing
+pub mod Totals
+pub mod Bounds
+pub mod AnswerLimits

@@ -18,8 +18,9 @@ use Rattle.parse.specs.Parse.{Outcome, longFile, unknownFlag, invalidUtf8, area
 use Rattle.accepted.proofs.Accepting.{accepted-holds, accepted-short}
 use Rattle.sheet_print.specs.Output.{Written, AllWritten, digitAt, tens, decimal, field}
 use Rattle.sheet_print.specs.Lines.{joined, fields, stateName, stateHead, stateLine, ruleLine, faultLine, refusedLine, fullLine, textOf, lent, sheetText, sheetRoom}
-use Rattle.sheet_print.proofs.Totals.{total-plus, joined-total, joined-most, nameLength, nameBytes}
-use Rattle.sheet_print.proofs.Bounds.{Bounded, outcome-bounded}
+use Rattle.accepted.proofs.Totals.{total-plus, nameLength, nameBytes}
+use Rattle.sheet_print.proofs.Joined.{joined-total, joined-most}
+use Rattle.accepted.proofs.Bounds.{Bounded, outcome-bounded}
 
 -- the text t has at most n bytes
 record Most (t : List ℕ) (n : ℕ) : Type 0 where

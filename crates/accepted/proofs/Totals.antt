@@ -1,14 +1,13 @@
--- Sums over the places of a list: what many texts joined have at most, and the bytes of the names of all states.
+-- Sums over the places of a list, and the bytes of the names of all states.
 use mathlib.Core.Path.{_≡_, refl, ap, ap₂, _∙_}
 use mathlib.Core.List.{List, [], _∷_, _++_}
-use Prim.Native.Nat.{ℕ, zero, suc, _+_, _*_, _-_, _≤_, _<_}
+use Prim.Native.Nat.{ℕ, zero, suc, _+_, _*_, _-_, _<_}
 use native.Mathlib.Omega.{arith}
 use native.Mathlib.Numerals.{add-one}
 use lib.ListN.{length, length-append, List·getD-append}
 use lib.Seq.{getD-append-seam}
 use Rattle.area.specs.declared.State.{State}
 use Rattle.area.specs.Records.{nthState, stateOf}
-use Rattle.sheet_print.specs.Lines.{joined}
 
 -- f 0 up to f (n - 1), added up
 unfoldable pub total : (ℕ → ℕ) → ℕ → ℕ
@@ -25,18 +24,6 @@ pub total-plus : (c : ℕ) (f : ℕ → ℕ) (n : ℕ) → total (λ k. c + f k)
 unfolding total
 total-plus c f zero = omega arith
 total-plus c f (suc n) = omega (arith, total-plus c f n)
-
--- texts joined, each of which has a bound
-pub joined-total : (f : ℕ → List ℕ) (g : ℕ → ℕ) → ((k : ℕ) → length (f k) ≤ g k) → (n : ℕ) → length (joined f n) ≤ total g n
-unfolding joined total
-joined-total f g h zero = omega arith
-joined-total f g h (suc n) = omega (arith, length-append (joined f n) (f n), joined-total f g h n, h n)
-
--- texts joined that all have the same bound
-pub joined-most : (f : ℕ → List ℕ) (c : ℕ) → ((k : ℕ) → length (f k) ≤ c) → (n : ℕ) → length (joined f n) ≤ n * c
-unfolding joined
-joined-most f c h zero = omega arith
-joined-most f c h (suc n) = omega (arith, length-append (joined f n) (f n), joined-most f c h n, h n)
 
 -- ---- the names of states
 

@@ -1,8 +1,8 @@
--- What bounds the text of a file. State names are declared left to right, so where the declarations go on, all names together have no more bytes
+-- What bounds the outcome of a file, whatever it is. State names are declared left to right, so where the declarations go on, all names together have no more bytes
 -- than stand before that place; and whatever adds to the fault list asks for room in area 6. The rest is what an accepted parse yields.
 use Prim.Native.Nat.{ℕ, _+_, _-_, _≤_}
 use mathlib.Core.Path.{_≡_, refl, subst}
-use mathlib.Core.Bool.{cond}
+use mathlib.Core.Bool.{cond, not}
 use mathlib.Core.List.{List, [], _∷_, _++_}
 use mathlib.Core.Option.{none, some}
 use native.Mathlib.Nat.{le-refl}
@@ -27,12 +27,11 @@ use Rattle.fault.specs.Step.{Out, go, bad, full, onto, written, loop}
 use Rattle.fault.specs.Faults.{fault, nextNumber, faultEnd, findFault, addFault, addSpan, addPair, repeatAt, addRepeat, DuplicateStartState, DuplicateName, PrematureEnd, RoutinesNotSupported, VerbatimNotSupported}
 use Rattle.fault.proofs.Yielding.{Yields, yields-next, yields-onto, yields-loop}
 use Rattle.section.specs.Section.{found, percents, isComment, pastComment, pastLine, toDeclaration, toRule, inSection, hasRoutines}
-use Rattle.declarations.specs.declared.Naming.{Naming}
-use Rattle.declarations.specs.declared.Naming.the-variants.{Malformed, Known, New}
 use Rattle.declarations.specs.declared.Declaration.{Declaration}
 use Rattle.declarations.specs.declared.Declaration.the-variants.{States, Expecting, Unknown}
-use Rattle.declarations.specs.Declarations.{Names, names, Declared, Caps, state, namingOf, declareState, nameTo, nextName, stateNames}
-use Rattle.declarations.specs.Declarations.{expectedNames, declares, expectMissing, statesFrom, declarationBy, declarationTo, declarationOf, withNames, withExpected, thenAt, declareAs, declaration, nextDeclaration, endDeclarations, declarations}
+use Rattle.names.specs.Names.{isStateName}
+use Rattle.declarations.specs.Declarations.{range, Names, names, NameCaps, nameCaps, Declared, Caps, state, trimmed, wordEnd, firstWord, restOf, isInclusive, isExclusive, isExpecting, statesOf, declarationOf}
+use Rattle.declarations.specs.Declarations.{behindName, addState, repeatState, stateNamed, declareState, stateNames, expectedNames, withNames, withExpected, thenAt, declareAs, declaration, nextDeclaration, endDeclarations, declarations}
 use Rattle.declarations.proofs.Lines.{names-within}
 use Rattle.rules.specs.declared.Heading.{Heading}
 use Rattle.rules.specs.declared.Heading.the-variants.{Faulty, Repeated, Fresh}
@@ -41,11 +40,11 @@ use Rattle.rules.specs.Rules.{Ruled, Sheet, sheetOf, withSheet, withFaults, pat
 use Rattle.rules.specs.Rules as R
 use Rattle.parse.specs.Parse.{Contents, declarationCaps, ruleCaps, Outcome, longFile, unknownFlag, invalidUtf8, areaFull, faulty, accepted, closed, ending, judge, contentsOf, noRules, rulesFrom, undeclared, withStates, opening, file, outcome}
 use Rattle.parse.specs.Parse as P
 use Rattle.accepted.specs.Accepted.{Fits}
 use Rattle.accepted.proofs.Appending.{room-holds, yields-append}
 use Rattle.accepted.proofs.Places.{declaration-to, word-to}
 use Rattle.accepted.proofs.Declaring.{yields-then}
-use Rattle.sheet_print.proofs.Totals.{nameBytes, names-none, names-more}
+use Rattle.accepted.proofs.Totals.{nameBytes, names-none, names-more}
 
 -- a fault list fits an area 6 of so many bytes
 abbrev FaultsFit : ℕ → List Fault → Type 0
@@ -90,27 +89,36 @@ record NamesRead (c6 t j : ℕ) (n : Names) : Type 0 where
   within : nameBytes (n .states) ≤ t
   faults : FaultsFit c6 (n .faults)
 
-module _ (s : List ℕ) (c1 c6 exclusive t : ℕ) where
-  state-read : (a e i : ℕ) → a ≤ e → e ≤ t → e ≤ i → (x : Naming) (n : Names) → NamesRead c6 t a n → Yields (NamesRead c6 t) (declareState c1 c6 exclusive a e i x n)
-  unfolding declareState
-  state-read a e i l m k Malformed n h = tt
-  state-read a e i l m k (Known c d) n h =
-      yields-onto (λ j fs. NamesRead c6 t j (names (n .states) fs)) (NamesRead c6 t) (names (n .states)) (written 6 i (addRepeat c6 DuplicateStartState c d a e (n .faults)))
-      (repeat-fits (λ j fs. NamesRead c6 t j (names (n .states) fs)) c6 i (n .faults)
-      (λ fs f. record { before = omega (arith, h .before); within = h .within; faults = f }) DuplicateStartState c d a e) (λ _ _ g. g)
-  state-read a e i l m k New n h =
-      let z : nameBytes (n .states ++ (state a e exclusive ∷ [])) ≡ nameBytes (n .states) + (e - a) = names-more (n .states) (state a e exclusive) in
-      yields-onto (λ j xs. NamesRead c6 t j (names xs (n .faults))) (NamesRead c6 t) (λ xs. names xs (n .faults)) (written 1 i (append stateFormat c1 (state a e exclusive ∷ []) (n .states)))
-      (yields-append (λ j xs. NamesRead c6 t j (names xs (n .faults))) stateFormat c1 1 i (state a e exclusive ∷ []) (n .states)
+module _ (s : List ℕ) (k : NameCaps) (t : ℕ) where
+  abbrev Reads : ℕ → Names → Type 0
+  Reads j n = NamesRead (k .c6) t j n
+
+  repeat-read : (x y : State) (n : Names) → x .start ≤ x .end → Reads (x .start) n → Yields Reads (repeatState s k x y n)
+  unfolding repeatState behindName
+  repeat-read x y n l h =
+      yields-onto (λ j fs. Reads j (names (n .states) fs)) Reads (names (n .states)) (written 6 (behindName s x) (addRepeat (k .c6) DuplicateStartState (y .start) (y .end) (x .start) (x .end) (n .faults)))
+      (repeat-fits (λ j fs. Reads j (names (n .states) fs)) (k .c6) (behindName s x) (n .faults)
+      (λ fs f. record { before = omega (arith, h .before); within = h .within; faults = f }) DuplicateStartState (y .start) (y .end) (x .start) (x .end)) (λ _ _ g. g)
+
+  add-read : (x : State) (n : Names) → x .start ≤ x .end → x .end ≤ t → Reads (x .start) n → Yields Reads (addState s k x n)
+  unfolding addState behindName
+  add-read x n l m h =
+      let z : nameBytes (n .states ++ (x ∷ [])) ≡ nameBytes (n .states) + (x .end - x .start) = names-more (n .states) x in
+      yields-onto (λ j xs. Reads j (names xs (n .faults))) Reads (λ xs. names xs (n .faults)) (written 1 (behindName s x) (append stateFormat (k .c1) (x ∷ []) (n .states)))
+      (yields-append (λ j xs. Reads j (names xs (n .faults))) stateFormat (k .c1) 1 (behindName s x) (x ∷ []) (n .states)
       (λ _. record { before = omega (arith, z, h .before); within = omega (arith, z, h .before); faults = h .faults })) (λ _ _ g. g)
 
-  names-read : (a : ℕ) (n : Names) → NamesRead c6 t a n → Yields (NamesRead c6 t) (stateNames s c1 c6 exclusive t a n)
-  unfolding stateNames nextName nameTo
-  names-read a n h =
-      yields-loop (NamesRead c6 t) (λ j. ltb j t) (nextName s c1 c6 exclusive t)
-      (λ j m e g.
-      let b : findWhitespace s j t ≤ t = first-to (atWhitespace s) j t (omega (arith, ltb-true j t e)) in
-      state-read j (findWhitespace s j t) (findWhitespace s j t + whitespaceLen s (findWhitespace s j t)) (first-from (atWhitespace s) j t) b (omega arith) (namingOf s j (findWhitespace s j t) (m .states)) m g) (length s) a n h
+  state-read : (x : State) (n : Names) → x .start ≤ x .end → x .end ≤ t → Reads (x .start) n → Yields Reads (declareState s k x n)
+  unfolding declareState
+  state-read x n l m h =
+      by-test (Yields Reads) (not (isStateName s (x .start) (x .end))) _ _ (λ _. tt)
+      (λ _. by-test (Yields Reads) (ltb (stateNamed s x (n .states)) (length (n .states))) _ _ (λ _. repeat-read x _ n l h) (λ _. add-read x n l m h))
+
+  names-read : (exclusive a : ℕ) (n : Names) → Reads a n → Yields Reads (stateNames s k exclusive (range a t) n)
+  unfolding stateNames
+  names-read exclusive a n h =
+      yields-loop Reads (λ j. ltb j t) (λ j. declareState s k (state j (findWhitespace s j t) exclusive))
+      (λ j m e g. state-read (state j (findWhitespace s j t) exclusive) m (first-from (atWhitespace s) j t) (first-to (atWhitespace s) j t (omega (arith, ltb-true j t e))) g) (length s) a n h
 
 -- ---- a declaration
 
@@ -121,24 +129,22 @@ Behind i (Expecting w) = Unit {0}
 Behind i Unknown = Unit {0}
 
 module _ (s : List ℕ) (i e : ℕ) (h : i ≤ e) where
-  from-behind : (exclusive r : ℕ) → i ≤ r → Behind i (statesFrom s exclusive e (trimStart s r e))
-  unfolding statesFrom trimStart trimEnd
-  from-behind exclusive r g =
-      by-test (Behind i) (eqb (trimStart s r e) e) Unknown _ (λ _. tt)
+  states-behind : (exclusive r : ℕ) → i ≤ r → Behind i (statesOf exclusive (trimmed s (range r e)))
+  unfolding statesOf trimmed trimStart trimEnd
+  states-behind exclusive r g =
+      by-test (Behind i) (eqb (trimStart s r e) (trimEnd s (trimStart s r e) e)) Unknown _ (λ _. tt)
       (λ _. (omega (arith, skip-from (whitespaceLen s) (length s) (white-inside s) r), first-from _ (trimStart s r e) e))
 
-  by-behind : (w r : ℕ) → i ≤ r → Behind i (declarationBy s i e w r)
-  unfolding declarationBy
-  by-behind w r g =
-      by-test (Behind i) (declares 0x73 0x53 s i w) (statesFrom s 0 e (trimStart s r e)) _ (λ _. from-behind 0 r g)
-      (λ _. by-test (Behind i) (declares 0x78 0x58 s i w) (statesFrom s 1 e (trimStart s r e)) _ (λ _. from-behind 1 r g)
-      (λ _. by-test (Behind i) (found (lookaheadIs s expectMissing i)) (Expecting r) Unknown (λ _. tt) (λ _. tt)))
+  rest-behind : i ≤ restOf s (range i e) .from
+  unfolding restOf wordEnd
+  rest-behind = by-test (λ r. i ≤ r) (eqb (wordEnd s (range i e)) (trimEnd s i e)) e (wordEnd s (range i e)) (λ _. h) (λ _. first-from (atWhitespace s) i e)
 
-  line-behind : Behind i (declarationOf s i e)
-  unfolding declarationOf declarationTo
+  line-behind : Behind i (declarationOf s (range i e))
+  unfolding declarationOf
   line-behind =
-      let w = findWhitespace s i (trimEnd s i e) in
-      by-behind w (cond (eqb w (trimEnd s i e)) e w) (by-test (λ r. i ≤ r) (eqb w (trimEnd s i e)) e w (λ _. h) (λ _. first-from (atWhitespace s) i (trimEnd s i e)))
+      by-test (Behind i) (isInclusive s (firstWord s (range i e))) _ _ (λ _. states-behind 0 (restOf s (range i e) .from) rest-behind)
+      (λ _. by-test (Behind i) (isExclusive s (firstWord s (range i e))) _ _ (λ _. states-behind 1 (restOf s (range i e) .from) rest-behind)
+      (λ _. by-test (Behind i) (isExpecting s (firstWord s (range i e))) _ _ (λ _. tt) (λ _. tt)))
 
 -- lines are skipped forward
 declaration-from : (s : List ℕ) (flags i : ℕ) → i ≤ toDeclaration s flags i
@@ -161,15 +167,15 @@ module _ (s : List ℕ) (flags : ℕ) (k : Caps) where
   abbrev Read : ℕ → Declared → Type 0
   Read i d = DeclaredRead s (k .c6) i d
 
-  as-read : (i e : ℕ) → i ≤ e → e ≤ length s → (x : Declaration) → declarationOf s i e ≡ x → (d : Declared) → Read i d → Yields Read (declareAs s k i e x d)
+  as-read : (i e : ℕ) → i ≤ e → e ≤ length s → (x : Declaration) → declarationOf s (range i e) ≡ x → (d : Declared) → Read i d → Yields Read (declareAs s k (range i e) x d)
   unfolding declareAs
   as-read i e a l (States exclusive b t) q d h =
       let f : (i ≤ b) × (b ≤ t) = subst (Behind i) q (line-behind s i e a) in
-      let g : t ≤ e = names-within s i e (declarationOf s i e) refl a exclusive b t q in
-      yields-then (NamesRead (k .c6) t) Read e (withNames d) (stateNames s (k .c1) (k .c6) exclusive t b (names (d .states) (d .faults)))
-      (names-read s (k .c1) (k .c6) exclusive t b (names (d .states) (d .faults)) (record { before = omega (arith, f .0, h .names); within = omega (arith, f .0, f .1, h .names); faults = h .faults }))
+      let g : t ≤ e = names-within s i e (declarationOf s (range i e)) refl a exclusive b t q in
+      yields-then (NamesRead (k .c6) t) Read e (withNames d) (stateNames s (nameCaps (k .c1) (k .c6)) exclusive (range b t) (names (d .states) (d .faults)))
+      (names-read s (nameCaps (k .c1) (k .c6)) t exclusive b (names (d .states) (d .faults)) (record { before = omega (arith, f .0, h .names); within = omega (arith, f .0, f .1, h .names); faults = h .faults }))
       (λ _ n r. record { place = l; names = omega (arith, r .within); faults = r .faults })
-  as-read i e a l (Expecting w) q d h = any-read (expectedNames s (k .c5) i e w (d .expected))
+  as-read i e a l (Expecting w) q d h = any-read (expectedNames s (k .c5) (range i e) w (d .expected))
     where
       any-read : (o : Out _) → Yields Read (thenAt e (onto (withExpected d) o))
       any-read (go j xs) = record { place = l; names = omega (arith, h .names); faults = h .faults }
@@ -182,7 +188,7 @@ module _ (s : List ℕ) (flags : ℕ) (k : Caps) where
   declaration-read i d h =
       let e = lineEnd s i in
       yields-next Read Read (declaration s k i e d) (λ j t. go (toDeclaration s flags j) t)
-      (as-read i e (first-from (atLineEnd s) i (length s)) (first-to (atLineEnd s) i (length s) (h .place)) (declarationOf s i e) refl d h)
+      (as-read i e (first-from (atLineEnd s) i (length s)) (first-to (atLineEnd s) i (length s) (h .place)) (declarationOf s (range i e)) refl d h)
       (λ j t g. record { place = declaration-to s flags j (g .place); names = omega (arith, declaration-from s flags j, g .names); faults = g .faults })
 
   end-read : (i : ℕ) (d : Declared) → Read i d → Yields Read (endDeclarations s i d)
