@@ -17,11 +17,11 @@ use Rattle.names.specs.Names.{allBytes, isNameByte, isStateName, isState, findS
 use Rattle.escape.specs.Escape.{posixEscapes, hasEscape, isCodeLetter, isCode, isKeptBy, isKept, pastEscape, pastKept, pastAllKept, isRewritten, lastWhole, dropLone, rewrittenEnd, backspace, escapeFrom, escaped, pieceEnd, piece, pieces, unescaped}
 use Rattle.declarations.specs.Declarations.{namingAt, namingOf, declareState, nameTo, nextName, stateNames, isQuoted, expectedTo, nextExpected, expectedNames, isAlphanumeric, declares, statesFrom, declarationBy, declarationTo, declarationOf, declareAs, declaration, nextDeclaration, endDeclarations, declarations}
 use Rattle.rules.specs.Heading.{hasTarget, targetEnd, operationOf, targetOperation, targetName, targetId, targetOf, equalQuotes, isNoName, isName, labelBy, labelOf, ruleNamed, headingBehind, headingOf, hasList, listEnd, bodyOf}
-use Rattle.rules.specs.Rules.{entryAt, entryFrom, nextEntry, entries, refuses, recordRule, sourceRule, listedRule, rewrittenRule, ruleBody, pattern, ruleAs, rule, line, nextRule, rules, routines, rulesSection}
+use Rattle.rules.specs.Rules.{entryEnd, entryId, nextEntry, entries, refuses, recordRule, withRule, listedRule, rewrittenRule, pattern, ruleAs, rule, line, nextRule, rules, routines, rulesSection}
 use Rattle.parse.specs.Parse.{closed, judge, rulesFrom, opening, file, outcome}
 use Rattle.file_table.specs.Table.{table, Right}
 
 -- S9: every row of the table is right
 pub files-right : Right table
-unfolding isLineEnd isBlank isOtherWhitespace isLetter isDigit isHexDigit isMetaCharacter isEscapeLetter isWhitespaceByte isAsciiWhitespace isAlwaysKept part sameBytes sameRange lookaheadIs trimStart trimEnd backslashesBehind backslashesBefore keepEscaped trimEndUnescaped charOf charLen utf8 firstOf first lastOf last repeat skip whitespaceOf lineEndOf whitespaceLen lineEndLen room insertAt append stateOf ruleOf expectedOf faultOf nextNumber addFault startsFault isFault findFault faultEnd addSpan addPair repeatAt addRepeat loop comments isComment pastComment pastLine toDeclaration pastRuleLine toRule inSection hasRoutines allBytes isNameByte isStateName isState findState hasName findRule posixEscapes hasEscape isCodeLetter isCode isKeptBy isKept pastEscape pastKept pastAllKept isRewritten lastWhole dropLone rewrittenEnd backspace escapeFrom escaped pieceEnd piece pieces unescaped namingAt namingOf declareState nameTo nextName stateNames isQuoted expectedTo nextExpected expectedNames isAlphanumeric declares statesFrom declarationBy declarationTo declarationOf declareAs declaration nextDeclaration endDeclarations declarations hasTarget targetEnd operationOf targetOperation targetName targetId targetOf equalQuotes isNoName isName labelBy labelOf ruleNamed headingBehind headingOf hasList listEnd bodyOf entryAt entryFrom nextEntry entries refuses recordRule sourceRule listedRule rewrittenRule ruleBody pattern ruleAs rule line nextRule rules routines rulesSection closed judge rulesFrom opening file outcome
+unfolding isLineEnd isBlank isOtherWhitespace isLetter isDigit isHexDigit isMetaCharacter isEscapeLetter isWhitespaceByte isAsciiWhitespace isAlwaysKept part sameBytes sameRange lookaheadIs trimStart trimEnd backslashesBehind backslashesBefore keepEscaped trimEndUnescaped charOf charLen utf8 firstOf first lastOf last repeat skip whitespaceOf lineEndOf whitespaceLen lineEndLen room insertAt append stateOf ruleOf expectedOf faultOf nextNumber addFault startsFault isFault findFault faultEnd addSpan addPair repeatAt addRepeat loop comments isComment pastComment pastLine toDeclaration pastRuleLine toRule inSection hasRoutines allBytes isNameByte isStateName isState findState hasName findRule posixEscapes hasEscape isCodeLetter isCode isKeptBy isKept pastEscape pastKept pastAllKept isRewritten lastWhole dropLone rewrittenEnd backspace escapeFrom escaped pieceEnd piece pieces unescaped namingAt namingOf declareState nameTo nextName stateNames isQuoted expectedTo nextExpected expectedNames isAlphanumeric declares statesFrom declarationBy declarationTo declarationOf declareAs declaration nextDeclaration endDeclarations declarations hasTarget targetEnd operationOf targetOperation targetName targetId targetOf equalQuotes isNoName isName labelBy labelOf ruleNamed headingBehind headingOf hasList listEnd bodyOf entryEnd entryId nextEntry entries refuses recordRule withRule listedRule rewrittenRule pattern ruleAs rule line nextRule rules routines rulesSection closed judge rulesFrom opening file outcome
 files-right = record { becomes = refl; texts = refl }

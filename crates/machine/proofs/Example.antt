@@ -24,8 +24,7 @@ use Rattle.names.specs.Names.{allBytes, isNameByte, isStateName, isState, hasNa
 use Rattle.escape.specs.Escape.{posixEscapes, hasEscape, isCodeLetter, isCode, isKeptBy, isKept, pastEscape, pastKept, pastAllKept, isRewritten, lastWhole, dropLone, rewrittenEnd, backspace, escapeFrom, escaped, pieceEnd, piece, pieces, unescaped}
 use Rattle.declarations.specs.Declarations.{namingAt, namingOf, declareState, nameTo, nextName, stateNames, isQuoted, expectedTo, nextExpected, expectedNames, isAlphanumeric, declares, statesFrom, declarationBy, declarationTo, declarationOf, declareAs, declaration, nextDeclaration, endDeclarations, declarations}
 use Rattle.rules.specs.Heading.{hasTarget, targetEnd, operationOf, targetOperation, targetName, targetId, targetOf, equalQuotes, isNoName, isName, labelBy, labelOf, ruleNamed, headingBehind, headingOf, hasList, listEnd, bodyOf}
-use Rattle.rules.specs.Rules as R
-use Rattle.rules.specs.Rules.{entryFrom, nextEntry, entries, refuses, recordRule, sourceRule, listedRule, rewrittenRule, ruleBody, pattern, ruleAs, rule, line, nextRule, rules, routines, rulesSection}
+use Rattle.rules.specs.Rules.{entryEnd, entryId, nextEntry, entries, refuses, recordRule, withRule, listedRule, rewrittenRule, pattern, ruleAs, rule, line, nextRule, rules, routines, rulesSection}
 use Rattle.parse.specs.Parse.{Contents, Caps, caps, Outcome, longFile, unknownFlag, invalidUtf8, areaFull, faulty, accepted, closed, judge, rulesFrom, opening, file, outcome, leaves, parseCall}
 use Rattle.sheet_check.specs.SheetCheck.{SheetBytes, decoded, all, goodState, goodRule, goodExpected, goodContents, longEnough, sheetCheck}
 use Rattle.accepted.specs.Accepted.{sheetLeftBy}
@@ -100,7 +99,7 @@ pub record Met (stack : List ℕ) (r : Run) : Type 0 where
       ≡ Token 300 0 2 ∷ Skip ∷ RowMismatch ∷ Skip ∷ Token 301 4 1 ∷ Token 302 5 1 ∷ Token 300 6 1 ∷ Stopped ∷ Token 302 7 1 ∷ Done ∷ []
 
 holds-names : MapHolds lexFile found (entriesOf names-of-map entries-of-map)
-unfolding isLineEnd isBlank isOtherWhitespace isLetter isDigit isHexDigit isMetaCharacter isEscapeLetter isWhitespaceByte isAsciiWhitespace isAlwaysKept part sameBytes sameRange lookaheadIs trimStart trimEnd backslashesBehind backslashesBefore keepEscaped trimEndUnescaped charOf charLen utf8 firstOf first lastOf last repeat skip whitespaceOf lineEndOf whitespaceLen lineEndLen room insertAt append stateOf ruleOf expectedOf faultOf nextNumber addFault startsFault isFault findFault faultEnd addSpan addPair repeatAt addRepeat loop comments isComment pastComment pastLine toDeclaration pastRuleLine toRule inSection hasRoutines allBytes isNameByte isStateName isState N.findState hasName findRule posixEscapes hasEscape isCodeLetter isCode isKeptBy isKept pastEscape pastKept pastAllKept isRewritten lastWhole dropLone rewrittenEnd backspace escapeFrom escaped pieceEnd piece pieces unescaped namingAt namingOf declareState nameTo nextName stateNames isQuoted expectedTo nextExpected expectedNames isAlphanumeric declares statesFrom declarationBy declarationTo declarationOf declareAs declaration nextDeclaration endDeclarations declarations hasTarget targetEnd operationOf targetOperation targetName targetId targetOf equalQuotes isNoName isName labelBy labelOf ruleNamed headingBehind headingOf hasList listEnd bodyOf R.entryAt entryFrom nextEntry entries refuses recordRule sourceRule listedRule rewrittenRule ruleBody pattern ruleAs rule line nextRule rules routines rulesSection closed judge rulesFrom opening file outcome two bytes pad fieldAt fieldFrom contents listOf stateFields ruleFields entryFields expectedFields faultFields stateAt ruleAt entryAt expectedAt leaves parseCall decoded all goodState goodRule goodExpected goodContents longEnough sheetCheck mapEntryFields mapEntryOf mapEntryAt entryOf entriesOf findEntry idAt idOf allBelow distinct nameInside mapCheck nameOf isNone isUnmapped hasThatName isUnused numbers unmapped unused relaid fits linkAll linkChecked linkCall goodStart startCall findState listed live weight greatest earliest goodRow stackAfter movedBy tokenBy wins winner chooses machineStep machineRun
+unfolding isLineEnd isBlank isOtherWhitespace isLetter isDigit isHexDigit isMetaCharacter isEscapeLetter isWhitespaceByte isAsciiWhitespace isAlwaysKept part sameBytes sameRange lookaheadIs trimStart trimEnd backslashesBehind backslashesBefore keepEscaped trimEndUnescaped charOf charLen utf8 firstOf first lastOf last repeat skip whitespaceOf lineEndOf whitespaceLen lineEndLen room insertAt append stateOf ruleOf expectedOf faultOf nextNumber addFault startsFault isFault findFault faultEnd addSpan addPair repeatAt addRepeat loop comments isComment pastComment pastLine toDeclaration pastRuleLine toRule inSection hasRoutines allBytes isNameByte isStateName isState N.findState hasName findRule posixEscapes hasEscape isCodeLetter isCode isKeptBy isKept pastEscape pastKept pastAllKept isRewritten lastWhole dropLone rewrittenEnd backspace escapeFrom escaped pieceEnd piece pieces unescaped namingAt namingOf declareState nameTo nextName stateNames isQuoted expectedTo nextExpected expectedNames isAlphanumeric declares statesFrom declarationBy declarationTo declarationOf declareAs declaration nextDeclaration endDeclarations declarations hasTarget targetEnd operationOf targetOperation targetName targetId targetOf equalQuotes isNoName isName labelBy labelOf ruleNamed headingBehind headingOf hasList listEnd bodyOf entryEnd entryId nextEntry entries refuses recordRule withRule listedRule rewrittenRule pattern ruleAs rule line nextRule rules routines rulesSection closed judge rulesFrom opening file outcome two bytes pad fieldAt fieldFrom contents listOf stateFields ruleFields entryFields expectedFields faultFields stateAt ruleAt entryAt expectedAt leaves parseCall decoded all goodState goodRule goodExpected goodContents longEnough sheetCheck mapEntryFields mapEntryOf mapEntryAt entryOf entriesOf findEntry idAt idOf allBelow distinct nameInside mapCheck nameOf isNone isUnmapped hasThatName isUnused numbers unmapped unused relaid fits linkAll linkChecked linkCall goodStart startCall findState listed live weight greatest earliest goodRow stackAfter movedBy tokenBy wins winner chooses machineStep machineRun
 holds-names = record { holds = by }
   where
     at : (j : ℕ) → j < 3 → j < length (entriesOf names-of-map entries-of-map)
@@ -119,7 +118,7 @@ holds-names = record { holds = by }
     by (suc (suc (suc (suc (suc k))))) h e = absurd (none-left k h)
 
 pub met : (r : Run) → Met (replicate 18 7) r
-unfolding isLineEnd isBlank isOtherWhitespace isLetter isDigit isHexDigit isMetaCharacter isEscapeLetter isWhitespaceByte isAsciiWhitespace isAlwaysKept part sameBytes sameRange lookaheadIs trimStart trimEnd backslashesBehind backslashesBefore keepEscaped trimEndUnescaped charOf charLen utf8 firstOf first lastOf last repeat skip whitespaceOf lineEndOf whitespaceLen lineEndLen room insertAt append stateOf ruleOf expectedOf faultOf nextNumber addFault startsFault isFault findFault faultEnd addSpan addPair repeatAt addRepeat loop comments isComment pastComment pastLine toDeclaration pastRuleLine toRule inSection hasRoutines allBytes isNameByte isStateName isState N.findState hasName findRule posixEscapes hasEscape isCodeLetter isCode isKeptBy isKept pastEscape pastKept pastAllKept isRewritten lastWhole dropLone rewrittenEnd backspace escapeFrom escaped pieceEnd piece pieces unescaped namingAt namingOf declareState nameTo nextName stateNames isQuoted expectedTo nextExpected expectedNames isAlphanumeric declares statesFrom declarationBy declarationTo declarationOf declareAs declaration nextDeclaration endDeclarations declarations hasTarget targetEnd operationOf targetOperation targetName targetId targetOf equalQuotes isNoName isName labelBy labelOf ruleNamed headingBehind headingOf hasList listEnd bodyOf R.entryAt entryFrom nextEntry entries refuses recordRule sourceRule listedRule rewrittenRule ruleBody pattern ruleAs rule line nextRule rules routines rulesSection closed judge rulesFrom opening file outcome two bytes pad fieldAt fieldFrom contents listOf stateFields ruleFields entryFields expectedFields faultFields stateAt ruleAt entryAt expectedAt leaves parseCall decoded all goodState goodRule goodExpected goodContents longEnough sheetCheck mapEntryFields mapEntryOf mapEntryAt entryOf entriesOf findEntry idAt idOf allBelow distinct nameInside mapCheck nameOf isNone isUnmapped hasThatName isUnused numbers unmapped unused relaid fits linkAll linkChecked linkCall goodStart startCall findState listed live weight greatest earliest goodRow stackAfter movedBy tokenBy wins winner chooses machineStep machineRun
+unfolding isLineEnd isBlank isOtherWhitespace isLetter isDigit isHexDigit isMetaCharacter isEscapeLetter isWhitespaceByte isAsciiWhitespace isAlwaysKept part sameBytes sameRange lookaheadIs trimStart trimEnd backslashesBehind backslashesBefore keepEscaped trimEndUnescaped charOf charLen utf8 firstOf first lastOf last repeat skip whitespaceOf lineEndOf whitespaceLen lineEndLen room insertAt append stateOf ruleOf expectedOf faultOf nextNumber addFault startsFault isFault findFault faultEnd addSpan addPair repeatAt addRepeat loop comments isComment pastComment pastLine toDeclaration pastRuleLine toRule inSection hasRoutines allBytes isNameByte isStateName isState N.findState hasName findRule posixEscapes hasEscape isCodeLetter isCode isKeptBy isKept pastEscape pastKept pastAllKept isRewritten lastWhole dropLone rewrittenEnd backspace escapeFrom escaped pieceEnd piece pieces unescaped namingAt namingOf declareState nameTo nextName stateNames isQuoted expectedTo nextExpected expectedNames isAlphanumeric declares statesFrom declarationBy declarationTo declarationOf declareAs declaration nextDeclaration endDeclarations declarations hasTarget targetEnd operationOf targetOperation targetName targetId targetOf equalQuotes isNoName isName labelBy labelOf ruleNamed headingBehind headingOf hasList listEnd bodyOf entryEnd entryId nextEntry entries refuses recordRule withRule listedRule rewrittenRule pattern ruleAs rule line nextRule rules routines rulesSection closed judge rulesFrom opening file outcome two bytes pad fieldAt fieldFrom contents listOf stateFields ruleFields entryFields expectedFields faultFields stateAt ruleAt entryAt expectedAt leaves parseCall decoded all goodState goodRule goodExpected goodContents longEnough sheetCheck mapEntryFields mapEntryOf mapEntryAt entryOf entriesOf findEntry idAt idOf allBelow distinct nameInside mapCheck nameOf isNone isUnmapped hasThatName isUnused numbers unmapped unused relaid fits linkAll linkChecked linkCall goodStart startCall findState listed live weight greatest earliest goodRow stackAfter movedBy tokenBy wins winner chooses machineStep machineRun
 met r = record { file-accepted = refl; map-linked = refl; names-held = holds-names; run-started = refl; answers = refl }
 
 -- so demand 3 holds of the calls with these rows
