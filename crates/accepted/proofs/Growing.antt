@@ -1,7 +1,7 @@
 -- Larger areas change nothing but where an area was full, and that is one of the six: one law for each way to join steps, one line for each
 -- definition. So an accepted outcome is the file's meaning, whatever the areas had.
 use Prim.Native.Nat.{ℕ, zero, suc, _+_, _*_, _-_, _≤_}
-use mathlib.Core.Path.{_≡_, refl, ap, subst}
+use mathlib.Core.Path.{_≡_, refl, ap, subst, subst⁻¹}
 use mathlib.Core.Bool.{Bool, true, false, cond, not, _&&_}
 use mathlib.Core.List.{List, [], _∷_, _++_}
 use mathlib.Core.Option.{Option, none, some}
@@ -35,7 +35,9 @@ use Rattle.rules.specs.declared.Heading.{Heading}
 use Rattle.rules.specs.declared.Heading.the-variants.{Faulty, Repeated, Fresh}
 use Rattle.rules.specs.declared.Body.{Body}
 use Rattle.rules.specs.declared.Body.the-variants.{Unclosed, Listed, Rewritten, Plain}
-use Rattle.rules.specs.Rules.{Sheet, sheet, Ruled, sheetOf, withSheet, withFaults, refuses, entryAt, entryFrom, nextEntry, entries, recordRule, sourceRule, listedRule, rewrittenRule, ruleBody, pattern, ruleAs, rule, line, nextRule, rules, routines, rulesSection}
+use Rattle.rules.specs.Heading.{bodyOf}
+use Rattle.rules.specs.Rules.{Sheet, sheet, Text, StateList, Ruled, sheetOf, withSheet, withFaults, refuses, entryEnd, entryId, nextEntry, entries, recordRule, withRule, listedRule, rewrittenRule, pattern, ruleAs, rule, line, nextRule, rules, routines, rulesSection}
+use Rattle.rules.proofs.Patterns.{pattern-is-unclosed, pattern-is-listed, pattern-is-rewritten, pattern-is-plain}
 use Rattle.parse.specs.Parse.{Contents, Caps, Outcome, longFile, unknownFlag, invalidUtf8, areaFull, faulty, accepted, closed, ending, judge, contentsOf, rulesFrom, opening, file, outcome, declarationCaps, ruleCaps, undeclared, withStates, noRules}
 use Rattle.accepted.specs.Meaning.{whole, limits, meaning}
 
@@ -189,48 +191,54 @@ module _ (k l : Caps) (w : Wider k l) (s : List ℕ) (flags : ℕ) where
   -- ---- rules
 
   module _ (verdicts : List ℕ) (xs : List State) where
-    grow-entry : (n i a j : ℕ) (ids : List ℕ) → Stays (entryAt (k .c3) n i a j ids) (entryAt (l .c3) n i a j ids)
-    unfolding entryAt
-    grow-entry n i a j ids = stays-if (ltb j n) (stays-written 3 a (omega arith) (grown-append entryFormat (k .c3) (l .c3) (w .w3) (j ∷ []) ids)) (stays-bad UnknownStartState i ids)
+    grow-entry : (i g a : ℕ) (ids : List ℕ) → Stays (nextEntry s (k .c3) xs i g a ids) (nextEntry s (l .c3) xs i g a ids)
+    unfolding nextEntry
+    grow-entry i g a ids =
+        stays-if (leb (length xs) (entryId s xs a (entryEnd s g a))) (stays-bad UnknownStartState i ids)
+        (stays-written 3 (entryEnd s g a + 1) (omega arith) (grown-append entryFormat (k .c3) (l .c3) (w .w3) (entryId s xs a (entryEnd s g a) ∷ []) ids))
 
     grow-entries : (i g : ℕ) (ids : List ℕ) → Stays (entries s (k .c3) xs i g ids) (entries s (l .c3) xs i g ids)
-    unfolding entries nextEntry entryFrom
-    grow-entries i g ids = stays-loop _ _ _ (λ a ys. grow-entry (length xs) i _ _ ys) (length s) _ ids
+    unfolding entries
+    grow-entries i g ids = stays-loop _ _ _ (λ a ys. grow-entry i g a ys) (length s) _ ids
 
     grow-record : (i e : ℕ) (x : Rule) (rs : List Rule) → Stays (recordRule verdicts (k .c2) i e x rs) (recordRule verdicts (l .c2) i e x rs)
     unfolding recordRule
-    grow-record i e x rs = stays-if (refuses verdicts (length rs)) (stays-bad RegexError i rs) (stays-written 2 e (omega arith) (grown-append ruleFormat (k .c2) (l .c2) (w .w2) (x ∷ []) rs))
+    grow-record i e x rs =
+        stays-if (refuses verdicts (length rs)) (stays-bad RegexError i rs) (stays-written 2 e (omega arith) (grown-append ruleFormat (k .c2) (l .c2) (w .w2) (x ∷ []) rs))
 
-    grow-source : (i e : ℕ) (h : Head) (from len list : ℕ) (ids : List ℕ) (v : Sheet)
-        → Stays (sourceRule verdicts (ruleCaps k) i e h from len list ids v) (sourceRule verdicts (ruleCaps l) i e h from len list ids v)
-    unfolding sourceRule
-    grow-source i e h from len list ids v = stays-onto (λ rs. sheet rs ids (v .text)) (grow-record i e _ (v .rules))
+    module _ (i e : ℕ) (h : Head) (c : ℕ) where
+      grow-with : (t : Text) (list : StateList) (v : Sheet)
+          → Stays (withRule s flags verdicts xs (ruleCaps k) i e h c t list v) (withRule s flags verdicts xs (ruleCaps l) i e h c t list v)
+      unfolding withRule
+      grow-with t list v = stays-onto (λ rs. sheet rs (v .lists) (v .text)) (grow-record i e _ (v .rules))
 
-    grow-listed : (i e : ℕ) (h : Head) (from len : ℕ) (v : Sheet) (o p : Out (List ℕ)) → Stays o p
-        → Stays (listedRule verdicts (ruleCaps k) i e h from len v o) (listedRule verdicts (ruleCaps l) i e h from len v p)
-    unfolding listedRule
-    grow-listed i e h from len v (go j ids) p q = rw (q .kept) (grow-source i e h from len (length (v .lists)) ids v)
-    grow-listed i e h from len v (bad kind at ids) p q = record { kept = ap (listedRule verdicts (ruleCaps l) i e h from len v) (q .kept) }
-    grow-listed i e h from len v (full n) p q = record { kept = q .kept }
+      grow-listed : (g : ℕ) (v : Sheet) → Stays (listedRule s flags verdicts xs (ruleCaps k) i e h c g v) (listedRule s flags verdicts xs (ruleCaps l) i e h c g v)
+      unfolding listedRule
+      grow-listed g v = stays-next (stays-onto (λ ids. sheet (v .rules) ids (v .text)) (grow-entries i g (v .lists))) (λ _ u. grow-with _ _ u)
 
-    grow-rewritten : (i e : ℕ) (h : Head) (v : Sheet) (a b : Option (List ℕ)) → Grown a b
-        → Stays (rewrittenRule verdicts (ruleCaps k) i e h v a) (rewrittenRule verdicts (ruleCaps l) i e h v b)
-    unfolding rewrittenRule
-    grow-rewritten i e h v none b q = record { kept = omega arith }
-    grow-rewritten i e h v (some t) b q = rw (q .kept) (stays-onto (λ rs. sheet rs (v .lists) t) (grow-record i e _ (v .rules)))
+      grow-rewritten : (v : Sheet) → Stays (rewrittenRule s flags verdicts xs (ruleCaps k) i e h c v) (rewrittenRule s flags verdicts xs (ruleCaps l) i e h c v)
+      unfolding rewrittenRule
+      grow-rewritten v =
+          stays-next (stays-onto (λ t. sheet (v .rules) (v .lists) t) (stays-written 4 e (omega arith) (grown-append textFormat (k .c4) (l .c4) (w .w4) (unescaped s flags i c) (v .text))))
+          (λ _ u. grow-with _ _ u)
 
-    grow-body : (i e : ℕ) (h : Head) (c : ℕ) (x : Body) (v : Sheet) → Stays (ruleBody s flags verdicts xs (ruleCaps k) i e h c x v) (ruleBody s flags verdicts xs (ruleCaps l) i e h c x v)
-    unfolding ruleBody
-    grow-body i e h c Unclosed v = stays-bad InvalidStartState i v
-    grow-body i e h c (Listed g) v = grow-listed i e h _ _ v _ _ (grow-entries i g (v .lists))
-    grow-body i e h c Rewritten v = grow-rewritten i e h v _ _ (grown-append textFormat (k .c4) (l .c4) (w .w4) (unescaped s flags i c) (v .text))
-    grow-body i e h c Plain v = grow-source i e h i (c - i) (length (v .lists)) (v .lists) v
+      grow-pattern : (v : Sheet) → Stays (pattern s flags verdicts xs (ruleCaps k) i e h c v) (pattern s flags verdicts xs (ruleCaps l) i e h c v)
+      grow-pattern v = by (bodyOf s i c) refl
+        where
+          both : {o p x y : Out Sheet} → o ≡ x → p ≡ y → Stays x y → Stays o p
+          both {p = p} {x = x} e f q = subst⁻¹ (λ (z : Out Sheet). Stays z p) e (subst⁻¹ (Stays x) f q)
+
+          by : (b : Body) → bodyOf s i c ≡ b → Stays (pattern s flags verdicts xs (ruleCaps k) i e h c v) (pattern s flags verdicts xs (ruleCaps l) i e h c v)
+          by Unclosed q = both (pattern-is-unclosed s flags verdicts xs (ruleCaps k) i e h c v q) (pattern-is-unclosed s flags verdicts xs (ruleCaps l) i e h c v q) (stays-bad InvalidStartState i v)
+          by (Listed g) q = both (pattern-is-listed s flags verdicts xs (ruleCaps k) i e h c v g q) (pattern-is-listed s flags verdicts xs (ruleCaps l) i e h c v g q) (grow-listed g v)
+          by Rewritten q = both (pattern-is-rewritten s flags verdicts xs (ruleCaps k) i e h c v q) (pattern-is-rewritten s flags verdicts xs (ruleCaps l) i e h c v q) (grow-rewritten v)
+          by Plain q = both (pattern-is-plain s flags verdicts xs (ruleCaps k) i e h c v q) (pattern-is-plain s flags verdicts xs (ruleCaps l) i e h c v q) (grow-with _ _ v)
 
     grow-rule : (i e : ℕ) (x : Heading) (r : Ruled) → Stays (ruleAs s flags verdicts xs (ruleCaps k) (k .c6) i e x r) (ruleAs s flags verdicts xs (ruleCaps l) (l .c6) i e x r)
-    unfolding ruleAs pattern
+    unfolding ruleAs
     grow-rule i e (Faulty kind at) r = stays-bad kind at r
     grow-rule i e (Repeated x y a z) r = stays-onto (withFaults r) (stays-written 6 e (omega arith) (grown-repeat (k .c6) (l .c6) (w .w6) DuplicateName x y a z (r .faults)))
-    grow-rule i e (Fresh b h) r = stays-onto (withSheet r) (grow-body i e h _ _ (sheetOf r))
+    grow-rule i e (Fresh b h) r = stays-onto (withSheet r) (grow-pattern i e h _ (sheetOf r))
 
     grow-line : (i e : ℕ) (r : Ruled) → Stays (line s flags verdicts xs (ruleCaps k) (k .c6) i e r) (line s flags verdicts xs (ruleCaps l) (l .c6) i e r)
     unfolding line rule

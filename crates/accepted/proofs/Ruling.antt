@@ -7,39 +7,36 @@ use mathlib.Core.List.{List, [], _∷_, _++_}
 use mathlib.Core.Option.{Option, none, some}
 use native.Mathlib.Nat.{le-refl}
 use native.Mathlib.Omega.{arith}
-use borrow.Author.Tests.{ltb-true}
-use lib.Dec.{eqb, ltb, leb}
+use borrow.Author.Tests.{leb-false}
+use lib.Dec.{eqb, leb}
 use lib.ListN.{length, length-append, List·getD-append}
 use lib.Seq.{getD-append-seam}
 use Rattle.text.specs.Whitespace.{atWhitespace, atLineEnd}
-use Rattle.text.specs.Scan.{lineEnd, findByte, trimEnd, trimStart, trimEndUnescaped}
+use Rattle.text.specs.Scan.{lineEnd, trimEnd, trimEndUnescaped}
 use Rattle.text.proofs.Tests.{by-test}
 use Rattle.text.proofs.Walks.{first-from, first-to}
 use Rattle.area.specs.declared.State.{State}
 use Rattle.area.specs.declared.Rule.{Rule}
 use Rattle.area.specs.declared.Fault.{Fault}
-use Rattle.area.specs.Areas.{room}
 use Rattle.area.specs.Records.{nthRule, ruleOf}
 use Rattle.area.specs.Contents.{append, ruleFormat, entryFormat, textFormat}
-use Rattle.fault.specs.Step.{Out, go, bad, full, onto, written}
+use Rattle.fault.specs.Step.{Out, go, bad, next, onto, written}
 use Rattle.fault.specs.Faults.{addFault, addRepeat, UnknownStartState, DuplicateName, RegexError, RoutinesNotSupported, VerbatimNotSupported}
-use Rattle.names.specs.Names.{findState, nameOf}
+use Rattle.names.specs.Names.{nameOf}
 use Rattle.escape.specs.Escape.{unescaped}
 use Rattle.section.specs.Section.{toRule, inSection, hasRoutines}
 use Rattle.rules.specs.declared.Head.{Head}
 use Rattle.rules.specs.declared.Heading.{Heading}
 use Rattle.rules.specs.declared.Heading.the-variants.{Faulty, Repeated, Fresh}
-use Rattle.rules.specs.declared.Body.{Body}
-use Rattle.rules.specs.declared.Body.the-variants.{Unclosed, Listed, Rewritten, Plain}
-use Rattle.rules.specs.Heading.{headingOf, bodyOf}
-use Rattle.rules.specs.Rules.{Sheet, Caps, sheet, entryAt, entryFrom, nextEntry, entries, refuses, recordRule, sourceRule, listedRule, rewrittenRule, ruleBody, pattern, Ruled, sheetOf, withSheet, withFaults, ruleAs, rule, line, nextRule, rules, routines, rulesSection}
+use Rattle.rules.specs.Heading.{headingOf}
+use Rattle.rules.specs.Rules.{Sheet, Caps, sheet, entryEnd, entryId, nextEntry, entries, refuses, Text, StateList, recordRule, sourceText, textSince, noList, listSince, withRule, listedRule, rewrittenRule, pattern, Ruled, sheetOf, withSheet, withFaults, ruleAs, rule, line, nextRule, rules, routines, rulesSection}
 use Rattle.rules.specs.Rules as R
 use Rattle.rules.proofs.Heads.{fresh-from, fresh-to}
-use Rattle.rules.proofs.Patterns.{listed-to}
+use Rattle.rules.proofs.Patterns.{pattern-cases}
 use Rattle.sheet_check.specs.SheetCheck.{all}
 use Rattle.accepted.specs.Accepted.{Fits, RuleHolds, EntryHolds, NamesDiffer, RulesHold, EntriesHold, TextHolds, isByte}
 use Rattle.fault.proofs.Yielding.{Yields, yields-next, yields-onto, yields-loop}
-use Rattle.accepted.proofs.Appending.{yields-append, room-holds}
+use Rattle.accepted.proofs.Appending.{yields-append}
 use Rattle.accepted.proofs.Elements.{each-snoc, each-weaken, place-cases}
 use Rattle.accepted.proofs.Places.{rule-to, pattern-to}
 use Rattle.accepted.proofs.ByteLists.{all-append, unescaped-bytes}
@@ -105,24 +102,22 @@ module _ (s : List ℕ) (c3 n : ℕ) (xs : List State) where
   abbrev Listing : ℕ → List ℕ → Type 0
   Listing i ids = EntriesFrom n (length xs) c3 ids
 
-  entry-kept : (i a j : ℕ) (ids : List ℕ) → Listing a ids → Yields Listing (entryAt c3 (length xs) i a j ids)
-  unfolding entryAt
-  entry-kept i a j ids h =
-      by-test (Yields Listing) (ltb j (length xs)) (written 3 a (append entryFormat c3 (j ∷ []) ids)) (bad UnknownStartState i ids)
-      (λ q. yields-append Listing entryFormat c3 3 a (j ∷ []) ids
+  entry-kept : (i g a : ℕ) (ids : List ℕ) → Listing a ids → Yields Listing (nextEntry s c3 xs i g a ids)
+  unfolding nextEntry
+  entry-kept i g a ids h =
+      let e = entryEnd s g a in
+      let j = entryId s xs a e in
+      by-test (Yields Listing) (leb (length xs) j) (bad UnknownStartState i ids) (written 3 (e + 1) (append entryFormat c3 (j ∷ []) ids)) (λ _. tt)
+      (λ q. yields-append Listing entryFormat c3 3 (e + 1) (j ∷ []) ids
       (λ f. record {
         longer = omega (arith, h .longer, length-append ids (j ∷ []));
-        hold = record { each = each-snoc (EntryHolds (length xs)) 0 ids j (h .hold .each) (ltb-true j (length xs) q); fits = f };
-      })) (λ _. tt)
+        hold = record { each = each-snoc (EntryHolds (length xs)) 0 ids j (h .hold .each) (leb-false (length xs) j q); fits = f };
+      }))
 
   entries-kept : (i g : ℕ) (ids : List ℕ) → Listing 0 ids → Yields Listing (entries s c3 xs i g ids)
-  unfolding entries nextEntry entryFrom
+  unfolding entries
   entries-kept i g ids h =
-      yields-loop Listing (λ a. leb a g) (nextEntry s c3 xs i g)
-      (λ a ys _ k.
-      let e = findByte s a g 0x2c in
-      let x = trimStart s a e in
-      entry-kept i (e + 1) (findState s x (trimEnd s x e) xs) ys k) (length s) (i + 1) ids h
+      yields-loop Listing (λ a. leb a g) (nextEntry s c3 xs i g) (λ a ys _ k. entry-kept i g a ys k) (length s) (i + 1) ids h
 
 -- ---- the record
 
@@ -141,9 +136,9 @@ module _ (s : List ℕ) (m a b : ℕ) where
       (λ _. yields-append (λ _ ys. RulesHold s m a b c2 ys) ruleFormat c2 2 e (x ∷ []) rs (rules-more s m a b c2 rs x h g u))
 
   -- the record of a heading, with its text and its list
-  rule-of : (rs : List Rule) (h : Head) → HeadHolds s m rs h → (place from len list count : ℕ) → place ≤ 1 → from + len ≤ cond (eqb place 1) b (length s) → list + count ≤ a
-      → RuleHolds (length s) m a b (length rs) (R.ruleOf h (length rs) place from len list count)
-  rule-of rs h g place from len list count p t l = record {
+  rule-of : (rs : List Rule) (h : Head) → HeadHolds s m rs h → (x : Text) (y : StateList) → x .place ≤ 1 → x .from + x .length ≤ cond (eqb (x .place) 1) b (length s) → y .from + y .count ≤ a
+      → RuleHolds (length s) m a b (length rs) (R.ruleOf h (length rs) x y)
+  rule-of rs h g x y p t l = record {
     hasId = refl;
     id = refl;
     named = g .named;
@@ -157,60 +152,56 @@ module _ (s : List ℕ) (m a b : ℕ) where
     target = g .target;
   }
 
-module _ (s : List ℕ) (xs : List State) (verdicts : List ℕ) (k : Caps) (i e : ℕ) where
+module _ (s : List ℕ) (flags : ℕ) (verdicts : List ℕ) (xs : List State) (k : Caps) (i e : ℕ) where
   abbrev Sheets : ℕ → Sheet → Type 0
   Sheets j w = SheetHolds s (length xs) k w
 
-  module _ (w : Sheet) (holds : SheetHolds s (length xs) k w) (h : Head) (head : HeadHolds s (length xs) (w .rules) h) where
-    source-kept : (from len : ℕ) (ids : List ℕ) → from + len ≤ length s → EntriesFrom (length (w .lists)) (length xs) (k .c3) ids
-        → Yields Sheets (sourceRule verdicts k i e h from len (length (w .lists)) ids w)
-    unfolding sourceRule
-    source-kept from len ids t g =
+  module _ (w : Sheet) (holds : SheetHolds s (length xs) k w) (h : Head) (head : HeadHolds s (length xs) (w .rules) h) (c : ℕ) (cl : c ≤ length s) where
+    -- the rule of a text and a list, behind list entries and text that hold and are no fewer
+    with-kept : (x : Text) (y : StateList) (ids t : List ℕ) → x .place ≤ 1 → x .from + x .length ≤ cond (eqb (x .place) 1) (length t) (length s) → y .from + y .count ≤ length ids
+        → EntriesFrom (length (w .lists)) (length xs) (k .c3) ids → length (w .text) ≤ length t → TextHolds (k .c4) t
+        → Yields Sheets (withRule s flags verdicts xs k i e h c x y (sheet (w .rules) ids t))
+    unfolding withRule
+    with-kept x y ids t px tx ly g longer holds-text =
         let a = length ids in
-        let b = length (w .text) in
-        let x = R.ruleOf h (length (w .rules)) 0 from len (length (w .lists)) (a - length (w .lists)) in
-        yields-onto (λ _ rs. RulesHold s (length xs) a b (k .c2) rs) Sheets (λ rs. sheet rs ids (w .text)) (recordRule verdicts (k .c2) i e x (w .rules))
-        (record-kept s (length xs) a b verdicts (k .c2) i e x (w .rules)
-        (rules-weaken s (length xs) (length (w .lists)) b (k .c2) (w .rules) a b (g .longer) (le-refl b) (holds .rules))
-        (rule-of s (length xs) a b (w .rules) h head 0 from len (length (w .lists)) (a - length (w .lists)) (omega arith) t (omega (arith, g .longer)))
-        (head .unused))
-        (λ _ rs r. record { rules = r; lists = g .hold; text = holds .text })
-
-    listed-kept : (from len : ℕ) → from + len ≤ length s → (o : Out (List ℕ)) → Yields (λ _ ids. EntriesFrom (length (w .lists)) (length xs) (k .c3) ids) o
-        → Yields Sheets (listedRule verdicts k i e h from len w o)
-    unfolding listedRule
-    listed-kept from len t (go j ids) g = source-kept from len ids t g
-    listed-kept from len t (bad kind at ids) g = tt
-    listed-kept from len t (full n) g = tt
-
-    text-kept : (t : List ℕ) → length (w .text) ≤ length t → TextHolds (k .c4) t → Yields Sheets (rewrittenRule verdicts k i e h w (some t))
-    unfolding rewrittenRule
-    text-kept t l f =
-        let a = length (w .lists) in
         let b = length t in
-        let x = R.ruleOf h (length (w .rules)) 1 (length (w .text)) (b - length (w .text)) a 0 in
-        yields-onto (λ _ rs. RulesHold s (length xs) a b (k .c2) rs) Sheets (λ rs. sheet rs (w .lists) t) (recordRule verdicts (k .c2) i e x (w .rules))
-        (record-kept s (length xs) a b verdicts (k .c2) i e x (w .rules)
-        (rules-weaken s (length xs) a (length (w .text)) (k .c2) (w .rules) a b (le-refl a) l (holds .rules))
-        (rule-of s (length xs) a b (w .rules) h head 1 (length (w .text)) (b - length (w .text)) a 0 (omega arith) (omega arith) (omega arith))
-        (head .unused))
-        (λ _ rs r. record { rules = r; lists = holds .lists; text = f })
+        let z = R.ruleOf h (length (w .rules)) x y in
+        yields-onto (λ _ rs. RulesHold s (length xs) a b (k .c2) rs) Sheets (λ rs. sheet rs ids t) (recordRule verdicts (k .c2) i e z (w .rules))
+        (record-kept s (length xs) a b verdicts (k .c2) i e z (w .rules)
+        (rules-weaken s (length xs) (length (w .lists)) (length (w .text)) (k .c2) (w .rules) a b (g .longer) longer (holds .rules))
+        (rule-of s (length xs) a b (w .rules) h head x y px tx ly) (head .unused))
+        (λ _ rs r. record { rules = r; lists = g .hold; text = holds-text })
 
-    rewritten-kept : (u : List ℕ) → all isByte u ≡ true → Yields Sheets (rewrittenRule verdicts k i e h w (append textFormat (k .c4) u (w .text)))
-    unfolding append rewrittenRule
-    rewritten-kept u g =
-        by-test (λ o. Yields Sheets (rewrittenRule verdicts k i e h w o)) (room 1 (textFormat .most) (k .c4) (length (w .text)) (length u)) (some (w .text ++ u)) none
-        (λ q. text-kept (w .text ++ u) (omega (arith, length-append (w .text) u)) (record { bytes = all-append isByte (w .text) u (holds .text .bytes) g; fits = room-holds textFormat (k .c4) (w .text) u q })) (λ _. tt)
+    same-entries : EntriesFrom (length (w .lists)) (length xs) (k .c3) (w .lists)
+    same-entries = record { longer = le-refl (length (w .lists)); hold = holds .lists }
 
-    body-kept : (flags c : ℕ) → all isByte s ≡ true → i ≤ length s → c ≤ length s → (x : Body) → bodyOf s i c ≡ x → Yields Sheets (ruleBody s flags verdicts xs k i e h c x w)
-    unfolding ruleBody
-    body-kept flags c source il cl Unclosed q = tt
-    body-kept flags c source il cl (Listed g) q =
-        listed-kept (g + 1) (c - (g + 1)) (omega (arith, listed-to s i c (bodyOf s i c) refl g q)) (entries s (k .c3) xs i g (w .lists))
-        (entries-kept s (k .c3) (length (w .lists)) xs i g (w .lists) (record { longer = le-refl (length (w .lists)); hold = holds .lists }))
-    body-kept flags c source il cl Rewritten q = rewritten-kept (unescaped s flags i c) (unescaped-bytes s flags c source i)
-    body-kept flags c source il cl Plain q =
-        source-kept i (c - i) (w .lists) (omega arith) (record { longer = le-refl (length (w .lists)); hold = holds .lists })
+    -- the rule follows a step that writes list entries, or text
+    then-kept : (P : ℕ → List ℕ → Type 0) (f : List ℕ → Sheet) (o : Out (List ℕ)) (g : ℕ → Sheet → Out Sheet) → Yields P o → ((j : ℕ) (ys : List ℕ) → P j ys → Yields Sheets (g j (f ys)))
+        → Yields Sheets (next (onto f o) g)
+    then-kept P f o g h then =
+        yields-next (λ j v. Yields Sheets (g j v)) Sheets (onto f o) g (yields-onto P (λ j v. Yields Sheets (g j v)) f o h then) (λ _ _ y. y)
+
+    listed-kept : (g : ℕ) → g < c → Yields Sheets (listedRule s flags verdicts xs k i e h c g w)
+    unfolding listedRule
+    listed-kept g gc =
+        then-kept (λ _ ids. EntriesFrom (length (w .lists)) (length xs) (k .c3) ids) (λ ids. sheet (w .rules) ids (w .text)) (entries s (k .c3) xs i g (w .lists))
+        (λ _ v. withRule s flags verdicts xs k i e h c (sourceText (g + 1) c) (listSince w v) v) (entries-kept s (k .c3) (length (w .lists)) xs i g (w .lists) same-entries)
+        (λ _ ids f. with-kept (sourceText (g + 1) c) (listSince w (sheet (w .rules) ids (w .text))) ids (w .text) (omega arith) (omega arith) (omega (arith, f .longer)) f (le-refl (length (w .text))) (holds .text))
+
+    rewritten-kept : all isByte s ≡ true → Yields Sheets (rewrittenRule s flags verdicts xs k i e h c w)
+    unfolding rewrittenRule
+    rewritten-kept source =
+        let u = unescaped s flags i c in
+        then-kept (λ _ t. (length (w .text) ≤ length t) × TextHolds (k .c4) t) (λ t. sheet (w .rules) (w .lists) t) (written 4 e (append textFormat (k .c4) u (w .text)))
+        (λ _ v. withRule s flags verdicts xs k i e h c (textSince w v) (noList w) v)
+        (yields-append (λ _ t. (length (w .text) ≤ length t) × TextHolds (k .c4) t) textFormat (k .c4) 4 e u (w .text)
+        (λ f. (omega (arith, length-append (w .text) u), record { bytes = all-append isByte (w .text) u (holds .text .bytes) (unescaped-bytes s flags c source i); fits = f })))
+        (λ _ t f. with-kept (textSince w (sheet (w .rules) (w .lists) t)) (noList w) (w .lists) t (omega arith) (omega (arith, f .0)) (omega arith) same-entries (f .0) (f .1))
+
+    pattern-kept : all isByte s ≡ true → i ≤ length s → Yields Sheets (pattern s flags verdicts xs k i e h c w)
+    pattern-kept source il =
+        pattern-cases s flags verdicts xs k i e h c w (Yields Sheets) tt (λ g _ gc. listed-kept g gc) (rewritten-kept source)
+        (with-kept (sourceText i c) (noList w) (w .lists) (w .text) (omega arith) (omega arith) (omega arith) same-entries (le-refl (length (w .text))) (holds .text))
 
 -- ---- a line, and the section
 
@@ -224,7 +215,7 @@ module _ (s : List ℕ) (flags : ℕ) (verdicts : List ℕ) (xs : List State) (s
   faults-kept e r (some fs) h = h
 
   as-kept : (i e : ℕ) → i ≤ e → e ≤ length s → (r : Ruled) → Lined i r → (x : Heading) → headingOf s i (trimEnd s i e) xs (r .rules) ≡ x → Yields Lined (ruleAs s flags verdicts xs k c6 i e x r)
-  unfolding ruleAs pattern trimEnd
+  unfolding ruleAs trimEnd
   as-kept i e a l r h (Faulty kind at) q = tt
   as-kept i e a l r h (Repeated c d b z) q = faults-kept e r (addRepeat c6 DuplicateName c d b z (r .faults)) h
   as-kept i e a l r h (Fresh b hd) q =
@@ -233,9 +224,8 @@ module _ (s : List ℕ) (flags : ℕ) (verdicts : List ℕ) (xs : List State) (s
       let bi : i ≤ b = fresh-from s i t xs (r .rules) (Fresh b hd) (sym q) b hd refl in
       let bt : b < t = fresh-to s i t xs (r .rules) (Fresh b hd) (sym q) b hd refl in
       let c = trimEndUnescaped s i b in
-      yields-onto (Sheets s xs verdicts k i e) Lined (withSheet r) (pattern s flags verdicts xs k i e hd c (sheetOf r))
-      (body-kept s xs verdicts k i e (sheetOf r) h hd (heading-holds s xs stated (r .rules) i t (omega arith) b hd q) flags c source (omega arith)
-      (pattern-to s i b bi (omega arith)) (bodyOf s i c) refl)
+      yields-onto (Sheets s flags verdicts xs k i e) Lined (withSheet r) (pattern s flags verdicts xs k i e hd c (sheetOf r))
+      (pattern-kept s flags verdicts xs k i e (sheetOf r) h hd (heading-holds s xs stated (r .rules) i t (omega arith) b hd q) c (pattern-to s i b bi (omega arith)) source (omega arith))
       (λ _ w g. g)
 
   line-kept : (i e : ℕ) → i ≤ e → e ≤ length s → (r : Ruled) → Lined i r → Yields Lined (line s flags verdicts xs k c6 i e r)

@@ -23,8 +23,7 @@ use Rattle.names.specs.Names.{allBytes, isNameByte, isStateName, isState, hasNa
 use Rattle.escape.specs.Escape.{posixEscapes, isCodeLetter, isCode, isKeptBy, isKept, isRewritten, lastWhole, dropLone, rewrittenEnd, backspace, escapeFrom, escaped, unescaped, nextEscape, escapesFrom, escapes, anyEscape, lastEnd, replaced}
 use Rattle.declarations.specs.Declarations.{declareState, stateNames, isQuoted, expectedNames, isAlphanumeric, declares, declarationOf, declareAs, declaration, nextDeclaration, endDeclarations, declarations, trimmed, wordEnd, firstWord, restOf, isInclusive, isExclusive, isExpecting, statesOf, behindName, addState, repeatState, stateNamed, declareExpected}
 use Rattle.rules.specs.Heading.{operationOf, targetOf, isNoName, isName, labelBy, labelOf, headingOf, bodyOf, hasTarget, targetEnd, targetOperation, targetName, targetId, equalQuotes, ruleNamed, headingBehind, hasList, listEnd}
-use Rattle.rules.specs.Rules as R
-use Rattle.rules.specs.Rules.{entryFrom, nextEntry, entries, refuses, recordRule, sourceRule, listedRule, rewrittenRule, ruleBody, pattern, ruleAs, rule, line, nextRule, rules, routines, rulesSection}
+use Rattle.rules.specs.Rules.{nextEntry, entries, refuses, recordRule, listedRule, rewrittenRule, pattern, ruleAs, rule, line, nextRule, rules, routines, rulesSection, entryEnd, entryId, withRule}
 use Rattle.parse.specs.Parse.{Caps, caps, closed, judge, rulesFrom, opening, file, outcome, leaves, parseCall}
 use Rattle.sheet_check.specs.SheetCheck.{decoded, all, goodState, goodRule, goodExpected, goodContents, longEnough, sheetCheck}
 use Rattle.accepted.specs.Meaning.{meaning}
@@ -95,7 +94,7 @@ answers g m [] = []
 answers g m (i ∷ is) = step g m i .answer ∷ answers g (step g m i .machine) is
 
 holds-names : (r : Run) → MapHolds (sessionFile (session r)) (sessionMap (session r))
-unfolding isLineEnd isBlank isOtherWhitespace isLetter isDigit isHexDigit isMetaCharacter isEscapeLetter isWhitespaceByte isAsciiWhitespace isAlwaysKept part sameBytes sameRange lookaheadIs trimStart trimEnd backslashesBehind backslashesBefore keepEscaped trimEndUnescaped charOf charLen utf8 firstOf first lastOf last repeat skip whitespaceOf lineEndOf whitespaceLen lineEndLen room insertAt append stateOf ruleOf expectedOf faultOf nextNumber addFault startsFault isFault findFault faultEnd addSpan addPair repeatAt addRepeat loop comments isComment pastComment pastLine toDeclaration pastRuleLine toRule inSection hasRoutines allBytes isNameByte isStateName isState N.findState hasName findRule posixEscapes isCodeLetter isCode isKeptBy isKept isRewritten lastWhole dropLone rewrittenEnd backspace escapeFrom escaped unescaped declareState stateNames isQuoted expectedNames isAlphanumeric declares declarationOf declareAs declaration nextDeclaration endDeclarations declarations operationOf targetOf isNoName isName labelBy labelOf headingOf bodyOf R.entryAt entryFrom nextEntry entries refuses recordRule sourceRule listedRule rewrittenRule ruleBody pattern ruleAs rule line nextRule rules routines rulesSection closed judge rulesFrom opening file outcome two bytes pad fieldAt fieldFrom contents listOf stateFields ruleFields entryFields expectedFields faultFields stateAt ruleAt entryAt expectedAt leaves parseCall decoded all goodState goodRule goodExpected goodContents longEnough sheetCheck mapEntryFields mapEntryOf mapEntryAt entryOf entriesOf findEntry idAt idOf allBelow distinct nameInside mapCheck nameOf isNone isUnmapped hasThatName isUnused numbers unmapped unused relaid LK.fits linkAll linkChecked linkCall goodStart startCall meaning operationBy nameFrom mapOf fileOf lengths noneAbove fits has isEmpty isLive before winnerOf idIn operate move token wins chooses step answers nextEscape escapesFrom escapes anyEscape lastEnd replaced trimmed wordEnd firstWord restOf isInclusive isExclusive isExpecting statesOf behindName addState repeatState stateNamed declareExpected hasTarget targetEnd targetOperation targetName targetId equalQuotes ruleNamed headingBehind hasList listEnd
+unfolding isLineEnd isBlank isOtherWhitespace isLetter isDigit isHexDigit isMetaCharacter isEscapeLetter isWhitespaceByte isAsciiWhitespace isAlwaysKept part sameBytes sameRange lookaheadIs trimStart trimEnd backslashesBehind backslashesBefore keepEscaped trimEndUnescaped charOf charLen utf8 firstOf first lastOf last repeat skip whitespaceOf lineEndOf whitespaceLen lineEndLen room insertAt append stateOf ruleOf expectedOf faultOf nextNumber addFault startsFault isFault findFault faultEnd addSpan addPair repeatAt addRepeat loop comments isComment pastComment pastLine toDeclaration pastRuleLine toRule inSection hasRoutines allBytes isNameByte isStateName isState N.findState hasName findRule posixEscapes isCodeLetter isCode isKeptBy isKept isRewritten lastWhole dropLone rewrittenEnd backspace escapeFrom escaped unescaped declareState stateNames isQuoted expectedNames isAlphanumeric declares declarationOf declareAs declaration nextDeclaration endDeclarations declarations operationOf targetOf isNoName isName labelBy labelOf headingOf bodyOf nextEntry entries refuses recordRule listedRule rewrittenRule pattern ruleAs rule line nextRule rules routines rulesSection closed judge rulesFrom opening file outcome two bytes pad fieldAt fieldFrom contents listOf stateFields ruleFields entryFields expectedFields faultFields stateAt ruleAt entryAt expectedAt leaves parseCall decoded all goodState goodRule goodExpected goodContents longEnough sheetCheck mapEntryFields mapEntryOf mapEntryAt entryOf entriesOf findEntry idAt idOf allBelow distinct nameInside mapCheck nameOf isNone isUnmapped hasThatName isUnused numbers unmapped unused relaid LK.fits linkAll linkChecked linkCall goodStart startCall meaning operationBy nameFrom mapOf fileOf lengths noneAbove fits has isEmpty isLive before winnerOf idIn operate move token wins chooses step answers nextEscape escapesFrom escapes anyEscape lastEnd replaced trimmed wordEnd firstWord restOf isInclusive isExclusive isExpecting statesOf behindName addState repeatState stateNamed declareExpected hasTarget targetEnd targetOperation targetName targetId equalQuotes ruleNamed headingBehind hasList listEnd entryEnd entryId withRule
 holds-names r = record { holds = by }
   where
     by : (k : ℕ) (x : FileRule) (name : List ℕ) → getElem? (sessionFile (session r) .rules) k ≡ some x → x .name ≡ some name → (id : ℕ) × EntryOf (sessionMap (session r)) name id
@@ -108,13 +107,13 @@ holds-names r = record { holds = by }
 
 -- every hypothesis holds
 pub met : (r : Run) → Accepts (session r)
-unfolding isLineEnd isBlank isOtherWhitespace isLetter isDigit isHexDigit isMetaCharacter isEscapeLetter isWhitespaceByte isAsciiWhitespace isAlwaysKept part sameBytes sameRange lookaheadIs trimStart trimEnd backslashesBehind backslashesBefore keepEscaped trimEndUnescaped charOf charLen utf8 firstOf first lastOf last repeat skip whitespaceOf lineEndOf whitespaceLen lineEndLen room insertAt append stateOf ruleOf expectedOf faultOf nextNumber addFault startsFault isFault findFault faultEnd addSpan addPair repeatAt addRepeat loop comments isComment pastComment pastLine toDeclaration pastRuleLine toRule inSection hasRoutines allBytes isNameByte isStateName isState N.findState hasName findRule posixEscapes isCodeLetter isCode isKeptBy isKept isRewritten lastWhole dropLone rewrittenEnd backspace escapeFrom escaped unescaped declareState stateNames isQuoted expectedNames isAlphanumeric declares declarationOf declareAs declaration nextDeclaration endDeclarations declarations operationOf targetOf isNoName isName labelBy labelOf headingOf bodyOf R.entryAt entryFrom nextEntry entries refuses recordRule sourceRule listedRule rewrittenRule ruleBody pattern ruleAs rule line nextRule rules routines rulesSection closed judge rulesFrom opening file outcome two bytes pad fieldAt fieldFrom contents listOf stateFields ruleFields entryFields expectedFields faultFields stateAt ruleAt entryAt expectedAt leaves parseCall decoded all goodState goodRule goodExpected goodContents longEnough sheetCheck mapEntryFields mapEntryOf mapEntryAt entryOf entriesOf findEntry idAt idOf allBelow distinct nameInside mapCheck nameOf isNone isUnmapped hasThatName isUnused numbers unmapped unused relaid LK.fits linkAll linkChecked linkCall goodStart startCall meaning operationBy nameFrom mapOf fileOf lengths noneAbove fits has isEmpty isLive before winnerOf idIn operate move token wins chooses step answers nextEscape escapesFrom escapes anyEscape lastEnd replaced trimmed wordEnd firstWord restOf isInclusive isExclusive isExpecting statesOf behindName addState repeatState stateNamed declareExpected hasTarget targetEnd targetOperation targetName targetId equalQuotes ruleNamed headingBehind hasList listEnd
+unfolding isLineEnd isBlank isOtherWhitespace isLetter isDigit isHexDigit isMetaCharacter isEscapeLetter isWhitespaceByte isAsciiWhitespace isAlwaysKept part sameBytes sameRange lookaheadIs trimStart trimEnd backslashesBehind backslashesBefore keepEscaped trimEndUnescaped charOf charLen utf8 firstOf first lastOf last repeat skip whitespaceOf lineEndOf whitespaceLen lineEndLen room insertAt append stateOf ruleOf expectedOf faultOf nextNumber addFault startsFault isFault findFault faultEnd addSpan addPair repeatAt addRepeat loop comments isComment pastComment pastLine toDeclaration pastRuleLine toRule inSection hasRoutines allBytes isNameByte isStateName isState N.findState hasName findRule posixEscapes isCodeLetter isCode isKeptBy isKept isRewritten lastWhole dropLone rewrittenEnd backspace escapeFrom escaped unescaped declareState stateNames isQuoted expectedNames isAlphanumeric declares declarationOf declareAs declaration nextDeclaration endDeclarations declarations operationOf targetOf isNoName isName labelBy labelOf headingOf bodyOf nextEntry entries refuses recordRule listedRule rewrittenRule pattern ruleAs rule line nextRule rules routines rulesSection closed judge rulesFrom opening file outcome two bytes pad fieldAt fieldFrom contents listOf stateFields ruleFields entryFields expectedFields faultFields stateAt ruleAt entryAt expectedAt leaves parseCall decoded all goodState goodRule goodExpected goodContents longEnough sheetCheck mapEntryFields mapEntryOf mapEntryAt entryOf entriesOf findEntry idAt idOf allBelow distinct nameInside mapCheck nameOf isNone isUnmapped hasThatName isUnused numbers unmapped unused relaid LK.fits linkAll linkChecked linkCall goodStart startCall meaning operationBy nameFrom mapOf fileOf lengths noneAbove fits has isEmpty isLive before winnerOf idIn operate move token wins chooses step answers nextEscape escapesFrom escapes anyEscape lastEnd replaced trimmed wordEnd firstWord restOf isInclusive isExclusive isExpecting statesOf behindName addState repeatState stateNamed declareExpected hasTarget targetEnd targetOperation targetName targetId equalQuotes ruleNamed headingBehind hasList listEnd entryEnd entryId withRule
 met r = record { parsed = refl; unmapped = 0; unused = 0; linked = refl; holds = holds-names r; started = refl }
 
 -- and these are the answers
 pub met-answers : (r : Run) → answers (given (session r)) fresh entry-rows
     ≡ Token 300 0 2 ∷ Skip ∷ RowMismatch ∷ Skip ∷ Token 301 4 1 ∷ Token 302 5 1 ∷ Token 300 6 1 ∷ Stopped ∷ Token 302 7 1 ∷ Done ∷ []
-unfolding isLineEnd isBlank isOtherWhitespace isLetter isDigit isHexDigit isMetaCharacter isEscapeLetter isWhitespaceByte isAsciiWhitespace isAlwaysKept part sameBytes sameRange lookaheadIs trimStart trimEnd backslashesBehind backslashesBefore keepEscaped trimEndUnescaped charOf charLen utf8 firstOf first lastOf last repeat skip whitespaceOf lineEndOf whitespaceLen lineEndLen room insertAt append stateOf ruleOf expectedOf faultOf nextNumber addFault startsFault isFault findFault faultEnd addSpan addPair repeatAt addRepeat loop comments isComment pastComment pastLine toDeclaration pastRuleLine toRule inSection hasRoutines allBytes isNameByte isStateName isState N.findState hasName findRule posixEscapes isCodeLetter isCode isKeptBy isKept isRewritten lastWhole dropLone rewrittenEnd backspace escapeFrom escaped unescaped declareState stateNames isQuoted expectedNames isAlphanumeric declares declarationOf declareAs declaration nextDeclaration endDeclarations declarations operationOf targetOf isNoName isName labelBy labelOf headingOf bodyOf R.entryAt entryFrom nextEntry entries refuses recordRule sourceRule listedRule rewrittenRule ruleBody pattern ruleAs rule line nextRule rules routines rulesSection closed judge rulesFrom opening file outcome two bytes pad fieldAt fieldFrom contents listOf stateFields ruleFields entryFields expectedFields faultFields stateAt ruleAt entryAt expectedAt leaves parseCall decoded all goodState goodRule goodExpected goodContents longEnough sheetCheck mapEntryFields mapEntryOf mapEntryAt entryOf entriesOf findEntry idAt idOf allBelow distinct nameInside mapCheck nameOf isNone isUnmapped hasThatName isUnused numbers unmapped unused relaid LK.fits linkAll linkChecked linkCall goodStart startCall meaning operationBy nameFrom mapOf fileOf lengths noneAbove fits has isEmpty isLive before winnerOf idIn operate move token wins chooses step answers nextEscape escapesFrom escapes anyEscape lastEnd replaced trimmed wordEnd firstWord restOf isInclusive isExclusive isExpecting statesOf behindName addState repeatState stateNamed declareExpected hasTarget targetEnd targetOperation targetName targetId equalQuotes ruleNamed headingBehind hasList listEnd
+unfolding isLineEnd isBlank isOtherWhitespace isLetter isDigit isHexDigit isMetaCharacter isEscapeLetter isWhitespaceByte isAsciiWhitespace isAlwaysKept part sameBytes sameRange lookaheadIs trimStart trimEnd backslashesBehind backslashesBefore keepEscaped trimEndUnescaped charOf charLen utf8 firstOf first lastOf last repeat skip whitespaceOf lineEndOf whitespaceLen lineEndLen room insertAt append stateOf ruleOf expectedOf faultOf nextNumber addFault startsFault isFault findFault faultEnd addSpan addPair repeatAt addRepeat loop comments isComment pastComment pastLine toDeclaration pastRuleLine toRule inSection hasRoutines allBytes isNameByte isStateName isState N.findState hasName findRule posixEscapes isCodeLetter isCode isKeptBy isKept isRewritten lastWhole dropLone rewrittenEnd backspace escapeFrom escaped unescaped declareState stateNames isQuoted expectedNames isAlphanumeric declares declarationOf declareAs declaration nextDeclaration endDeclarations declarations operationOf targetOf isNoName isName labelBy labelOf headingOf bodyOf nextEntry entries refuses recordRule listedRule rewrittenRule pattern ruleAs rule line nextRule rules routines rulesSection closed judge rulesFrom opening file outcome two bytes pad fieldAt fieldFrom contents listOf stateFields ruleFields entryFields expectedFields faultFields stateAt ruleAt entryAt expectedAt leaves parseCall decoded all goodState goodRule goodExpected goodContents longEnough sheetCheck mapEntryFields mapEntryOf mapEntryAt entryOf entriesOf findEntry idAt idOf allBelow distinct nameInside mapCheck nameOf isNone isUnmapped hasThatName isUnused numbers unmapped unused relaid LK.fits linkAll linkChecked linkCall goodStart startCall meaning operationBy nameFrom mapOf fileOf lengths noneAbove fits has isEmpty isLive before winnerOf idIn operate move token wins chooses step answers nextEscape escapesFrom escapes anyEscape lastEnd replaced trimmed wordEnd firstWord restOf isInclusive isExclusive isExpecting statesOf behindName addState repeatState stateNamed declareExpected hasTarget targetEnd targetOperation targetName targetId equalQuotes ruleNamed headingBehind hasList listEnd entryEnd entryId withRule
 met-answers r = refl
 
 -- so demand 3 holds of the calls with these rows

@@ -3,7 +3,7 @@
 use mathlib.Core.Path.{_≡_, sym, ap, subst, _∙_}
 use mathlib.Core.List.{List, [], _∷_, _++_}
 use mathlib.Core.Option.{Option, none, some}
-use Prim.Native.Nat.{ℕ}
+use Prim.Native.Nat.{ℕ, _+_}
 use lib.ListN.{length, take}
 use lib.Seq.{take-length, take-append-seam}
 use Rattle.text.specs.Whitespace.{atWhitespace}
@@ -15,7 +15,7 @@ use Rattle.area.specs.declared.Fault.{Fault}
 use Rattle.area.specs.Areas.{room}
 use Rattle.area.specs.Contents.{append, contents, ruleFormat, textFormat}
 use Rattle.area.proofs.Contents.{rule-sound, contents-length}
-use Rattle.fault.specs.Step.{Out, go, bad, full, onto, written, Does}
+use Rattle.fault.specs.Step.{Out, go, bad, full, next, onto, written, Does}
 use Rattle.fault.specs.Faults.{addFault, addRepeat, DuplicateName, RegexError, VerbatimNotSupported}
 use Rattle.fault.proofs.Steps.{was-go}
 use Rattle.fault.proofs.Yielding.{Yields, yields-onto}
@@ -23,10 +23,9 @@ use Rattle.escape.specs.Escape.{unescaped}
 use Rattle.rules.specs.declared.Head.{Head}
 use Rattle.rules.specs.declared.Heading.{Heading}
 use Rattle.rules.specs.declared.Heading.the-variants.{Faulty, Repeated, Fresh}
-use Rattle.rules.specs.declared.Body.{Body}
-use Rattle.rules.specs.declared.Body.the-variants.{Unclosed, Listed, Rewritten, Plain}
-use Rattle.rules.specs.Heading.{headingOf, bodyOf}
-use Rattle.rules.specs.Rules.{Sheet, Caps, sheet, entries, refuses, recordRule, sourceRule, listedRule, rewrittenRule, ruleBody, pattern, Ruled, sheetOf, withSheet, withFaults, ruleAs, rule, line}
+use Rattle.rules.specs.Heading.{headingOf}
+use Rattle.rules.specs.Rules.{Sheet, Caps, sheet, entries, refuses, Text, StateList, recordRule, sourceText, textSince, noList, listSince, withRule, listedRule, rewrittenRule, pattern, Ruled, sheetOf, withSheet, withFaults, ruleAs, rule, line}
+use Rattle.rules.proofs.Patterns.{pattern-cases}
 use Rattle.parse.specs.declared.RuleCounts.{RuleCounts}
 use Rattle.parse.specs.declared.RuleProgress.{RuleProgress}
 use Rattle.parse.specs.declared.RuleProgress.the-variants.{Go}
@@ -46,31 +45,30 @@ record-keeps ids text verdicts c2 i e x rs =
     (λ _. by-test (λ o. Keeps rs (λ v. v .rules) (onto (λ ys. sheet ys ids text) (written 2 e o))) (room (ruleFormat .width) (ruleFormat .most) c2 (length rs) 1) (some (rs ++ (x ∷ []))) none
     (λ _. take-append-seam rs (x ∷ [])) (λ _. tt))
 
-module _ (verdicts : List ℕ) (k : Caps) (i e : ℕ) (h : Head) (w : Sheet) where
+module _ (s : List ℕ) (flags : ℕ) (verdicts : List ℕ) (xs : List State) (k : Caps) (i e : ℕ) (h : Head) (c : ℕ) (w : Sheet) where
   abbrev Sheets : Out Sheet → Type 0
   Sheets o = Keeps (w .rules) (λ v. v .rules) o
 
-  source-keeps : (from len list : ℕ) (ids : List ℕ) → Sheets (sourceRule verdicts k i e h from len list ids w)
-  unfolding sourceRule
-  source-keeps from len list ids = record-keeps ids (w .text) verdicts (k .c2) i e _ (w .rules)
+  with-keeps : (t : Text) (l : StateList) (ids text : List ℕ) → Sheets (withRule s flags verdicts xs k i e h c t l (sheet (w .rules) ids text))
+  unfolding withRule
+  with-keeps t l ids text = record-keeps ids text verdicts (k .c2) i e _ (w .rules)
 
-  listed-keeps : (from len : ℕ) (o : Out (List ℕ)) → Sheets (listedRule verdicts k i e h from len w o)
-  unfolding listedRule
-  listed-keeps from len (go j ids) = source-keeps from len (length (w .lists)) ids
-  listed-keeps from len (bad kind at ids) = tt
-  listed-keeps from len (full n) = tt
+  -- the rule follows a step that writes list entries, or text
+  list-keeps : (o : Out (List ℕ)) (t : Text) (l : Sheet → StateList) → Sheets (next (onto (λ ids. sheet (w .rules) ids (w .text)) o) (λ _ v. withRule s flags verdicts xs k i e h c t (l v) v))
+  list-keeps (go j ids) t l = with-keeps t (l (sheet (w .rules) ids (w .text))) ids (w .text)
+  list-keeps (bad kind at ids) t l = tt
+  list-keeps (full n) t l = tt
 
-  rewritten-keeps : (o : Option (List ℕ)) → Sheets (rewrittenRule verdicts k i e h w o)
-  unfolding rewrittenRule
-  rewritten-keeps none = tt
-  rewritten-keeps (some t) = record-keeps (w .lists) t verdicts (k .c2) i e _ (w .rules)
+  text-keeps : (o : Out (List ℕ)) (t : Sheet → Text) (l : StateList) → Sheets (next (onto (λ u. sheet (w .rules) (w .lists) u) o) (λ _ v. withRule s flags verdicts xs k i e h c (t v) l v))
+  text-keeps (go j u) t l = with-keeps (t (sheet (w .rules) (w .lists) u)) l (w .lists) u
+  text-keeps (bad kind at u) t l = tt
+  text-keeps (full n) t l = tt
 
-  body-keeps : (s : List ℕ) (flags : ℕ) (xs : List State) (c : ℕ) (x : Body) → Sheets (ruleBody s flags verdicts xs k i e h c x w)
-  unfolding ruleBody
-  body-keeps s flags xs c Unclosed = tt
-  body-keeps s flags xs c (Listed g) = listed-keeps _ _ (entries s (k .c3) xs i g (w .lists))
-  body-keeps s flags xs c Rewritten = rewritten-keeps (append textFormat (k .c4) (unescaped s flags i c) (w .text))
-  body-keeps s flags xs c Plain = source-keeps _ _ (length (w .lists)) (w .lists)
+  pattern-keeps : Sheets (pattern s flags verdicts xs k i e h c w)
+  unfolding listedRule rewrittenRule
+  pattern-keeps =
+      pattern-cases s flags verdicts xs k i e h c w Sheets tt (λ g _ _. list-keeps (entries s (k .c3) xs i g (w .lists)) (sourceText (g + 1) c) (listSince w))
+      (text-keeps (written 4 e (append textFormat (k .c4) (unescaped s flags i c) (w .text))) (textSince w) (noList w)) (with-keeps (sourceText i c) (noList w) (w .lists) (w .text))
 
 -- ---- a line
 
@@ -84,13 +82,13 @@ module _ (s : List ℕ) (flags : ℕ) (verdicts : List ℕ) (xs : List State) (k
   faults-keep (some fs) = take-length (r .rules)
 
   as-keeps : (x : Heading) → Lines (ruleAs s flags verdicts xs k c6 i e x r)
-  unfolding ruleAs pattern
+  unfolding ruleAs
   as-keeps (Faulty kind at) = tt
   as-keeps (Repeated c d a z) = faults-keep (addRepeat c6 DuplicateName c d a z (r .faults))
   as-keeps (Fresh b h) =
       let c = trimEndUnescaped s i b in
       yields-onto (λ _ w. take (length (r .rules)) (w .rules) ≡ r .rules) (λ _ t. take (length (r .rules)) (t .rules) ≡ r .rules) (withSheet r) (pattern s flags verdicts xs k i e h c (sheetOf r))
-      (body-keeps verdicts k i e h (sheetOf r) s flags xs c (bodyOf s i c)) (λ _ w kept. kept)
+      (pattern-keeps s flags verdicts xs k i e h c (sheetOf r)) (λ _ w kept. kept)
 
   line-keeps : Lines (line s flags verdicts xs k c6 i e r)
   unfolding line rule

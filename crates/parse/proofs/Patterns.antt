@@ -12,20 +12,20 @@ use Rattle.area.specs.declared.State.{State}
 use Rattle.area.specs.declared.Rule.{Rule}
 use Rattle.area.specs.declared.Appended.{Appended}
 use Rattle.area.specs.declared.Appended.the-variants as Appended
-use Rattle.area.specs.Contents.{append, contents, ruleFormat, entryFormat, textFormat, Grows, Held, leftBy}
+use Rattle.area.specs.Contents.{append, contents, ruleFormat, entryFormat, textFormat, Grows, Held}
 use Rattle.area.proofs.Contents.{contents-length, rule-sound, entry-sound, text-sound}
 use Rattle.fault.specs.declared.Progress.{Progress}
 use Rattle.fault.specs.declared.Progress.the-variants as Progress
-use Rattle.fault.specs.Step.{Out, bad, full, onto, Does, progress}
+use Rattle.fault.specs.Step.{Out, bad, full, next, onto, written, Does, progress}
 use Rattle.fault.specs.Faults.{InvalidStartState}
-use Rattle.fault.proofs.Steps.{does-bad, does-full, does-onto, was-go, was-bad, was-full}
+use Rattle.fault.proofs.Steps.{does-bad, does-full, does-onto, was-go, was-bad, was-full, written-next, written-full}
 use Rattle.escape.specs.Escape.{unescaped}
 use Rattle.rules.specs.declared.Head.{Head}
 use Rattle.rules.specs.declared.Body.{Body}
 use Rattle.rules.specs.declared.Body.the-variants.{Unclosed, Listed, Rewritten, Plain}
 use Rattle.rules.specs.Heading.{bodyOf}
-use Rattle.rules.proofs.Patterns.{listed-from, listed-to}
-use Rattle.rules.specs.Rules.{Sheet, sheet, Caps, entries, ruleOf, recordRule, sourceRule, listedRule, rewrittenRule, ruleBody, pattern}
+use Rattle.rules.proofs.Patterns.{listed-from, listed-to, pattern-is-unclosed, pattern-is-listed, pattern-is-rewritten, pattern-is-plain}
+use Rattle.rules.specs.Rules.{Sheet, sheet, Caps, entries, Text, StateList, ruleOf, recordRule, sourceText, textSince, noList, listSince, withRule, listedRule, rewrittenRule, pattern}
 use Rattle.parse.specs.declared.SheetCounts.{SheetCounts}
 use Rattle.parse.specs.declared.SheetProgress.{SheetProgress}
 use Rattle.parse.specs.declared.SheetProgress.the-variants.{Go, Bad, Full}
@@ -62,9 +62,24 @@ module _ (s : List ℕ) (flags : ℕ) (verdicts : List ℕ) (xs : List State) (i
   abbrev Done : List ℕ → List ℕ → List ℕ → Out SheetCounts → Type 0
   Done v2 v3 v4 o = Does (HeldSheet v2 v3 v4) (pattern s flags verdicts xs caps i e h c) before (sheetIn v2 v3 v4) o
 
-  step : (y : Body) → b ≡ y → pattern s flags verdicts xs caps i e h c before ≡ ruleBody s flags verdicts xs caps i e h c y before
-  unfolding pattern
-  step y z = ap (λ (x : Body). ruleBody s flags verdicts xs caps i e h c x before) (sym is ∙ z)
+  -- the rule of a text and a list, behind what is written
+  abbrev made : Text → StateList → Sheet → Out Sheet
+  made t l v = withRule s flags verdicts xs caps i e h c t l v
+
+  -- on behind the list that is closed at g, and behind the rewritten text
+  abbrev after-list : ℕ → Out (List ℕ) → Out Sheet
+  after-list g o = next (onto (λ ids. sheet (before .rules) ids (before .text)) o) (λ _ v. made (sourceText (g + 1) c) (listSince before v) v)
+
+  abbrev after-text : Out (List ℕ) → Out Sheet
+  after-text o = next (onto (λ t. sheet (before .rules) (before .lists) t) o) (λ _ v. made (textSince before v) (noList before) v)
+
+  is-listed : (g : ℕ) → b ≡ Listed g → pattern s flags verdicts xs caps i e h c before ≡ after-list g (entries s (length l3) xs i g (before .lists))
+  unfolding listedRule
+  is-listed g z = pattern-is-listed s flags verdicts xs caps i e h c before g (sym is ∙ z)
+
+  is-rewritten : b ≡ Rewritten → pattern s flags verdicts xs caps i e h c before ≡ after-text (written 4 e (append textFormat (length l4) (unescaped s flags i c) (before .text)))
+  unfolding rewrittenRule
+  is-rewritten z = pattern-is-rewritten s flags verdicts xs caps i e h c before (sym is ∙ z)
 
   rule-count : length (contents ruleFormat l2 (q .rules)) ≡ q .rules
   rule-count = contents-length rule-sound (held .rules)
@@ -76,8 +91,7 @@ module _ (s : List ℕ) (flags : ℕ) (verdicts : List ℕ) (xs : List State) (i
   text-count = contents-length text-sound (held .text)
 
   pub pattern-unclosed : b ≡ Unclosed → Done l2 l3 l4 (bad InvalidStartState i q)
-  unfolding ruleBody
-  pattern-unclosed z = does-bad (step Unclosed z) held
+  pattern-unclosed z = does-bad (pattern-is-unclosed s flags verdicts xs caps i e h c before (sym is ∙ z)) held
 
   -- the record was made, of the rule x
   module _ (x : Rule) (p : Progress) {v2 : List ℕ}
@@ -90,44 +104,41 @@ module _ (s : List ℕ) (flags : ℕ) (verdicts : List ℕ) (xs : List State) (i
         (does-onto (λ rs. sheet rs (contents entryFormat l3′ m) (contents textFormat l4′ t)) (λ n. sheetCounts n m t) (sheetIn v2 l3′ l4′) y (λ n. refl)
         (λ n g. record { rules = g; entries = he; text = ht }) (progress p) d)
 
-    pub pattern-plain : b ≡ Plain → x ≡ ruleOf h (q .rules) 0 i (c - i) (q .entries) 0 → sheetProgress r ≡ onto (λ n. sheetCounts n (q .entries) (q .text)) (progress p) → Done v2 l3 l4 (sheetProgress r)
-    unfolding ruleBody sourceRule
+    pub pattern-plain : b ≡ Plain → x ≡ ruleOf h (q .rules) (sourceText i c) (record { from = q .entries; count = 0 }) → sheetProgress r ≡ onto (λ n. sheetCounts n (q .entries) (q .text)) (progress p) → Done v2 l3 l4 (sheetProgress r)
+    unfolding withRule
     pattern-plain z y w =
-        let none-more : length (contents entryFormat l3 (q .entries)) - length (contents entryFormat l3 (q .entries)) ≡ 0 = omega arith in
-        recorded l3 l4 (q .entries) (q .text) (held .entries) (held .text) w (step Plain z ∙ rw (none-more, rule-count, entry-count, ← y))
+        recorded l3 l4 (q .entries) (q .text) (held .entries) (held .text) w
+        (pattern-is-plain s flags verdicts xs caps i e h c before (sym is ∙ z) ∙ rw (rule-count, entry-count, ← y))
 
     module _ (g : ℕ) (z : b ≡ Listed g) {v3 : List ℕ} (o : Progress)
         (n : Does (Held entryFormat v3) (entries s (length l3) xs i g) (contents entryFormat l3 (q .entries)) (contents entryFormat v3) (progress o)) (j m : ℕ) (went : o ≡ Progress.Go j m) where
-      pub pattern-listed : (k : ℕ) → x ≡ ruleOf h (q .rules) 0 (g + 1) (c - (g + 1)) (q .entries) k → k ≡ m - q .entries → sheetProgress r ≡ onto (λ n. sheetCounts n m (q .text)) (progress p) → Done v2 v3 l4 (sheetProgress r)
-      unfolding ruleBody listedRule sourceRule
+      pub pattern-listed : (k : ℕ) → x ≡ ruleOf h (q .rules) (sourceText (g + 1) c) (record { from = q .entries; count = k }) → k ≡ m - q .entries → sheetProgress r ≡ onto (λ n. sheetCounts n m (q .text)) (progress p) → Done v2 v3 l4 (sheetProgress r)
+      unfolding withRule
       pattern-listed k y u w =
           let more : length (contents entryFormat v3 m) ≡ m = contents-length entry-sound (n .goes j m (ap progress went)) in
           recorded v3 l4 m (q .text) (n .goes j m (ap progress went)) (held .text) w
-          (step (Listed g) z ∙ ap (listedRule verdicts caps i e h (g + 1) (c - (g + 1)) before) (was-go n (ap progress went)) ∙ rw (more, rule-count, entry-count, ← u, ← y))
+          (is-listed g z ∙ ap (after-list g) (was-go n (ap progress went)) ∙ rw (more, rule-count, entry-count, ← u, ← y))
 
     module _ (z : b ≡ Rewritten) (o : Appended) {v4 : List ℕ} (n : Grows textFormat (append textFormat (length l4) (unescaped s flags i c)) l4 (q .text) o v4) (m : ℕ) (went : o ≡ Appended.Next m) where
-      pub pattern-rewritten : (k : ℕ) → x ≡ ruleOf h (q .rules) 1 (q .text) k (q .entries) 0 → k ≡ m - q .text → sheetProgress r ≡ onto (λ n. sheetCounts n (q .entries) m) (progress p) → Done v2 l3 v4 (sheetProgress r)
-      unfolding ruleBody rewrittenRule
+      pub pattern-rewritten : (k : ℕ) → x ≡ ruleOf h (q .rules) (record { place = 1; from = q .text; length = k }) (record { from = q .entries; count = 0 }) → k ≡ m - q .text → sheetProgress r ≡ onto (λ n. sheetCounts n (q .entries) m) (progress p) → Done v2 l3 v4 (sheetProgress r)
+      unfolding withRule
       pattern-rewritten k y u w =
           let more : length (contents textFormat v4 m) ≡ m = contents-length text-sound (n .held m went) in
           recorded l3 v4 (q .entries) m (held .entries) (n .held m went) w
-          (step Rewritten z ∙ ap (rewrittenRule verdicts caps i e h before) (n .says ∙ ap (leftBy textFormat v4) went) ∙ rw (more, rule-count, entry-count, text-count, ← u, ← y))
+          (is-rewritten z ∙ ap after-text (written-next textFormat 4 e _ v4 o (n .says) went) ∙ rw (more, rule-count, entry-count, text-count, ← u, ← y))
 
   module _ (g : ℕ) (z : b ≡ Listed g) {v3 : List ℕ} (o : Progress)
       (n : Does (Held entryFormat v3) (entries s (length l3) xs i g) (contents entryFormat l3 (q .entries)) (contents entryFormat v3) (progress o)) where
     pub pattern-list-bad : (kind at m : ℕ) → o ≡ Progress.Bad kind at m → Done l2 v3 l4 (bad kind at (sheetCounts (q .rules) m (q .text)))
-    unfolding ruleBody listedRule
     pattern-list-bad kind at m y =
-        does-bad (step (Listed g) z ∙ ap (listedRule verdicts caps i e h (g + 1) (c - (g + 1)) before) (was-bad n (ap progress y)))
+        does-bad (is-listed g z ∙ ap (after-list g) (was-bad n (ap progress y)))
         (record { rules = held .rules; entries = n .ends kind at m (ap progress y); text = held .text })
 
     pub pattern-list-full : (k : ℕ) → o ≡ Progress.Full k → Done l2 v3 l4 (full k)
-    unfolding ruleBody listedRule
-    pattern-list-full k y = does-full (step (Listed g) z ∙ ap (listedRule verdicts caps i e h (g + 1) (c - (g + 1)) before) (was-full n (ap progress y)))
+    pattern-list-full k y = does-full (is-listed g z ∙ ap (after-list g) (was-full n (ap progress y)))
 
   module _ (z : b ≡ Rewritten) (o : Appended) {v4 : List ℕ} (n : Grows textFormat (append textFormat (length l4) (unescaped s flags i c)) l4 (q .text) o v4) where
     pub pattern-text-full : o ≡ Appended.Full → Done l2 l3 v4 (full 4)
-    unfolding ruleBody rewrittenRule
-    pattern-text-full y = does-full (step Rewritten z ∙ ap (rewrittenRule verdicts caps i e h before) (n .says ∙ ap (leftBy textFormat v4) y))
+    pattern-text-full y = does-full (is-rewritten z ∙ ap after-text (written-full textFormat 4 e _ v4 o (n .says) y))
 
 pub ruleset patterning = (needs, rules-held, listed-from, list-to, list-closed, list-place, list-field, pattern-unclosed, pattern-plain, pattern-listed, pattern-rewritten, pattern-list-bad, pattern-list-full, pattern-text-full)

@@ -31,7 +31,7 @@ pub struct Text {
 
 // The rule of a heading and a text, at the next position: its id is the position.
 fn rule_with(h: Head, k: u16, t: Text) -> Rule
-    ensures { λ r. ⌜ r ≡ ruleOf h k (t .place) (t .from) (t .length) (t .«list_from») (t .«list_count») ⌝ }
+    ensures { λ r. ⌜ r ≡ ruleOf h k (record { place = t .place; from = t .from; length = t .length }) (record { from = t .«list_from»; count = t .«list_count» }) ⌝ }
 {
     Rule {
         has_id: 1,

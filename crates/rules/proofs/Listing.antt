@@ -6,8 +6,8 @@ use mathlib.Core.List.{List, [], _∷_}
 use Prim.Native.Nat.{ℕ, _+_, _-_, _≤_, _<_}
 use native.Mathlib.Omega.{arith}
 use borrow.Author.Needs.{needs}
-use borrow.Author.Tests.{le-leb, lt-leb, lt-ltb, le-ltb}
-use lib.Dec.{eqb, leb, ltb}
+use borrow.Author.Tests.{le-leb, lt-leb}
+use lib.Dec.{eqb, leb}
 use lib.ListN.{length}
 use Rattle.text.specs.Walk.{Between}
 use Rattle.text.specs.Whitespace.{byte}
@@ -27,43 +27,40 @@ use Rattle.fault.specs.declared.Progress.the-variants as Progress
 use Rattle.fault.specs.Faults.{UnknownStartState}
 use Rattle.fault.proofs.Steps.{Loops, going-start, loops-stop, loops-next, loops-bad, loops-full, does-go, does-bad, does-full, was-go, written-next, written-full, written-place, bad-goes}
 use Rattle.names.specs.Names.{findState}
-use Rattle.rules.specs.Rules.{entryAt, entryFrom, nextEntry, entries}
+use Rattle.rules.specs.Rules.{entryEnd, entryId, nextEntry, entries}
 
 -- ---- a name
 
--- the state of the name between a and e, trimmed
-abbrev stateBetween : List ℕ → ℕ → ℕ → List State → ℕ
-stateBetween s a e xs = findState s (trimStart s a e) (trimEnd s (trimStart s a e) e) xs
-
 pub state-trimmed : (s : List ℕ) (a e n : ℕ) (xs : List State) (x y r : ℕ) → Between a e (trimStart s a e) x → Between x e (trimEnd s x e) y → Between 0 n (findState s x y xs) r
-    → Between 0 n (stateBetween s a e xs) r
+    → Between 0 n (entryId s xs a e) r
+unfolding entryId
 state-trimmed s a e n xs x y r b c f = rw (← b .is, ← c .is) f
 
 pub ruleset trimming = (needs, state-trimmed)
 
 -- n1 states stand in the area l1; the name ends at e and is that of the state j
 module _ (s : List ℕ) (i g a : ℕ) (l1 : List ℕ) (n1 : ℕ) (h1 : Held stateFormat l1 n1) (l : List ℕ) (n : ℕ) (h : Held entryFormat l n)
-    (e : ℕ) (b : Between a g (findByte s a g 0x2c) e) (j : ℕ) (f : Between 0 n1 (stateBetween s a e (contents stateFormat l1 n1)) j) where
+    (e : ℕ) (b : Between a g (findByte s a g 0x2c) e) (j : ℕ) (f : Between 0 n1 (entryId s (contents stateFormat l1 n1) a e) j) where
   abbrev Done : List ℕ → Out ℕ → Type 0
   Done x o = Does (Held entryFormat x) (nextEntry s (length l) (contents stateFormat l1 n1) i g a) (contents entryFormat l n) (contents entryFormat x) o
 
-  named : (t : Bool) → ltb j n1 ≡ t → nextEntry s (length l) (contents stateFormat l1 n1) i g a (contents entryFormat l n)
-      ≡ cond t (written 3 (e + 1) (append entryFormat (length l) (j ∷ []) (contents entryFormat l n))) (bad UnknownStartState i (contents entryFormat l n))
-  unfolding nextEntry entryFrom entryAt
+  named : (t : Bool) → leb n1 j ≡ t → nextEntry s (length l) (contents stateFormat l1 n1) i g a (contents entryFormat l n)
+      ≡ cond t (bad UnknownStartState i (contents entryFormat l n)) (written 3 (e + 1) (append entryFormat (length l) (j ∷ []) (contents entryFormat l n)))
+  unfolding nextEntry entryEnd
   named t q = rw (← b .is, ← f .is, contents-length state-sound h1, q)
 
   pub entry-unknown : n1 ≤ j → Done l (bad UnknownStartState i n)
-  entry-unknown t = does-bad (named false (le-ltb j n1 t)) h
+  entry-unknown t = does-bad (named true (le-leb n1 j t)) h
 
   module _ (t : j < n1) (p : Appended) (x : List ℕ) (pushed : Pushed entryWidth mostOthers 1 (entryBytes j) l n p x) where
     grown : Grows entryFormat (append entryFormat (length l) (j ∷ [])) l n p x
     grown = held-push entry-sound h j pushed
 
     pub entry-next : (m : ℕ) → p ≡ Next m → Done x (go (e + 1) m)
-    entry-next m z = does-go (named true (lt-ltb j n1 t) ∙ written-next entryFormat 3 (e + 1) _ x p (grown .says) z) (grown .held m z)
+    entry-next m z = does-go (named false (lt-leb n1 j t) ∙ written-next entryFormat 3 (e + 1) _ x p (grown .says) z) (grown .held m z)
 
     pub entry-full : p ≡ Full → Done x (full 3)
-    entry-full z = does-full (named true (lt-ltb j n1 t) ∙ written-full entryFormat 3 (e + 1) _ x p (grown .says) z)
+    entry-full z = does-full (named false (lt-leb n1 j t) ∙ written-full entryFormat 3 (e + 1) _ x p (grown .says) z)
 
 pub ruleset listing = (needs, entry-unknown, entry-next, entry-full)
 
@@ -71,19 +68,19 @@ pub ruleset listing = (needs, entry-unknown, entry-next, entry-full)
 
 -- a name leads on
 entry-forward : (s : List ℕ) (c3 : ℕ) (xs : List State) (i g a : ℕ) (ids : List ℕ) {j : ℕ} {ys : List ℕ} → nextEntry s c3 xs i g a ids ≡ go j ys → a < j
-unfolding nextEntry entryFrom entryAt
-entry-forward s c3 xs i g a ids {j} {ys} q = by (ltb k (length xs)) q
+unfolding nextEntry entryEnd
+entry-forward s c3 xs i g a ids {j} {ys} q = by (leb (length xs) k) q
   where
     e : ℕ
     e = findByte s a g 0x2c
 
     k : ℕ
-    k = stateBetween s a e xs
+    k = entryId s xs a e
 
-    by : (t : Bool) → cond t (written 3 (e + 1) (append entryFormat c3 (k ∷ []) ids)) (bad UnknownStartState i ids) ≡ go j ys → a < j
-    by true w =
+    by : (t : Bool) → cond t (bad UnknownStartState i ids) (written 3 (e + 1) (append entryFormat c3 (k ∷ []) ids)) ≡ go j ys → a < j
+    by true w = absurd (bad-goes w)
+    by false w =
         omega (arith, written-place 3 (e + 1) (append entryFormat c3 (k ∷ []) ids) w, first-from (λ m. eqb (byte s m) 0x2c) a g)
-    by false w = absurd (bad-goes w)
 
 -- the loop has come to the name at a, with n entries held
 pub record Lists (whole : Out (List ℕ)) (s : List ℕ) (c3 : ℕ) (xs : List State) (i g a : ℕ) (l : List ℕ) (n : ℕ) : Type 0 where

@@ -2,8 +2,7 @@
 use Prim.Native.Nat.{ℕ, _+_, _-_}
 use mathlib.Core.Bool.{Bool, cond, not}
 use mathlib.Core.List.{List, [], _∷_}
-use mathlib.Core.Option.{Option, none, some}
-use lib.Dec.{eqb, ltb, leb}
+use lib.Dec.{eqb, leb}
 use lib.ListN.{length, getD}
 use Rattle.text.specs.Whitespace.{atWhitespace}
 use Rattle.text.specs.Scan.{lineEnd, findByte, trimEnd, trimStart, trimEndUnescaped}
@@ -11,7 +10,7 @@ use Rattle.area.specs.declared.State.{State}
 use Rattle.area.specs.declared.Rule.{Rule}
 use Rattle.area.specs.declared.Fault.{Fault}
 use Rattle.area.specs.Contents.{append, ruleFormat, entryFormat, textFormat}
-use Rattle.fault.specs.Step.{Out, go, bad, full, next, onto, written, loop}
+use Rattle.fault.specs.Step.{Out, go, bad, next, onto, written, loop}
 use Rattle.fault.specs.Faults.{addFault, addRepeat, RoutinesNotSupported, UnknownStartState, InvalidStartState, DuplicateName, RegexError, VerbatimNotSupported}
 use Rattle.names.specs.Names.{findState}
 use Rattle.escape.specs.Escape.{unescaped}
@@ -19,7 +18,6 @@ use Rattle.section.specs.Section.{toRule, inSection, hasRoutines}
 use Rattle.rules.specs.declared.Head.{Head}
 use Rattle.rules.specs.declared.Heading.{Heading}
 use Rattle.rules.specs.declared.Heading.the-variants.{Faulty, Repeated, Fresh}
-use Rattle.rules.specs.declared.Body.{Body}
 use Rattle.rules.specs.declared.Body.the-variants.{Unclosed, Listed, Rewritten, Plain}
 use Rattle.rules.specs.Heading.{headingOf, bodyOf}
 
@@ -43,21 +41,24 @@ sheet rs ids t = record { rules = rs; lists = ids; text = t }
 
 -- ---- the list of states between the `<` at i and the `>` at g
 
--- of n states the name is the state j: one entry more, and on at a; an unknown one is a fault at the line (01, Rules)
-unfoldable pub entryAt : ℕ → ℕ → ℕ → ℕ → ℕ → List ℕ → Out (List ℕ)
-entryAt c3 n i a j ids = cond (ltb j n) (written 3 a (append entryFormat c3 (j ∷ []) ids)) (bad UnknownStartState i ids)
+-- where the name from a on ends: at the next comma, or at the `>` (01, Rules)
+unfoldable pub entryEnd : List ℕ → ℕ → ℕ → ℕ
+entryEnd s g a = findByte s a g 0x2c
 
--- the name up to e, which starts at x without leading whitespace; on behind the comma or the `>` at e (01, Rules)
-unfoldable pub entryFrom : List ℕ → ℕ → List State → ℕ → ℕ → ℕ → List ℕ → Out (List ℕ)
-entryFrom s c3 xs i e x ids = entryAt c3 (length xs) i (e + 1) (findState s x (trimEnd s x e) xs) ids
+-- the state of the name from a to e, trimmed; the number of states where there is none (01, Rules)
+unfoldable pub entryId : List ℕ → List State → ℕ → ℕ → ℕ
+entryId s xs a e = findState s (trimStart s a e) (trimEnd s (trimStart s a e) e) xs
 
--- the next name from a on, up to a comma or the `>` at g (01, Rules)
-unfoldable pub nextEntry : List ℕ → ℕ → List State → ℕ → ℕ → ℕ → List ℕ → Out (List ℕ)
-nextEntry s c3 xs i g a ids = entryFrom s c3 xs i (findByte s a g 0x2c) (trimStart s a (findByte s a g 0x2c)) ids
+module _ (s : List ℕ) (c3 : ℕ) (xs : List State) (i g : ℕ) where
+  -- the next name, from a on: an unknown one is a fault at the line; any other is written, and on behind the comma or the `>` (01, Rules)
+  unfoldable pub nextEntry : ℕ → List ℕ → Out (List ℕ)
+  nextEntry a ids =
+      cond (leb (length xs) (entryId s xs a (entryEnd s g a))) (bad UnknownStartState i ids)
+      (written 3 (entryEnd s g a + 1) (append entryFormat c3 (entryId s xs a (entryEnd s g a) ∷ []) ids))
 
--- each name in turn (01, Rules)
-unfoldable pub entries : List ℕ → ℕ → List State → ℕ → ℕ → List ℕ → Out (List ℕ)
-entries s c3 xs i g ids = loop (length s) (λ a. leb a g) (nextEntry s c3 xs i g) (i + 1) ids
+  -- each name in turn (01, Rules)
+  unfoldable pub entries : List ℕ → Out (List ℕ)
+  entries ids = loop (length s) (λ a. leb a g) nextEntry (i + 1) ids
 
 -- ---- the record
 
@@ -65,9 +66,20 @@ entries s c3 xs i g ids = loop (length s) (λ a. leb a g) (nextEntry s c3 xs i g
 unfoldable pub refuses : List ℕ → ℕ → Bool
 refuses verdicts k = not (eqb (getD verdicts k 0) 0)
 
+-- where a rule's text stands: place 0 is the source, 1 the rewritten text (01, Areas, 2 and 4)
+pub record Text : Type 0 where
+  pub place : ℕ
+  pub from : ℕ
+  pub length : ℕ
+
+-- where a rule's list of states stands among the entries (01, Areas, 2 and 3)
+pub record StateList : Type 0 where
+  pub from : ℕ
+  pub count : ℕ
+
 -- the rule at the position k: its id is k (01, Rules)
-abbrev pub ruleOf : Head → ℕ → ℕ → ℕ → ℕ → ℕ → ℕ → Rule
-ruleOf h k place from len list count = record {
+abbrev pub ruleOf : Head → ℕ → Text → StateList → Rule
+ruleOf h k t l = record {
   «has_id» = 1;
   id = k;
   named = h .named;
@@ -75,11 +87,11 @@ ruleOf h k place from len list count = record {
   «span_end» = h .«span_end»;
   «name_from» = h .«name_from»;
   «name_length» = h .«name_length»;
-  place = place;
-  «text_from» = from;
-  «text_length» = len;
-  «list_from» = list;
-  «list_count» = count;
+  place = t .place;
+  «text_from» = t .from;
+  «text_length» = t .length;
+  «list_from» = l .from;
+  «list_count» = l .count;
   operation = h .operation;
   target = h .target;
 }
@@ -88,36 +100,51 @@ ruleOf h k place from len list count = record {
 unfoldable pub recordRule : List ℕ → ℕ → ℕ → ℕ → Rule → List Rule → Out (List Rule)
 recordRule verdicts c2 i e x rs = cond (refuses verdicts (length rs)) (bad RegexError i rs) (written 2 e (append ruleFormat c2 (x ∷ []) rs))
 
--- with the text of the source from `from` on, behind the list entries ids, of which the rule's start at `list` (01, Rules)
-unfoldable pub sourceRule : List ℕ → Caps → ℕ → ℕ → Head → ℕ → ℕ → ℕ → List ℕ → Sheet → Out Sheet
-sourceRule verdicts k i e h from len list ids w =
-    onto (λ rs. sheet rs ids (w .text)) (recordRule verdicts (k .c2) i e (ruleOf h (length (w .rules)) 0 from len list (length ids - list)) (w .rules))
+-- the source from a to c (01, Areas, 4)
+abbrev pub sourceText : ℕ → ℕ → Text
+sourceText a c = record { place = 0; from = a; length = c - a }
 
--- after the list of states, the rest of the pattern is kept as it is (01, Rules)
-unfoldable pub listedRule : List ℕ → Caps → ℕ → ℕ → Head → ℕ → ℕ → Sheet → Out (List ℕ) → Out Sheet
-listedRule verdicts k i e h from len w (go j ids) = sourceRule verdicts k i e h from len (length (w .lists)) ids w
-listedRule verdicts k i e h from len w (bad kind at ids) = bad kind at (sheet (w .rules) ids (w .text))
-listedRule verdicts k i e h from len w (full n) = full n
+-- the rewritten text that v has and w has not (01, Areas, 4)
+abbrev pub textSince : Sheet → Sheet → Text
+textSince w v = record { place = 1; from = length (w .text); length = length (v .text) - length (w .text) }
 
--- with rewritten text (01, Rules)
-unfoldable pub rewrittenRule : List ℕ → Caps → ℕ → ℕ → Head → Sheet → Option (List ℕ) → Out Sheet
-rewrittenRule verdicts k i e h w none = full 4
-rewrittenRule verdicts k i e h w (some t) =
-    onto (λ rs. sheet rs (w .lists) t)
-    (recordRule verdicts (k .c2) i e (ruleOf h (length (w .rules)) 1 (length (w .text)) (length t - length (w .text)) (length (w .lists)) 0) (w .rules))
+-- no list: it would begin behind the entries so far (01, Areas, 2)
+abbrev pub noList : Sheet → StateList
+noList w = record { from = length (w .lists); count = 0 }
 
--- the pattern from i to c of the line from i to e, and the rule (01, Rules)
-unfoldable pub ruleBody : List ℕ → ℕ → List ℕ → List State → Caps → ℕ → ℕ → Head → ℕ → Body → Sheet → Out Sheet
-ruleBody s flags verdicts xs k i e h c Unclosed w = bad InvalidStartState i w
-ruleBody s flags verdicts xs k i e h c (Listed g) w =
-    listedRule verdicts k i e h (g + 1) (c - (g + 1)) w (entries s (k .c3) xs i g (w .lists))
-ruleBody s flags verdicts xs k i e h c Rewritten w =
-    rewrittenRule verdicts k i e h w (append textFormat (k .c4) (unescaped s flags i c) (w .text))
-ruleBody s flags verdicts xs k i e h c Plain w = sourceRule verdicts k i e h i (c - i) (length (w .lists)) (w .lists) w
+-- the list entries that v has and w has not (01, Areas, 2 and 3)
+abbrev pub listSince : Sheet → Sheet → StateList
+listSince w v = record { from = length (w .lists); count = length (v .lists) - length (w .lists) }
 
--- the pattern from i to c, whatever its kind, and the rule (01, Rules)
-unfoldable pub pattern : List ℕ → ℕ → List ℕ → List State → Caps → ℕ → ℕ → Head → ℕ → Sheet → Out Sheet
-pattern s flags verdicts xs k i e h c w = ruleBody s flags verdicts xs k i e h c (bodyOf s i c) w
+-- ---- the pattern from i to c of the line from i to e, whose head is h
+
+module _ (s : List ℕ) (flags : ℕ) (verdicts : List ℕ) (xs : List State) (k : Caps) (i e : ℕ) (h : Head) (c : ℕ) where
+  -- the verdict, and the record of the rule with this text and list (01, Rules)
+  unfoldable pub withRule : Text → StateList → Sheet → Out Sheet
+  withRule t l w =
+      onto (λ rs. sheet rs (w .lists) (w .text)) (recordRule verdicts (k .c2) i e (ruleOf h (length (w .rules)) t l) (w .rules))
+
+  -- the names of a list that is closed at g; then the rule, with the rest of the pattern as it stands (01, Rules)
+  unfoldable pub listedRule : ℕ → Sheet → Out Sheet
+  listedRule g w =
+      next (onto (λ ids. sheet (w .rules) ids (w .text)) (entries s (k .c3) xs i g (w .lists)))
+      (λ _ v. withRule (sourceText (g + 1) c) (listSince w v) v)
+
+  -- the rewritten text; then the rule (01, Rules)
+  unfoldable pub rewrittenRule : Sheet → Out Sheet
+  rewrittenRule w =
+      next (onto (λ t. sheet (w .rules) (w .lists) t) (written 4 e (append textFormat (k .c4) (unescaped s flags i c) (w .text))))
+      (λ _ v. withRule (textSince w v) (noList w) v)
+
+  -- a list that is not closed is a fault at the line; a list; escapes to rewrite; or text as it stands (01, Rules)
+  unfoldable pub pattern : Sheet → Out Sheet
+  pattern w =
+      elim (bodyOf s i c) [
+        | Unclosed ↦ bad InvalidStartState i w
+        | Listed g ↦ listedRule g w
+        | Rewritten ↦ rewrittenRule w
+        | Plain ↦ withRule (sourceText i c) (noList w) w
+      ]
 
 -- ---- a line
 
@@ -140,30 +167,31 @@ withSheet r w = record { rules = w .rules; lists = w .lists; text = w .text; fau
 abbrev pub withFaults : Ruled → List Fault → Ruled
 withFaults r fs = record { rules = r .rules; lists = r .lists; text = r .text; faults = fs }
 
--- what becomes of the line from i to e (01, Rules)
-unfoldable pub ruleAs : List ℕ → ℕ → List ℕ → List State → Caps → ℕ → ℕ → ℕ → Heading → Ruled → Out Ruled
-ruleAs s flags verdicts xs k c6 i e (Faulty kind at) r = bad kind at r
-ruleAs s flags verdicts xs k c6 i e (Repeated c d a z) r = onto (withFaults r) (written 6 e (addRepeat c6 DuplicateName c d a z (r .faults)))
-ruleAs s flags verdicts xs k c6 i e (Fresh b h) r = onto (withSheet r) (pattern s flags verdicts xs k i e h (trimEndUnescaped s i b) (sheetOf r))
+module _ (s : List ℕ) (flags : ℕ) (verdicts : List ℕ) (xs : List State) (k : Caps) (c6 : ℕ) where
+  -- what becomes of the line from i to e: a fault; a repeated name, whose pattern is not read; or a rule (01, Rules)
+  unfoldable pub ruleAs : ℕ → ℕ → Heading → Ruled → Out Ruled
+  ruleAs i e (Faulty kind at) r = bad kind at r
+  ruleAs i e (Repeated c d a z) r = onto (withFaults r) (written 6 e (addRepeat c6 DuplicateName c d a z (r .faults)))
+  ruleAs i e (Fresh b h) r = onto (withSheet r) (pattern s flags verdicts xs k i e h (trimEndUnescaped s i b) (sheetOf r))
 
--- a rule, whose line is read without its trailing whitespace (01, Rules)
-unfoldable pub rule : List ℕ → ℕ → List ℕ → List State → Caps → ℕ → ℕ → ℕ → Ruled → Out Ruled
-rule s flags verdicts xs k c6 i e r = ruleAs s flags verdicts xs k c6 i e (headingOf s i (trimEnd s i e) xs (r .rules)) r
+  -- a rule, whose line is read without its trailing whitespace (01, Rules)
+  unfoldable pub rule : ℕ → ℕ → Ruled → Out Ruled
+  rule i e r = ruleAs i e (headingOf s i (trimEnd s i e) xs (r .rules)) r
 
--- a line: one that starts with whitespace is a fault whose span is the line; any other is a rule (01, Rules)
-unfoldable pub line : List ℕ → ℕ → List ℕ → List State → Caps → ℕ → ℕ → ℕ → Ruled → Out Ruled
-line s flags verdicts xs k c6 i e r =
-    cond (atWhitespace s i) (onto (withFaults r) (written 6 e (addFault c6 VerbatimNotSupported i e (r .faults)))) (rule s flags verdicts xs k c6 i e r)
+  -- a line: one that starts with whitespace is a fault whose span is the line; any other is a rule (01, Rules)
+  unfoldable pub line : ℕ → ℕ → Ruled → Out Ruled
+  line i e r =
+      cond (atWhitespace s i) (onto (withFaults r) (written 6 e (addFault c6 VerbatimNotSupported i e (r .faults)))) (rule i e r)
+
+  -- a line, and on from its end to the next (01, Rules)
+  unfoldable pub nextRule : ℕ → Ruled → Out Ruled
+  nextRule i r = next (line i (lineEnd s i) r) (λ _ t. go (toRule s flags (lineEnd s i)) t)
+
+  -- the rules from i on (01, Rules)
+  unfoldable pub rules : ℕ → Ruled → Out Ruled
+  rules i r = loop (length s) (inSection s) nextRule (toRule s flags i) r
 
 -- ---- the section
-
--- a line, and on from its end to the next (01, Rules)
-unfoldable pub nextRule : List ℕ → ℕ → List ℕ → List State → Caps → ℕ → ℕ → Ruled → Out Ruled
-nextRule s flags verdicts xs k c6 i r = next (line s flags verdicts xs k c6 i (lineEnd s i) r) (λ _ t. go (toRule s flags (lineEnd s i)) t)
-
--- the rules from i on (01, Rules)
-unfoldable pub rules : List ℕ → ℕ → List ℕ → List State → Caps → ℕ → ℕ → Ruled → Out Ruled
-rules s flags verdicts xs k c6 i r = loop (length s) (inSection s) (nextRule s flags verdicts xs k c6) (toRule s flags i) r
 
 -- the `%%` at i, if there is one, is a fault unless only whitespace follows it (01, Rules)
 unfoldable pub routines : List ℕ → ℕ → Ruled → Out Ruled

@@ -2,11 +2,9 @@
 ghost use Prim.Native.Nat.{_≤_, _<_};
 ghost use lib.ListN.{length};
 ghost use Rattle.text.specs.Walk.{Between};
-ghost use Rattle.text.specs.Scan.{trimStart, trimEnd};
 ghost use Rattle.area.specs.Contents.{stateFormat, entryFormat, contents, Held};
 ghost use Rattle.fault.specs.Step.{Does, progress};
-ghost use Rattle.names.specs.Names.{findState};
-ghost use Rattle.rules.specs.Rules.{nextEntry, entries};
+ghost use Rattle.rules.specs.Rules.{entryId, nextEntry, entries};
 use area::Appended;
 use area::ENTRY_AREA;
 use area::push_entry;
@@ -21,7 +19,7 @@ use text::scan::trim_start;
 fn state_between(src: &[u8], a: usize, e: usize, area1: &[u8], n1: u16) -> usize
     requires { ⌜ (a ≤ e) × (e ≤ length (now src)) ⌝ }
     requires { ⌜ Held stateFormat (now area1) n1 ⌝ }
-    ensures { λ r. ⌜ Between 0 n1 (findState (now (src .entry)) (trimStart (now (src .entry)) a e) (trimEnd (now (src .entry)) (trimStart (now (src .entry)) a e) e) (contents stateFormat (now (area1 .entry)) n1)) r ⌝ }
+    ensures { λ r. ⌜ Between 0 n1 (entryId (now (src .entry)) (contents stateFormat (now (area1 .entry)) n1) a e) r ⌝ }
 {
     let x = trim_start(src, a, e);
     get_start_state_by_name(src, x, trim_end(src, x, e), area1, n1)
