@@ -10,14 +10,15 @@ use native.Mathlib.Nat.{eq-zero-or-pos}
 use native.Mathlib.Omega.{arith}
 use borrow.Author.Tests.{eqb-true}
 use lib.Dec.{eqb}
-use lib.ListN.{length, List·getD-append}
+use lib.ListN.{length}
 use Rattle.text.specs.Class.{among, isWhitespaceByte, isLineEnd, isBlank, isOtherWhitespace}
 use Rattle.text.specs.Whitespace.{byte, isNextLine, isMark, isSeparator, whitespaceOf, lineEndOf, whitespaceLen, lineEndLen}
 use Rattle.text.specs.Unicode.{encode, encodeAll, patternWhiteSpace, lineTerminators, isPatternWhiteSpace, isLineTerminator}
 use Rattle.text.proofs.Tests.{and-left, and-right, or-cases, by-test}
 use Rattle.text.proofs.Spaces.{end-none-of-white}
 use Rattle.text.proofs.Trims.{inner-none}
-use Rattle.text.proofs.Codes.{Each, by-size, encode-1, encode-2, encode-3, encode-4, inner-bytes, byte-behind, byte-next, encodeAll-append}
+use Rattle.text.proofs.Codes.{Each, by-size, encode-1, encode-2, encode-3, encode-4, byte-behind, byte-next, encodeAll-append}
+use Rattle.text.proofs.Ascii.{inner-at}
 
 -- what holds of each number of a list holds of a number that is among them
 among-each : (P : ℕ → Type 0) (xs : List ℕ) (c : ℕ) → among xs c ≡ true → Each P xs → P c
@@ -154,16 +155,11 @@ module _ (xs : List ℕ) (c : ℕ) (ys : List ℕ) where
 
   -- and nothing inside a character
   module _ (j : ℕ) (p : 0 < j) (h : j < length (encode c)) where
-    inside-byte : byte (encodeAll (xs ++ c ∷ ys)) (length (encodeAll xs) + j) ≡ byte (encode c) j
-    unfolding encodeAll
-    inside-byte =
-        rw (encodeAll-append xs (c ∷ ys)) (byte-behind (encodeAll xs) (encode c ++ encodeAll ys) j ∙ List·getD-append (encode c) (encodeAll ys) 0 j h)
-
     pub no-whitespace-inside : whitespaceLen (encodeAll (xs ++ c ∷ ys)) (length (encodeAll xs) + j) ≡ 0
     unfolding whitespaceLen
     no-whitespace-inside =
-        let b = inner-bytes c j p h in
-        inner-none _ _ _ (rw inside-byte (b .0)) (rw inside-byte (b .1))
+        let b = inner-at xs c ys j p h in
+        inner-none _ _ _ (b .0) (b .1)
 
     pub no-line-end-inside : lineEndLen (encodeAll (xs ++ c ∷ ys)) (length (encodeAll xs) + j) ≡ 0
     no-line-end-inside = end-none-of-white _ _ no-whitespace-inside
