@@ -140,7 +140,7 @@ module _ (s : List ℕ) (i e : ℕ) (h : i ≤ e) where
   rest-behind = by-test (λ r. i ≤ r) (eqb (wordEnd s (range i e)) (trimEnd s i e)) e (wordEnd s (range i e)) (λ _. h) (λ _. first-from (atWhitespace s) i e)
 
   line-behind : Behind i (declarationOf s (range i e))
-  unfolding declarationOf
+  unfolding declarationOf restOf
   line-behind =
       by-test (Behind i) (isInclusive s (firstWord s (range i e))) _ _ (λ _. states-behind 0 (restOf s (range i e) .from) rest-behind)
       (λ _. by-test (Behind i) (isExclusive s (firstWord s (range i e))) _ _ (λ _. states-behind 1 (restOf s (range i e) .from) rest-behind)
