@@ -12,7 +12,7 @@ use borrow.Author.Tests.{eq-eqb, ne-eqb, eqb-true, eqb-false}
 use lib.Dec.{eqb}
 use lib.ListN.{length, drop, length-take, length-drop}
 use lib.Seq.{getD-take, getD-drop}
-use Rattle.text.specs.Walk.{repeat, skip, Between}
+use Rattle.text.specs.Walk.{first, repeat, skip, Between}
 use Rattle.text.specs.Class.{isLineEnd}
 use Rattle.text.specs.Whitespace.{byte, lineEndOf, whitespaceLen, lineEndLen, atLineEnd}
 use Rattle.text.specs.Range.{part, sameBytes, lookaheadIs}
@@ -134,6 +134,10 @@ module _ (s : List ℕ) (i : ℕ) (stand : found (lookaheadIs s slashes i) ≡ t
 pub ruleset ending = (needs, slashes-inside, comment-empty, comment-ends)
 
 -- ---- going forward
+
+-- the first position that passes is not before i, and not past e
+pub first-between : (test : ℕ → Bool) (i e : ℕ) → i ≤ e → Between i e (first test i e) (first test i e)
+first-between test i e h = record { is = refl; from = first-from test i e; to = first-to test i e h }
 
 record Forward (next : ℕ → ℕ) (n : ℕ) : Type 0 where
   from : (k : ℕ) → k ≤ next k

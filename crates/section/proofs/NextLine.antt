@@ -40,10 +40,10 @@ use denote.Exit.{yes}
 use Rattle.text.specs.Walk.{Between}
 use Rattle.text.specs.Whitespace.{atLineEnd}
 use Rattle.text.specs.Scan.{lineEnd}
-use Rattle.text.proofs.Walks.{first-from, first-to}
 use Rattle.section.specs.Reader.{readerAt, moved, movedBy, NextLine}
 use Rattle.section.specs.declared.reader.Reader.{Reader}
 use Rattle.section.specs.declared.reader.Line.{Line}
+use Rattle.section.proofs.Lines.{first-between}
 use Rattle.by_hand.proofs.Walking.{parts, tokens, all, have-nothings, allocated, param, arg, release, called}
 use Rattle.by_hand.proofs.Parameters.{Params, number, slice, stays, machine, meets-by}
 use Rattle.section.proofs.Reading.{held, flagged-mover, moves-flagged, Inside}
@@ -86,9 +86,6 @@ finds-fn g = record {
 -- the scanner finds a place from i on, within the text
 abbrev pub Bounded : (List ℕ → ℕ → ℕ → ℕ) → Type 0
 Bounded scan = (s : List ℕ) (flags i : ℕ) → i ≤ length s → Between i (length s) (scan s flags i) (scan s flags i)
-
-line-end-between : (s : List ℕ) (i : ℕ) → i ≤ length s → Between i (length s) (lineEnd s i) (lineEnd s i)
-line-end-between s i h = record { is = refl; from = first-from (atLineEnd s) i (length s); to = first-to (atLineEnd s) i (length s) h }
 
 module _ {M : Type 1} (𝓤 : URA M) (H : Heap 𝓤) (A : Atoms 𝓤) (W : Given 𝓤 H A) (mem : Memory → SProp 𝓤) (run : Routine → Fun 𝓤) (scan : List ℕ → ℕ → ℕ → ℕ) (bounded : Bounded scan) where
   abbrev finds : Clauses 𝓤 finder
@@ -151,7 +148,7 @@ module _ {M : Type 1} (𝓤 : URA M) (H : Heap 𝓤) (A : Atoms 𝓤) (W : Given
     line-found : (r q : Reader) → i ≤ length (now src) → r ≡ movedBy scan flags (readerAt src i) → q ≡ moved lineEnd r → NextLine (now src) (scan (now src) flags) i (between r q)
     line-found r q h e f =
         subst (λ (x : Line). NextLine (now src) (scan (now src) flags) i x) (sym (λ k. between (e k) ((f ∙ ap (moved lineEnd) e) k)))
-        (record { starts = bounded (now src) flags i h; ends = line-end-between (now src) (scan (now src) flags i) (bounded (now src) flags i h .to) })
+        (record { starts = bounded (now src) flags i h; ends = first-between (atLineEnd (now src)) (scan (now src) flags i) (length (now src)) (bounded (now src) flags i h .to) })
 
     module _ (C : Calls 𝓤 H) (Λ : Loops 𝓤 H) (fm : FmC 𝓤 H (W .laws) C) (g : Name)
         (makes : Triple 𝓤 (C #reader-at) Makes) (moves : Triple 𝓤 (C g) Moves) (ends : Triple 𝓤 (C #to-end) Ends) where

@@ -38,9 +38,9 @@ use Rattle.text.specs.Walk.{Between}
 use Rattle.text.specs.Class.{isBlank}
 use Rattle.text.specs.Whitespace.{byte}
 use Rattle.text.specs.Scan.{skipBlanks}
-use Rattle.text.proofs.Walks.{first-from, first-to}
 use Rattle.section.specs.Reader.{readerAt, moved}
 use Rattle.section.specs.declared.reader.Reader.{Reader}
+use Rattle.section.proofs.Lines.{first-between}
 use Rattle.by_hand.proofs.Walking.{parts, tokens, all, have-nothings, allocated, param, arg, release, called}
 use Rattle.by_hand.proofs.Parameters.{Params, number, slice, stays, machine, meets-by}
 use Rattle.section.proofs.Reading.{held, Inside}
@@ -66,9 +66,7 @@ abbrev stayed : Stays (past-blanks.ended .signature .params) (past-blanks.ended 
 stayed = stays (past-blanks.ended .signature .params) (past-blanks.ended .kept) params
 
 blanks-between : (s : List ℕ) (i n : ℕ) → i ≤ length s → n ≡ skipBlanks s i → Between i (length s) (skipBlanks s i) n
-blanks-between s i n h e =
-    subst (Between i (length s) (skipBlanks s i)) (sym e)
-    (record { is = refl; from = first-from (λ k. not (isBlank (byte s k))) i (length s); to = first-to (λ k. not (isBlank (byte s k))) i (length s) h })
+blanks-between s i n h e = subst (Between i (length s) (skipBlanks s i)) (sym e) (first-between (λ k. not (isBlank (byte s k))) i (length s) h)
 
 module _ {M : Type 1} (𝓤 : URA M) (H : Heap 𝓤) (A : Atoms 𝓤) (W : Given 𝓤 H A) (mem : Memory → SProp 𝓤) (run : Routine → Fun 𝓤) where
   -- the contracts that the walk cites
