@@ -119,8 +119,8 @@ pub text-most : (s : List ℕ) → length (sheetText s) ≤ sheetRoom
 unfolding sheetText lent
 text-most s = outcome-most s (outcome s 0 [] lent) refl (outcome-bounded s 0 [] lent)
 
--- so a buffer that had that room, and kept its length, has the whole text
-pub all-written : (s : List ℕ) (m : ℕ) {l : List ℕ} {n : ℕ} → sheetRoom ≤ m → length l ≡ m → Written (sheetText s) l n → AllWritten (sheetText s) l n
-all-written s m {l} {n} h e w =
+-- so a buffer with that room has the whole text
+pub all-written : (s : List ℕ) {l : List ℕ} {n : ℕ} → sheetRoom ≤ length l → Written (sheetText s) l n → AllWritten (sheetText s) l n
+all-written s {l} {n} h w =
     let z : n ≡ length (sheetText s) = omega (arith, w .count, text-most s) in
     record { count = z; is = w .is ∙ ap (λ (k : ℕ). take k (sheetText s)) z ∙ take-length (sheetText s) }

@@ -1,6 +1,7 @@
 -- `sheet_print::sheet` meets its contract: the call leaves what the outcome of the file has, the lines are those of what it left, and there is room
 -- for all of them.
 use Prim.Native.Nat.{ℕ}
+use native.Mathlib.Omega.{arith}
 use lib.ListN.{length-replicate}
 use borrow.Author.Needs.{needs}
 use Rattle.sheet_print.proofs.Answering.{sheet-written}
@@ -10,9 +11,8 @@ use Rattle.sheet_print.proofs.sheet.Tie as tie
 
 returns : tie.Need-returns
 returns c =
-    all-written _ _
-    (c .before .before .before .before .before .before .before .before .before .before .before .before .before .before .before .before .before .before .before .before .before .before .before .before .pre)
-    (c .before .out .given)
+    all-written _
+    (omega (arith, c .before .before .before .before .before .before .before .before .before .before .before .before .before .before .before .before .before .before .before .before .before .before .before .before .pre, c .before .out .given))
     (sheet-written (c .before .before .before .before .before .before .before .before .before .before .before .before .before .before .before .before .before .before .before .before .before .before .before .before .args .src .now) (c .before .before .before .before .before .before .before .before .before .before .before .before .before .parse .result) _ _ _ _ _ _ _ _ _ _ _ _ _
     (c .before .before .before .before .before .before .before .before .before .before .before .before .before .parse .ensures)
     (length-replicate {A = ℕ} 384 0)
