@@ -8,7 +8,7 @@ use borrow.Author.Needs.{needs}
 use lib.Dec.{leb}
 use lib.ListN.{getD}
 use Rattle.text.specs.Class.{Classes, has, isLineEnd, isBlank, isWhitespaceByte, isAlwaysKept}
-use Rattle.text.specs.Shortcuts.{RulesOut, Tells, mayEndLine, mayBeWhitespace}
+use Rattle.text.specs.Shortcuts.{RulesOut, Tells, mayBeWhitespace}
 use Rattle.text.proofs.Tests.{or-cases, or-none, not-true}
 use Rattle.text.proofs.Table.{allBelow, table, table-rule, at-each-entry}
 
@@ -48,8 +48,8 @@ module _ (bits : ℕ → ℕ → Bool) (p : ℕ → Bool) (says : (b x : ℕ) �
       passes true r e t = e
       passes false r e t = absurd (false≢true t)
 
-pub rules-out-line-ends : (quick : ℕ → Bool) → Covers quick (λ b x. has x 1 || leb 0x80 b) → (b : ℕ) → b < 256 → RulesOut (mayEndLine b) (quick b)
-rules-out-line-ends = rules-out _ mayEndLine (λ b x k. ap (λ (t : Bool). t || leb 0x80 b) (k .lineEnd))
+pub rules-out-line-ends : (quick : ℕ → Bool) → Covers quick (λ b x. has x 1) → (b : ℕ) → b < 256 → RulesOut (isLineEnd b) (quick b)
+rules-out-line-ends = rules-out _ isLineEnd (λ b x k. k .lineEnd)
 
 pub rules-out-whitespace :
     (quick : ℕ → Bool) → Covers quick (λ b x. (has x 1 || (has x 2 || has x 4)) || leb 0x80 b) → (b : ℕ) → b < 256 → RulesOut (mayBeWhitespace b) (quick b)
@@ -77,6 +77,10 @@ module _ (p r : Bool) where
 pub ruled-out-below : (p q r : Bool) → RulesOut (p || q) r → not r ≡ true → false ≡ p
 ruled-out-below p q r f e = sym (or-none p q (f .none (not-true r e)) .0)
 
+-- a test that is added to both
+pub rules-out-or : (p q r : Bool) → RulesOut p r → RulesOut (p || q) (r || q)
+rules-out-or p q r f = record { none = λ e. rw (f .none (or-none r q e .0), or-none r q e .1) refl }
+
 module _ (b : ℕ) where
   pub blank-or-line-end-white : (r q : Bool) → Tells (isBlank b) r → Tells (isLineEnd b) q → r || q ≡ true → true ≡ isWhitespaceByte b
   unfolding isWhitespaceByte
@@ -86,4 +90,4 @@ module _ (b : ℕ) where
       blank true y z t = refl
       blank false y z t = rw t refl
 
-pub ruleset settling = (needs, ruled-out, ruled-out-below, told, blank-or-line-end-white, by-three-classes)
+pub ruleset settling = (needs, ruled-out, ruled-out-below, rules-out-or, told, blank-or-line-end-white, by-three-classes)

@@ -291,11 +291,17 @@ fn is_common_blank(b: u8) -> bool
     b == 0x20
 }
 
+fn may_be_line_end(b: u8) -> bool
+    ensures { λ r. ⌜ RulesOut (isLineEnd b) r ⌝ }
+{
+    b < 0x0e
+}
+
 // Whether a line end may start with the byte.
 pub fn may_end_line(b: u8) -> bool
     ensures { λ r. ⌜ RulesOut (mayEndLine b) r ⌝ }
 {
-    (b < 0x0e) | (0x80 <= b)
+    may_be_line_end(b) | (0x80 <= b)
 }
 
 // Whether a whitespace character may have the byte.
@@ -319,7 +325,7 @@ pub fn is_line_end(b: u8) -> bool
     if is_common_line_end(b) {
         return true;
     }
-    if !may_end_line(b) {
+    if !may_be_line_end(b) {
         return false;
     }
     class(b) & 1 != 0
