@@ -1,6 +1,6 @@
 -- Pieces that adjoin cover each byte between their two ends once, and no other.
 use mathlib.Core.Path.{_≡_, refl, sym, ap, ap₂, _∙_}
-use mathlib.Core.Bool.{cond, _&&_}
+use mathlib.Core.Bool.{cond}
 use mathlib.Core.List.{List, [], _∷_}
 use mathlib.Core.Logic.{⊎-elim}
 use Prim.Native.Nat.{ℕ, _+_, _-_, _≤_}
@@ -8,16 +8,7 @@ use native.Mathlib.Omega.{arith}
 use borrow.Author.Tests.{le-leb, lt-leb, lt-ltb, le-ltb}
 use lib.Dec.{leb, ltb}
 use Rattle.text.proofs.Tests.{le-or-lt, and-false}
-use Rattle.machine.specs.Demand.{Piece, Adjoin}
-
--- 1 if x is one of so many bytes from start on, else 0
-unfoldable pub among : ℕ → ℕ → ℕ → ℕ
-among x start bytes = cond (leb start x && ltb x (start + bytes)) 1 0
-
--- how many of the pieces have the byte x
-unfoldable pub covered : ℕ → List Piece → ℕ
-covered x [] = 0
-covered x (y ∷ ys) = among x (y .start) (y .bytes) + covered x ys
+use Rattle.machine.specs.Demand.{Piece, Adjoin, among, covered}
 
 among-none : (x p : ℕ) → among x p 0 ≡ 0
 unfolding among

@@ -1,16 +1,21 @@
 -- The hypotheses of demand 3 can be met, and its machine does something: a small file with pushes, pops below the bottom, a replace, skips, and
 -- a refused row in the middle, computed. A definition that is added to the parse, the link or the run is to be listed here.
 use mathlib.Core.Path.{_≡_, refl, ap, _∙_}
+use mathlib.Core.Bool.{true}
 use mathlib.Core.List.{List, [], _∷_}
 use mathlib.Core.Option.{some}
-use Prim.Native.Nat.{ℕ, zero, suc}
-use lib.ListN.{getElem?, replicate}
+use Prim.Native.Nat.{ℕ, zero, suc, _<_}
+use native.Mathlib.Omega.{arith}
+use borrow.Author.Tests.{ltb-true}
+use lib.ListN.{getD, getElem?, replicate}
+use Rattle.text.proofs.Tests.{and-left, and-right}
 use Rattle.text.specs.Class.{isLineEnd, isBlank, isOtherWhitespace, isLetter, isDigit, isHexDigit, isMetaCharacter, isEscapeLetter, isWhitespaceByte, isAsciiWhitespace, isAlwaysKept}
 use Rattle.text.specs.Range.{part, sameBytes, sameRange, lookaheadIs}
 use Rattle.text.specs.Scan.{trimStart, trimEnd, backslashesBehind, backslashesBefore, keepEscaped, trimEndUnescaped}
 use Rattle.text.specs.Utf8.{charOf, charLen, utf8}
 use Rattle.text.specs.Walk.{firstOf, first, lastOf, last, repeat, skip}
 use Rattle.text.specs.Whitespace.{whitespaceOf, lineEndOf, whitespaceLen, lineEndLen}
+use Rattle.area.specs.Words.{AllBytes}
 use Rattle.area.specs.Areas.{room, insertAt}
 use Rattle.area.specs.Bytes.{two, bytes, pad, fieldAt, fieldFrom}
 use Rattle.area.specs.Contents.{append, contents, listOf}
@@ -24,22 +29,25 @@ use Rattle.escape.specs.Escape.{posixEscapes, isCodeLetter, isCode, isKeptBy, i
 use Rattle.declarations.specs.Declarations.{declareState, stateNames, isQuoted, expectedNames, isAlphanumeric, declares, declarationOf, declareAs, declaration, nextDeclaration, endDeclarations, declarations, trimmed, wordEnd, firstWord, restOf, isInclusive, isExclusive, isExpecting, statesOf, behindName, addState, repeatState, stateNamed, declareExpected}
 use Rattle.rules.specs.Heading.{operationOf, targetOf, isNoName, isName, labelBy, labelOf, headingOf, bodyOf, hasTarget, targetEnd, targetOperation, targetName, targetId, equalQuotes, ruleNamed, headingBehind, hasList, listEnd}
 use Rattle.rules.specs.Rules.{nextEntry, entries, refuses, recordRule, listedRule, rewrittenRule, pattern, ruleAs, rule, line, nextRule, rules, routines, rulesSection, entryEnd, entryId, withRule}
-use Rattle.parse.specs.Parse.{Caps, caps, closed, judge, rulesFrom, opening, file, outcome, leaves, parseCall}
+use Rattle.parse.specs.Parse.{Caps, caps, closed, judge, rulesFrom, opening, file, outcome, leaves, parseCall, parseFields}
 use Rattle.sheet_check.specs.SheetCheck.{decoded, all, goodState, goodRule, goodExpected, goodContents, longEnough, sheetCheck}
+use Rattle.accepted.specs.Accepted.{isByte}
 use Rattle.accepted.specs.Meaning.{meaning}
 use Rattle.link.specs.Map.{mapEntryFields, mapEntryOf, mapEntryAt, entryOf, entriesOf, findEntry, idAt, idOf, allBelow, distinct, nameInside, mapCheck}
 use Rattle.link.specs.Link as LK
-use Rattle.link.specs.Link.{isNone, isUnmapped, hasThatName, isUnused, numbers, unmapped, unused, relaid, linkAll, linkChecked, linkCall}
+use Rattle.link.specs.Link.{isNone, isUnmapped, hasThatName, isUnused, numbers, unmapped, unused, relaid, linkAll, linkChecked, linkCall, linkFields}
 use Rattle.run.specs.declared.Run.{Run}
 use Rattle.run.specs.declared.Step.{Step}
 use Rattle.run.specs.declared.Step.the-variants.{RowMismatch, Done, Stopped, Skip, Token}
-use Rattle.run.specs.Run.{goodStart, startCall}
+use Rattle.run.specs.Run.{goodStart, startCall, startFields}
 use Rattle.machine.specs.File.{FileRule, operationBy, nameFrom, mapOf, fileOf}
 use Rattle.machine.specs.Machine.{Given, Input, Machine, fresh, lengths, noneAbove, fits, has, isEmpty, isLive, before, winnerOf, idIn, operate, move, token, wins, chooses, step}
 use Rattle.machine.specs.Means.{EntryOf}
 use Rattle.machine.specs.Demand.{Demand, Session, startLeftOf, sessionFile, sessionMap, given, MapHolds, Accepts, sessionCalls, DEMAND}
 use Rattle.machine.proofs.Options.{some-is, none-some}
+use Rattle.machine.specs.Words.{AcceptsInWords, InWords, IN-WORDS}
 use Rattle.machine.proofs.Theorem.{demand}
+use Rattle.machine.proofs.Worded.{in-words}
 
 -- `%x S⏎%%⏎a 'A'⏎b <+S>;⏎<S>c <-S>'C'⏎<S>d <S>;⏎e <-S>'E'⏎`
 abbrev pub lexFile : List ℕ
@@ -93,9 +101,10 @@ unfoldable pub answers : Given → Machine → List Input → List Step
 answers g m [] = []
 answers g m (i ∷ is) = step g m i .answer ∷ answers g (step g m i .machine) is
 
-holds-names : (r : Run) → MapHolds (sessionFile (session r)) (sessionMap (session r))
+-- the map holds the name of each named rule
+pub met-names : (r : Run) → MapHolds (sessionFile (session r)) (sessionMap (session r))
 unfolding isLineEnd isBlank isOtherWhitespace isLetter isDigit isHexDigit isMetaCharacter isEscapeLetter isWhitespaceByte isAsciiWhitespace isAlwaysKept part sameBytes sameRange lookaheadIs trimStart trimEnd backslashesBehind backslashesBefore keepEscaped trimEndUnescaped charOf charLen utf8 firstOf first lastOf last repeat skip whitespaceOf lineEndOf whitespaceLen lineEndLen room insertAt append stateOf ruleOf expectedOf faultOf nextNumber addFault startsFault isFault findFault faultEnd addSpan addPair repeatAt addRepeat loop comments isComment pastComment pastLine toDeclaration pastRuleLine toRule inSection hasRoutines allBytes isNameByte isStateName isState N.findState hasName findRule posixEscapes isCodeLetter isCode isKeptBy isKept isRewritten lastWhole dropLone rewrittenEnd backspace escapeFrom escaped unescaped declareState stateNames isQuoted expectedNames isAlphanumeric declares declarationOf declareAs declaration nextDeclaration endDeclarations declarations operationOf targetOf isNoName isName labelBy labelOf headingOf bodyOf nextEntry entries refuses recordRule listedRule rewrittenRule pattern ruleAs rule line nextRule rules routines rulesSection closed judge rulesFrom opening file outcome two bytes pad fieldAt fieldFrom contents listOf stateFields ruleFields entryFields expectedFields faultFields stateAt ruleAt entryAt expectedAt leaves parseCall decoded all goodState goodRule goodExpected goodContents longEnough sheetCheck mapEntryFields mapEntryOf mapEntryAt entryOf entriesOf findEntry idAt idOf allBelow distinct nameInside mapCheck nameOf isNone isUnmapped hasThatName isUnused numbers unmapped unused relaid LK.fits linkAll linkChecked linkCall goodStart startCall meaning operationBy nameFrom mapOf fileOf lengths noneAbove fits has isEmpty isLive before winnerOf idIn operate move token wins chooses step answers nextEscape escapesFrom escapes anyEscape lastEnd replaced trimmed wordEnd firstWord restOf isInclusive isExclusive isExpecting statesOf behindName addState repeatState stateNamed declareExpected hasTarget targetEnd targetOperation targetName targetId equalQuotes ruleNamed headingBehind hasList listEnd entryEnd entryId withRule
-holds-names r = record { holds = by }
+met-names r = record { holds = by }
   where
     by : (k : ℕ) (x : FileRule) (name : List ℕ) → getElem? (sessionFile (session r) .rules) k ≡ some x → x .name ≡ some name → (id : ℕ) × EntryOf (sessionMap (session r)) name id
     by zero x name e q = (300, (0, _, refl, some-is _ name (ap (λ (y : FileRule). y .name) (some-is _ x e) ∙ q), refl))
@@ -105,10 +114,10 @@ holds-names r = record { holds = by }
     by (suc (suc (suc (suc zero)))) x name e q = (302, (2, _, refl, some-is _ name (ap (λ (y : FileRule). y .name) (some-is _ x e) ∙ q), refl))
     by (suc (suc (suc (suc (suc k))))) x name e q = absurd (none-some x e)
 
--- every hypothesis holds
+-- the three calls are accepted
 pub met : (r : Run) → Accepts (session r)
 unfolding isLineEnd isBlank isOtherWhitespace isLetter isDigit isHexDigit isMetaCharacter isEscapeLetter isWhitespaceByte isAsciiWhitespace isAlwaysKept part sameBytes sameRange lookaheadIs trimStart trimEnd backslashesBehind backslashesBefore keepEscaped trimEndUnescaped charOf charLen utf8 firstOf first lastOf last repeat skip whitespaceOf lineEndOf whitespaceLen lineEndLen room insertAt append stateOf ruleOf expectedOf faultOf nextNumber addFault startsFault isFault findFault faultEnd addSpan addPair repeatAt addRepeat loop comments isComment pastComment pastLine toDeclaration pastRuleLine toRule inSection hasRoutines allBytes isNameByte isStateName isState N.findState hasName findRule posixEscapes isCodeLetter isCode isKeptBy isKept isRewritten lastWhole dropLone rewrittenEnd backspace escapeFrom escaped unescaped declareState stateNames isQuoted expectedNames isAlphanumeric declares declarationOf declareAs declaration nextDeclaration endDeclarations declarations operationOf targetOf isNoName isName labelBy labelOf headingOf bodyOf nextEntry entries refuses recordRule listedRule rewrittenRule pattern ruleAs rule line nextRule rules routines rulesSection closed judge rulesFrom opening file outcome two bytes pad fieldAt fieldFrom contents listOf stateFields ruleFields entryFields expectedFields faultFields stateAt ruleAt entryAt expectedAt leaves parseCall decoded all goodState goodRule goodExpected goodContents longEnough sheetCheck mapEntryFields mapEntryOf mapEntryAt entryOf entriesOf findEntry idAt idOf allBelow distinct nameInside mapCheck nameOf isNone isUnmapped hasThatName isUnused numbers unmapped unused relaid LK.fits linkAll linkChecked linkCall goodStart startCall meaning operationBy nameFrom mapOf fileOf lengths noneAbove fits has isEmpty isLive before winnerOf idIn operate move token wins chooses step answers nextEscape escapesFrom escapes anyEscape lastEnd replaced trimmed wordEnd firstWord restOf isInclusive isExclusive isExpecting statesOf behindName addState repeatState stateNamed declareExpected hasTarget targetEnd targetOperation targetName targetId equalQuotes ruleNamed headingBehind hasList listEnd entryEnd entryId withRule
-met r = record { parsed = refl; unmapped = 0; unused = 0; linked = refl; holds = holds-names r; started = refl }
+met r = record { parsed = refl; unmapped = 0; unused = 0; linked = refl; started = refl }
 
 -- and these are the answers
 pub met-answers : (r : Run) → answers (given (session r)) fresh entry-rows
@@ -120,3 +129,23 @@ met-answers r = refl
 pub met-demand : (r : Run) → Demand (given (session r)) (session r .stack) (startLeftOf (session r)) entry-rows (sessionCalls (session r) entry-rows)
 unfolding DEMAND
 met-demand r = demand (session r) (met r) entry-rows
+
+-- ---- the same in words
+
+all-small : (l : List ℕ) (k : ℕ) → all isByte l ≡ true → getD l k 0 < 256
+unfolding all
+all-small [] k e = omega arith
+all-small (x ∷ l) zero e = ltb-true x 256 (and-left (isByte x) (all isByte l) e)
+all-small (x ∷ l) (suc k) e = all-small l k (and-right (isByte x) (all isByte l) e)
+
+entries-are-bytes : AllBytes entries-of-map
+unfolding all
+entries-are-bytes = record { small = λ k. all-small entries-of-map k refl }
+
+met-words : (r : Run) → AcceptsInWords (session r)
+unfolding isLineEnd isBlank isOtherWhitespace isLetter isDigit isHexDigit isMetaCharacter isEscapeLetter isWhitespaceByte isAsciiWhitespace isAlwaysKept part sameBytes sameRange lookaheadIs trimStart trimEnd backslashesBehind backslashesBefore keepEscaped trimEndUnescaped charOf charLen utf8 firstOf first lastOf last repeat skip whitespaceOf lineEndOf whitespaceLen lineEndLen room insertAt append stateOf ruleOf expectedOf faultOf nextNumber addFault startsFault isFault findFault faultEnd addSpan addPair repeatAt addRepeat loop comments isComment pastComment pastLine toDeclaration pastRuleLine toRule inSection hasRoutines allBytes isNameByte isStateName isState N.findState hasName findRule posixEscapes isCodeLetter isCode isKeptBy isKept isRewritten lastWhole dropLone rewrittenEnd backspace escapeFrom escaped unescaped declareState stateNames isQuoted expectedNames isAlphanumeric declares declarationOf declareAs declaration nextDeclaration endDeclarations declarations operationOf targetOf isNoName isName labelBy labelOf headingOf bodyOf nextEntry entries refuses recordRule listedRule rewrittenRule pattern ruleAs rule line nextRule rules routines rulesSection closed judge rulesFrom opening file outcome two bytes pad fieldAt fieldFrom contents listOf stateFields ruleFields entryFields expectedFields faultFields stateAt ruleAt entryAt expectedAt leaves parseCall decoded all goodState goodRule goodExpected goodContents longEnough sheetCheck mapEntryFields mapEntryOf mapEntryAt entryOf entriesOf findEntry idAt idOf allBelow distinct nameInside mapCheck nameOf isNone isUnmapped hasThatName isUnused numbers unmapped unused relaid LK.fits linkAll linkChecked linkCall goodStart startCall meaning operationBy nameFrom mapOf fileOf lengths noneAbove fits has isEmpty isLive before winnerOf idIn operate move token wins chooses step answers nextEscape escapesFrom escapes anyEscape lastEnd replaced trimmed wordEnd firstWord restOf isInclusive isExclusive isExpecting statesOf behindName addState repeatState stateNamed declareExpected hasTarget targetEnd targetOperation targetName targetId equalQuotes ruleNamed headingBehind hasList listEnd entryEnd entryId withRule parseFields linkFields startFields
+met-words r = record { parsed = refl; linked = refl; started = refl }
+
+pub met-in-words : (r : Run) → InWords (session r) entry-rows
+unfolding IN-WORDS
+met-in-words r = in-words (session r) entries-are-bytes (met-words r) entry-rows

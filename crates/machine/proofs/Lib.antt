@@ -13,7 +13,7 @@ pub mod Winners
 pub mod Stepping
 pub mod Relinking
 pub mod Whole
-pub mod Theorem
 pub mod Covering
+pub mod Theorem
 pub mod Worded
 pub mod Example

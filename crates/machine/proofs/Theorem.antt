@@ -26,7 +26,7 @@ use Rattle.run.specs.declared.Begun.the-variants.{Started, StartRefused}
 use Rattle.run.specs.Run.{mostBytes, stackBytes, goodStart, startCall, StartLeft, startLeft, firstRun, putState, startFields, startWord, stepCall, stepRun}
 use Rattle.machine.specs.File.{keep, replace, push, pop, operationBy, FileRule, File, fileState, fileRule, fileIn, fileBy, mapOf, fileOf}
 use Rattle.machine.specs.Machine.{Given, fresh}
-use Rattle.machine.specs.Demand.{lastHeld, PlaceHolds, Demand, sheetParsed, linkLeftOf, linkedSheet, startLeftOf, sessionFile, sessionMap, MapHolds, calls, sessionCalls, DEMAND}
+use Rattle.machine.specs.Demand.{lastHeld, PlaceHolds, Demand, sheetParsed, linkLeftOf, linkedSheet, startLeftOf, sessionFile, sessionMap, calls, sessionCalls, DEMAND}
 use Rattle.machine.proofs.Laid.{runAs, stackAs}
 use Rattle.machine.proofs.Stacks.{laid-bottom, laid-begins, laid-length}
 use Rattle.machine.proofs.Relinking.{linked-decodes, linked-checks, linked-differ, linked-whole}
@@ -35,6 +35,7 @@ use Rattle.machine.proofs.Keeping.{Runs, Aims}
 use Rattle.machine.proofs.OneStep.{Usable}
 use Rattle.machine.proofs.Places.{place-next, place-first}
 use Rattle.machine.proofs.Reading.{Sound, map-is}
+use Rattle.machine.proofs.Covering.{covered-once}
 use Rattle.machine.proofs.Whole.{Sheet, as-machine, sheet-calls, whole}
 
 -- ---- the start
@@ -151,7 +152,6 @@ demand q ok is =
     let usable : Usable g = record {
       some-state = some;
       targets = file-targets s c (λ j l. h .rules .each .at j l .target);
-      names = subst (λ (f : File). MapHolds f es) same (subst⁻¹ (λ (z : List Entry). MapHolds (sessionFile q) z) maps (ok .holds));
       differ = linked-differ sheet (q .names) (q .entries) (q .area7) (q .area8) (ok .unmapped) (ok .unused) (ok .linked);
     } in
     let first : List ℕ = stackAs (q .stack) fresh in
@@ -170,5 +170,6 @@ demand q ok is =
       first = as-machine g fresh [] (q .stack) first runs held long;
       each = w .each;
       cover = w .cover;
+      once = covered-once _ _ (w .cover);
       few = omega (arith, w .few, w .inside);
     })))

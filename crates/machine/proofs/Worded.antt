@@ -58,7 +58,7 @@ start-zero StartRefused e = absurd (omega (arith, e))
 accepts : (q : Session) → AcceptsInWords q → Accepts q
 accepts q h =
     let l = link-zero (linkLeftOf q .answer) (h .linked) in
-    record { parsed = parse-zero _ (h .parsed); unmapped = l .0; unused = l .1; linked = l .2; holds = h .holds; started = start-zero _ (h .started) }
+    record { parsed = parse-zero _ (h .parsed); unmapped = l .0; unused = l .1; linked = l .2; started = start-zero _ (h .started) }
 
 -- ---- ids of a map of bytes
 
@@ -103,7 +103,7 @@ module _ (g : Given) (s : List ℕ) (b : SheetBytes) (small : g .n < 65536) (ids
       let c = f .0 in
       let fits : TwoBytes (stepFields (step g m i .answer)) = means-small g m (i .row) (step g m i .answer) (step g m i .machine) small ids (c .means) in
       let same : stepWord (o .answer) ≡ stepWord (step g m i .answer) = ap stepWord (c .answer) in (
-        record { word = same; only = λ a h e. step-tells .same a (step g m i .answer) h fits (sym e ∙ same); leaves = c .leaves },
+        record { word = same; fits = fits; only = λ a h e. step-tells .same a (step g m i .answer) h fits (sym e ∙ same); leaves = c .leaves },
         in-words-follows is (o .run) (o .stack) (step g m i .machine) (m .stack ∷ held) (f .1),
       )
 

@@ -1,9 +1,11 @@
--- Demand 3: one statement about a whole list of step calls, from an accepted parse, a link whose map holds all rule names, and an accepted
--- start (01, The run machine).
+-- Demand 3: one statement about a whole list of step calls, from an accepted parse, an accepted link and an accepted start. Where the link's map
+-- holds all rule names no answer is 'unlinked'; all else holds of any map (01, The run machine).
 use Prim.Native.Nat.{ℕ, _+_, _*_, _-_, _/_, _%_, _≤_, _<_}
 use mathlib.Core.Path.{_≡_}
+use mathlib.Core.Bool.{cond, _&&_}
 use mathlib.Core.List.{List, [], _∷_, _++_}
 use mathlib.Core.Option.{Option, none, some}
+use lib.Dec.{leb, ltb}
 use lib.ListN.{length, getD, getElem?}
 use Rattle.parse.specs.declared.Answer.the-variants.{Accepted}
 use Rattle.parse.specs.Parse.{Caps, parseCall}
@@ -46,11 +48,15 @@ pub record AsMachine (g : Given) (m : Machine) (held : List (List ℕ)) (s : Lis
 
 -- ---- each call
 
--- the answer is none of these three
-pub record Allowed (a : Step) : Type 0 where
-  pub not-unlinked : a ≡ Unlinked → ⊥
+-- the map has an entry for the name of each named rule
+pub record MapHolds (f : File) (es : List Entry) : Type 0 where
+  pub holds : (k : ℕ) (x : FileRule) (name : List ℕ) → getElem? (f .rules) k ≡ some x → x .name ≡ some name → (id : ℕ) × EntryOf es name id
+
+-- the answer is neither 6 nor 9, nor 'unlinked' where the map holds all rule names
+pub record Allowed (g : Given) (a : Step) : Type 0 where
   pub not-6 : a ≡ BrokenSheet → ⊥
   pub not-9 : a ≡ BrokenRun → ⊥
+  pub not-unlinked : MapHolds (g .file) (g .map) → a ≡ Unlinked → ⊥
 
 -- a call that left o: its answer is the machine's; this and what the machine holds then mean what they should, and nothing else would; and the run
 -- and the stack's bytes are as the machine has them
@@ -58,7 +64,7 @@ pub record Call (g : Given) (s : List ℕ) (m : Machine) (held : List (List ℕ)
   pub answer : o .answer ≡ step g m i .answer
   pub means : Means g m (i .row) (step g m i .answer) (step g m i .machine)
   pub only : (a : Step) (next : Machine) → Means g m (i .row) a next → answered a next ≡ step g m i
-  pub allowed : Allowed (o .answer)
+  pub allowed : Allowed g (o .answer)
   pub leaves : AsMachine g (step g m i .machine) (m .stack ∷ held) s (o .run) (o .stack)
 
 -- each of the calls, the machine going along
@@ -104,6 +110,15 @@ unfoldable pub lastPosition : ℕ → List StepLeft → ℕ
 lastPosition p [] = p
 lastPosition p (o ∷ os) = lastPosition (o .run .position) os
 
+-- 1 if x is one of so many bytes from start on, else 0
+unfoldable pub among : ℕ → ℕ → ℕ → ℕ
+among x start bytes = cond (leb start x && ltb x (start + bytes)) 1 0
+
+-- how many of the pieces have the byte x
+unfoldable pub covered : ℕ → List Piece → ℕ
+covered x [] = 0
+covered x (y ∷ ys) = among x (y .start) (y .bytes) + covered x ys
+
 -- ---- the demand
 
 -- of step calls with these inputs that left os, after a start call that left f, over a stack whose bytes were s before it
@@ -115,6 +130,8 @@ pub record Demand (g : Given) (s : List ℕ) (f : StartLeft) (is : List Input) (
   pub each : Follows g s fresh [] is os
   -- the tokens and skips cover the bytes up to the position, one behind the other
   pub cover : Adjoin 0 (pieces 0 os) (lastPosition 0 os)
+  -- so each of these bytes is covered once, and no other
+  pub once : (x : ℕ) → covered x (pieces 0 os) ≡ cond (ltb x (lastPosition 0 os)) 1 0
   -- at most n calls move
   pub few : length (pieces 0 os) ≤ g .n
 
@@ -157,21 +174,16 @@ sessionFile q = fileOf (q .source) (q .flags) (q .verdicts)
 abbrev pub sessionMap : Session → List Entry
 sessionMap q = mapOf (q .names) (q .entries)
 
--- what the machine is given: the file, flags, verdicts, map and n
+-- what the machine is given: the file, flags and verdicts by what they mean, the map and n; and the limit of n, which 01 sets at 4,096
 abbrev pub given : Session → Given
 given q = record { file = sessionFile q; map = sessionMap q; limit = mostBytes; n = q .n }
 
--- the map has an entry for the name of each named rule
-pub record MapHolds (f : File) (es : List Entry) : Type 0 where
-  pub holds : (k : ℕ) (x : FileRule) (name : List ℕ) → getElem? (f .rules) k ≡ some x → x .name ≡ some name → (id : ℕ) × EntryOf es name id
-
--- the file is accepted, the link is accepted and its map holds all rule names, and the start is accepted
+-- the file, the link and the start are accepted
 pub record Accepts (q : Session) : Type 0 where
   pub parsed : parseCall (q .source) (q .flags) (q .verdicts) (q .capacities) .answer ≡ Accepted
   pub unmapped : ℕ
   pub unused : ℕ
   pub linked : linkLeftOf q .answer ≡ Linked unmapped unused
-  pub holds : MapHolds (sessionFile q) (sessionMap q)
   pub started : startLeftOf q .answer ≡ Started
 
 -- a list of step calls on a sheet, each with the run and the stack as the one before it left them
@@ -183,5 +195,6 @@ calls b r s (i ∷ is) = let o : StepLeft = stepCall b r s (i .row) in o ∷ cal
 abbrev pub sessionCalls : Session → List Input → List StepLeft
 sessionCalls q is = calls (linkedSheet (sheetParsed q) (linkLeftOf q)) (startLeftOf q .run) (startLeftOf q .stack) is
 
+-- the demand, of every session whose calls are accepted and of every list of rows
 unfoldable pub DEMAND : Type 0
 DEMAND = (q : Session) → Accepts q → (is : List Input) → Demand (given q) (q .stack) (startLeftOf q) is (sessionCalls q is)

@@ -18,6 +18,7 @@ pub data Operation : Type 0 where
   push : ℕ → Operation
   pop : Operation
 
+-- what the machine asks of a state
 pub record FileState : Type 0 where
   pub exclusive : Bool
 
@@ -34,15 +35,19 @@ pub record File : Type 0 where
 
 -- ---- from the records of a sheet (01, Areas, 1 to 3)
 
+-- exclusive is the mark 1
 abbrev pub fileState : State → FileState
 fileState x = record { exclusive = eqb (x .exclusive) 1 }
 
+-- 1 replace, 2 push, 3 pop, else none
 unfoldable pub operationBy : ℕ → ℕ → Operation
 operationBy number target = cond (eqb number 1) (replace target) (cond (eqb number 2) (push target) (cond (eqb number 3) pop keep))
 
+-- the name of a named rule stands in the source
 unfoldable pub nameFrom : List ℕ → Rule → Option (List ℕ)
 nameFrom s x = cond (eqb (x .named) 1) (some (part s (x .«name_from») (x .«name_from» + x .«name_length»))) none
 
+-- a rule with its own list of states
 abbrev pub fileRule : List ℕ → Contents → Rule → FileRule
 fileRule s c x = record {
   name = nameFrom s x;
@@ -50,6 +55,7 @@ fileRule s c x = record {
   operation = operationBy (x .operation) (x .target);
 }
 
+-- all states and all rules
 abbrev pub fileIn : List ℕ → Contents → File
 fileIn s c = record { states = map fileState (c .states); rules = map (fileRule s c) (c .rules) }
 

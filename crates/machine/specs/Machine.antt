@@ -1,4 +1,4 @@
--- The run machine (01, The run machine). It knows a file's states and rules, a map and n, and reads neither sheet nor run.
+-- The run machine (01, The run machine). It is given a file's states and rules, a map, n and the limit of n, and reads neither sheet nor run.
 use Prim.Native.Nat.{ℕ, _+_, _*_, _-_}
 use mathlib.Core.Bool.{Bool, true, false, cond, not, _&&_, _||_}
 use mathlib.Core.List.{List, [], _∷_, _++_}
@@ -13,7 +13,7 @@ use Rattle.machine.specs.File.{Operation, keep, replace, push, pop, File
 
 -- ---- what it is given, and what it holds
 
--- for a whole run
+-- for a whole run; the limit is the greatest n that a start accepts, and no step reads it
 pub record Given : Type 0 where
   pub file : File
   pub map : List Entry
@@ -30,9 +30,11 @@ pub record Machine : Type 0 where
   pub moves : ℕ
   pub stack : List ℕ
 
+-- at first position and moves are 0, and the stack is state 0 alone
 abbrev pub fresh : Machine
 fresh = record { position = 0; moves = 0; stack = 0 ∷ [] }
 
+-- the last id of the stack
 abbrev pub currentState : List ℕ → ℕ
 currentState st = getD st (length st - 1) 0
 
@@ -44,6 +46,7 @@ lengths [] = []
 lengths (low ∷ []) = []
 lengths (low ∷ high ∷ row) = (low + high * 256) ∷ lengths row
 
+-- no length is above the greatest that there may be
 unfoldable pub noneAbove : ℕ → List ℕ → Bool
 noneAbove most [] = true
 noneAbove most (l ∷ ls) = leb l most && noneAbove most ls
@@ -54,14 +57,17 @@ fits rules left row = eqb (length row) (rules * 2) && noneAbove left (lengths ro
 
 -- ---- the winner
 
+-- one of the ids is this one
 unfoldable pub has : List ℕ → ℕ → Bool
 has [] id = false
 has (x ∷ xs) id = eqb x id || has xs id
 
+-- a rule without a list
 unfoldable pub isEmpty : List ℕ → Bool
 isEmpty [] = true
 isEmpty (x ∷ xs) = false
 
+-- the state of an id is exclusive
 abbrev pub isExclusive : List FileState → ℕ → Bool
 isExclusive states id = getD states id (record { exclusive = false }) .exclusive
 
@@ -74,6 +80,7 @@ pub record Winner : Type 0 where
   pub rule : FileRule
   pub bytes : ℕ
 
+-- a rule that wins by so many bytes
 abbrev pub winner : FileRule → ℕ → Winner
 winner x l = record { rule = x; bytes = l }
 
@@ -102,12 +109,14 @@ abbrev pub orInitial : List ℕ → List ℕ
 orInitial [] = 0 ∷ []
 orInitial (x ∷ xs) = x ∷ xs
 
+-- replace leaves the target alone, push adds it at the end, pop drops the last; an emptied stack becomes state 0 alone
 unfoldable pub operate : Operation → List ℕ → List ℕ
 operate keep st = st
 operate (replace target) st = target ∷ []
 operate (push target) st = st ++ (target ∷ [])
 operate pop st = orInitial (take (length st - 1) st)
 
+-- position grows by the length, moves by 1, and the stack goes by the winner's operation
 unfoldable pub move : Winner → Machine → Machine
 move w m = record { position = m .position + w .bytes; moves = m .moves + 1; stack = operate (w .rule .operation) (m .stack) }
 
@@ -116,21 +125,26 @@ pub record Answered : Type 0 where
   pub answer : Step
   pub machine : Machine
 
+-- the record of these
 abbrev pub answered : Step → Machine → Answered
 answered a m = record { answer = a; machine = m }
 
+-- a named winner: a token with the map's id, or 'unlinked', which changes nothing
 unfoldable pub token : Option ℕ → Winner → Machine → Answered
 token none w m = answered Unlinked m
 token (some id) w m = answered (Token id (m .position) (w .bytes)) (move w m)
 
+-- a skip by a winner without a name
 unfoldable pub wins : Given → Option (List ℕ) → Winner → Machine → Answered
 wins g none w m = answered Skip (move w m)
 wins g (some name) w m = token (idIn (g .map) name) w m
 
+-- 'stopped' where no rule is live or the greatest length is 0, which changes nothing
 unfoldable pub chooses : Given → Option Winner → Machine → Answered
 chooses g none m = answered Stopped m
 chooses g (some w) m = cond (eqb (w .bytes) 0) (answered Stopped m) (wins g (w .rule .name) w m)
 
+-- 'done' at n; 10 where the row does not fit; both change nothing; else by the winner
 unfoldable pub step : Given → Machine → Input → Answered
 step g m i =
     let f = g .file in

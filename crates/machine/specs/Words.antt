@@ -4,26 +4,52 @@ use mathlib.Core.Path.{_≡_}
 use mathlib.Core.List.{List, [], _∷_, map}
 use Rattle.area.specs.Words.{TwoBytes, AllBytes}
 use Rattle.parse.specs.Parse.{parseCall}
-use Rattle.sheet_check.specs.SheetCheck.{SheetBytes}
+use Rattle.sheet_check.specs.SheetCheck.{SheetBytes, sheetBytes}
+use Rattle.link.specs.Link.{linkCall}
 use Rattle.run.specs.declared.Run.{Run}
 use Rattle.run.specs.declared.Step.{Step}
-use Rattle.run.specs.Run.{stepCall, stepFields, stepWord}
-use Rattle.troymantle.specs.Words.{inWords}
-use Rattle.troymantle.specs.LinkWords.{inLinkWords}
+use Rattle.run.specs.Run.{startCall, stepCall, stepFields, stepWord}
+use Rattle.troymantle.specs.Words.{LeftInWords, inWords}
+use Rattle.troymantle.specs.LinkWords.{LinkInWords, inLinkWords}
 use Rattle.troymantle.specs.RunWords.{RunInWords, startInWords, stepInWords}
 use Rattle.machine.specs.Machine.{Given, Input, Machine, fresh, step}
-use Rattle.machine.specs.Demand.{AsMachine, Demand, Session, sheetParsed, linkLeftOf, linkedSheet, startLeftOf, sessionFile, sessionMap, given, MapHolds, sessionCalls}
+use Rattle.machine.specs.Demand.{AsMachine, Demand, Session, startLeftOf, given, sessionCalls}
 
--- the file, the link and the start are accepted, by the numbers in the words, and the map holds all rule names
+-- what the exported parse call gives back
+abbrev pub parseGives : Session → LeftInWords
+parseGives q = inWords (parseCall (q .source) (q .flags) (q .verdicts) (q .capacities))
+
+-- the sheet of its arrays
+abbrev pub sheetGiven : Session → SheetBytes
+sheetGiven q =
+    let x : LeftInWords = parseGives q in
+    sheetBytes (q .source) (x .area1) (x .area2) (x .area3) (x .area4) (x .area5) (x .counts)
+
+-- what the exported link call gives back of it
+abbrev pub linkGives : Session → LinkInWords
+linkGives q = inLinkWords (linkCall (sheetGiven q) (q .names) (q .entries) (q .area7) (q .area8))
+
+-- the sheet with its area 2
+abbrev pub linkedGiven : Session → SheetBytes
+linkedGiven q =
+    let b : SheetBytes = sheetGiven q in
+    sheetBytes (b .source) (b .area1) (linkGives q .area2) (b .area3) (b .area4) (b .area5) (b .counts)
+
+-- what the exported start call gives back
+abbrev pub startGives : Session → RunInWords
+startGives q = startInWords (startCall (q .n) (q .run) (q .stack))
+
+-- the file, the link and the start are accepted, by the numbers in the words
 pub record AcceptsInWords (q : Session) : Type 0 where
-  pub parsed : inWords (parseCall (q .source) (q .flags) (q .verdicts) (q .capacities)) .answer ≡ 0
-  pub linked : inLinkWords (linkLeftOf q) .answer % 65536 ≡ 0
-  pub holds : MapHolds (sessionFile q) (sessionMap q)
-  pub started : startInWords (startLeftOf q) .answer ≡ 0
+  pub parsed : parseGives q .answer ≡ 0
+  pub linked : linkGives q .answer % 65536 ≡ 0
+  pub started : startGives q .answer ≡ 0
 
--- a call that gave back o: the word is that of the machine's answer, and of no other; the run and the stack are as the machine has them
+-- a call that gave back o: the word is that of the machine's answer, whose fields have two bytes, and of no other; the run and the stack are as the
+-- machine has them
 pub record CallInWords (g : Given) (s : List ℕ) (m : Machine) (held : List (List ℕ)) (i : Input) (o : RunInWords) : Type 0 where
   pub word : o .answer ≡ stepWord (step g m i .answer)
+  pub fits : TwoBytes (stepFields (step g m i .answer))
   pub only : (a : Step) → TwoBytes (stepFields a) → o .answer ≡ stepWord a → a ≡ step g m i .answer
   pub leaves : AsMachine g (step g m i .machine) (m .stack ∷ held) s (o .run) (o .stack)
 
@@ -41,9 +67,7 @@ callsInWords b r s (i ∷ is) = let o : RunInWords = stepInWords (stepCall b r s
 
 -- on the linked sheet, after the start
 abbrev pub sessionWords : Session → List Input → List RunInWords
-sessionWords q is =
-    let f : RunInWords = startInWords (startLeftOf q) in
-    callsInWords (linkedSheet (sheetParsed q) (linkLeftOf q)) (f .run) (f .stack) is
+sessionWords q is = callsInWords (linkedGiven q) (startGives q .run) (startGives q .stack) is
 
 -- what the exported calls give back: it is of calls that meet the demand, and each word tells the machine's answer
 pub record InWords (q : Session) (is : List Input) : Type 0 where
