@@ -15,5 +15,6 @@ pub mod Relinking
 pub mod Whole
 pub mod Covering
 pub mod Theorem
+pub mod AnswerLimits
 pub mod Worded
 pub mod Example

@@ -1,0 +1,177 @@
+-- On areas and rows of bytes the values of the answers have two bytes, so that their words tell them apart. Of the parse call crate accepted has
+-- it. The laws stand here, and not beside the words, so that a wrong edit of a call is refused by the call's own contract.
+use mathlib.Core.Path.{_≡_, subst⁻¹}
+use mathlib.Core.Bool.{Bool, true, false, cond, _&&_}
+use mathlib.Core.List.{List, [], _∷_}
+use mathlib.Core.Logic.{⊎-elim}
+use Prim.Native.Nat.{ℕ, zero, suc, _+_, _*_, _-_, _%_, _≤_, _<_}
+use native.Mathlib.Omega.{arith}
+use borrow.Author.Tests.{leb-true}
+use lib.Dec.{eqb, leb}
+use lib.ListN.{length, getD, length-append, List·getD-eq-default}
+use Rattle.text.proofs.Tests.{le-or-lt, by-test, and-left, and-right}
+use Rattle.area.specs.declared.State.{State}
+use Rattle.area.specs.declared.Rule.{Rule}
+use Rattle.area.specs.Records.{ruleWidth, entryWidth, ruleOf, ruleAt, entryAt, nthRule}
+use Rattle.area.specs.Contents.{contents, ruleFormat, entryFormat}
+use Rattle.area.specs.Words.{TwoBytes, AllBytes}
+use Rattle.area.proofs.Words.{two-bytes, no-values, field-small}
+use Rattle.sheet_check.specs.declared.Located.{Located}
+use Rattle.sheet_check.specs.declared.Located.the-variants as C
+use Rattle.sheet_check.specs.SheetCheck.{SheetBytes, decoded, all, declared, sheetCheck}
+use Rattle.sheet_check.specs.Pattern.{hasRule, partOf, patternPart, patternFields}
+use Rattle.sheet_check.proofs.Judging.{contents-count}
+use Rattle.sheet_check.proofs.Checked.{contents-read, checked-contents}
+use Rattle.link.specs.Map.{Entry, nth, mapWidth, mostEntries, mapFormat, entryCount, entriesOf, nameInside, distinct, mapCheck}
+use Rattle.link.specs.Link as L
+use Rattle.link.specs.Link.{numbers, isUnmapped, isUnused, unmapped, unused, LinkLeft, linkAll, linkChecked, linkCall, linkFields}
+use Rattle.link.proofs.Maps.{entries-count}
+use Rattle.run.specs.declared.Begun.{Begun}
+use Rattle.run.specs.declared.Begun.the-variants.{Started, StartRefused}
+use Rattle.run.specs.declared.Run.{Run}
+use Rattle.run.specs.Winner.{live, lengthIn, weight, greatest}
+use Rattle.run.specs.Run.{mostBytes, stackBytes, goodNumbers, goodRun, goodRow, current, StepLeft, wonBy, choose, stepRow, stepRun, stepCall, startFields, stepFields}
+use Rattle.run.proofs.Winning.{greatest-low}
+
+-- ---- the pattern call
+
+-- the fields of a rule that an answer gives back
+pub record SmallRule (x : Rule) : Type 0 where
+  pub id : x .id < 65536
+  pub place : x .place < 65536
+  pub from : x .«text_from» < 65536
+  pub len : x .«text_length» < 65536
+
+zero-small : SmallRule (ruleOf (λ _. 0))
+unfolding ruleOf
+zero-small = record { id = omega arith; place = omega arith; from = omega arith; len = omega arith }
+
+read-small : (l : List ℕ) (k : ℕ) → AllBytes l → SmallRule (ruleAt l k)
+unfolding ruleAt ruleOf
+read-small l k h = record { id = field-small l (k * ruleWidth) 1 h; place = field-small l (k * ruleWidth) 7 h; from = field-small l (k * ruleWidth) 8 h; len = field-small l (k * ruleWidth) 9 h }
+
+-- rule k of an area of bytes; past the last all fields are 0
+pub small-rule : (l : List ℕ) (n k : ℕ) → AllBytes l → SmallRule (nthRule (contents ruleFormat l n) k)
+small-rule l n k h = ⊎-elim past before (le-or-lt n k)
+  where
+    past : n ≤ k → SmallRule (nthRule (contents ruleFormat l n) k)
+    past q = subst⁻¹ SmallRule (List·getD-eq-default (contents ruleFormat l n) (ruleOf (λ _. 0)) (omega (arith, contents-count ruleFormat l n))) zero-small
+
+    before : k < n → SmallRule (nthRule (contents ruleFormat l n) k)
+    before q = subst⁻¹ SmallRule (contents-read ruleFormat l n k q) (read-small l k h)
+
+pub pattern-small : (b : SheetBytes) (k : ℕ) → AllBytes (b .area2) → TwoBytes (patternFields (patternPart b k))
+unfolding patternPart patternFields decoded
+pattern-small b k h =
+    by-test (λ (x : Located). TwoBytes (patternFields x)) (hasRule b k) (partOf (nthRule (decoded b .rules) k)) C.BrokenSheet
+    (λ _.
+    let r = small-rule (b .area2) (getD (b .counts) 1 0) k h in
+    two-bytes 0 _ _ _ (omega arith) (r .place) (r .from) (r .len))
+    (λ _. no-values 6 (omega arith))
+
+-- ---- the link call
+
+numbers-few : (test : ℕ → Bool) (n : ℕ) → length (numbers test n) ≤ n
+unfolding numbers
+numbers-few test zero = omega arith
+numbers-few test (suc n) = omega (arith, length-append (numbers test n) (cond (test n) (n ∷ []) []), one (test n), numbers-few test n)
+  where
+    one : (t : Bool) → length (cond t (n ∷ []) []) ≤ 1
+    one true = omega arith
+    one false = omega arith
+
+abbrev LinkSmall : LinkLeft → Type 0
+LinkSmall x = TwoBytes (linkFields (x .answer))
+
+module _ (s : List ℕ) (xs : List Rule) (es : List Entry) (x2 x7 x8 : List ℕ) (few-rules : length xs ≤ 2048) (few-entries : length es ≤ 2048) where
+  few-unmapped : length (unmapped s es xs) ≤ length xs
+  unfolding unmapped
+  few-unmapped = numbers-few (λ k. isUnmapped s es (nthRule xs k)) (length xs)
+
+  few-unused : length (unused s es xs) ≤ length es
+  unfolding unused
+  few-unused = numbers-few (λ j. isUnused s xs (nth es j .name)) (length es)
+
+  checked-small : LinkSmall (linkChecked s xs es x2 x7 x8)
+  unfolding linkChecked linkAll linkFields
+  checked-small =
+      by-test LinkSmall (L.fits (unmapped s es xs) x7) _ _
+      (λ _. by-test LinkSmall (L.fits (unused s es xs) x8) _ _
+      (λ _. two-bytes 0 _ _ 0 (omega arith) (omega (arith, few-unmapped, few-rules)) (omega (arith, few-unused, few-entries)) (omega arith))
+      (λ _. two-bytes 4 8 0 0 (omega arith) (omega arith) (omega arith) (omega arith)))
+      (λ _. two-bytes 4 7 0 0 (omega arith) (omega arith) (omega arith) (omega arith))
+
+few-mapped : (names entries : List ℕ) → mapCheck names entries ≡ true → length (entriesOf names entries) ≤ 2048
+unfolding mapCheck
+few-mapped names entries good =
+    let whole : Bool = eqb (length entries % mapWidth) 0 in
+    let few : Bool = leb (entryCount entries) mostEntries in
+    let inside : Bool = all (nameInside (length names)) (contents mapFormat entries (entryCount entries)) in
+    let front = and-left (whole && few) inside (and-left (whole && few && inside) (distinct (entriesOf names entries)) good) in
+    omega (arith, entries-count names entries, leb-true (entryCount entries) mostEntries (and-right whole few front))
+
+pub link-small : (b : SheetBytes) (names entries x7 x8 : List ℕ) → TwoBytes (linkFields (linkCall b names entries x7 x8 .answer))
+unfolding linkCall linkFields
+link-small b names entries x7 x8 =
+    by-test LinkSmall (sheetCheck b) _ _
+    (λ passed. by-test LinkSmall (mapCheck names entries) _ _
+    (λ good. checked-small (b .source) (decoded b .rules) (entriesOf names entries) (b .area2) x7 x8 (checked-contents b passed .few-rules) (few-mapped names entries good))
+    (λ _. no-values 7 (omega arith)))
+    (λ _. no-values 6 (omega arith))
+
+-- ---- the start call and the step call
+
+abbrev Small : StepLeft → Type 0
+Small x = TwoBytes (stepFields (x .answer))
+
+position-small : (states : ℕ) (r : Run) (s : List ℕ) → goodRun states r s ≡ true → r .position < 65536
+unfolding goodRun goodNumbers
+position-small states r s good =
+    let a1 : Bool = leb (r .n) mostBytes in
+    let a2 : Bool = leb (r .position) (r .n) in
+    let a3 : Bool = leb 1 (r .depth) in
+    let a4 : Bool = leb (r .depth) (r .position + 1) in
+    let a5 : Bool = leb (r .moves) (r .position) in
+    let a6 : Bool = leb (stackBytes (r .n)) (length s) in
+    let t6 = and-left (a1 && a2 && a3 && a4 && a5 && a6) (all (declared states) (contents entryFormat s (r .depth))) good in
+    let t2 = and-left (a1 && a2) a3 (and-left (a1 && a2 && a3) a4 (and-left (a1 && a2 && a3 && a4) a5 (and-left (a1 && a2 && a3 && a4 && a5) a6 t6))) in
+    omega (arith, leb-true (r .n) mostBytes (and-left a1 a2 t2), leb-true (r .position) (r .n) (and-right a1 a2 t2))
+
+module _ (rules : List Rule) (small : (k : ℕ) → SmallRule (nthRule rules k)) (r : Run) (s row : List ℕ) (row-bytes : AllBytes row) where
+  length-small : (k : ℕ) → lengthIn row k < 65536
+  unfolding entryAt
+  length-small k = field-small row (k * entryWidth) 0 row-bytes
+
+  won-small : (k bytes : ℕ) → bytes < 65536 → r .position < 65536 → Small (wonBy (nthRule rules k) bytes r s)
+  unfolding wonBy stepFields
+  won-small k bytes h p =
+      by-test Small (eqb (nthRule rules k .named) 1) _ _
+      (λ _. by-test Small (eqb (nthRule rules k .«has_id») 1) _ _ (λ _. two-bytes 260 _ _ _ (omega arith) (small k .id) p h) (λ _. no-values 258 (omega arith)))
+      (λ _. no-values 259 (omega arith))
+
+  weight-small : (states : List State) (lists : List ℕ) (state k : ℕ) → weight states rules lists state row k ≤ 65535
+  unfolding weight
+  weight-small states lists state k =
+      by-test (λ (w : ℕ). w ≤ 65535) (live states lists state (nthRule rules k)) (lengthIn row k) 0 (λ _. omega (arith, length-small k)) (λ _. omega arith)
+
+  run-small : (states : List State) (lists : List ℕ) → Small (stepRun states rules lists r s row)
+  unfolding stepRun stepRow choose stepFields
+  run-small states lists =
+      by-test Small (goodRun (length states) r s) _ _
+      (λ good. by-test Small (eqb (r .position) (r .n)) _ _ (λ _. no-values 256 (omega arith))
+      (λ _. by-test Small (goodRow (length rules) (r .n - r .position) row) _ _
+      (λ _. by-test Small (eqb (greatest (weight states rules lists (current r s) row) (length rules)) 0) _ _ (λ _. no-values 257 (omega arith))
+      (λ _. won-small _ _ (omega (arith, greatest-low (weight states rules lists (current r s) row) 65535 (length rules) (λ k _. weight-small states lists (current r s) k))) (position-small (length states) r s good)))
+      (λ _. no-values 10 (omega arith))))
+      (λ _. no-values 9 (omega arith))
+
+pub step-small : (b : SheetBytes) (r : Run) (s row : List ℕ) → AllBytes (b .area2) → AllBytes row → TwoBytes (stepFields (stepCall b r s row .answer))
+unfolding stepCall stepFields decoded
+step-small b r s row rules-bytes row-bytes =
+    by-test Small (sheetCheck b) _ _ (λ _. run-small (decoded b .rules) (λ k. small-rule (b .area2) (getD (b .counts) 1 0) k rules-bytes) r s row row-bytes (decoded b .states) (decoded b .lists))
+    (λ _. no-values 6 (omega arith))
+
+pub start-small : (x : Begun) → TwoBytes (startFields x)
+unfolding startFields
+start-small Started = no-values 0 (omega arith)
+start-small StartRefused = no-values 8 (omega arith)
