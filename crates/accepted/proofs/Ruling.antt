@@ -29,7 +29,8 @@ use Rattle.rules.specs.declared.Head.{Head}
 use Rattle.rules.specs.declared.Heading.{Heading}
 use Rattle.rules.specs.declared.Heading.the-variants.{Faulty, Repeated, Fresh}
 use Rattle.rules.specs.Heading.{headingOf}
-use Rattle.rules.specs.Rules.{Sheet, Caps, sheet, entryEnd, entryId, nextEntry, entries, refuses, Text, StateList, recordRule, sourceText, textSince, noList, listSince, withRule, listedRule, rewrittenRule, pattern, Ruled, sheetOf, withSheet, withFaults, ruleAs, rule, line, nextRule, rules, routines, rulesSection}
+use Rattle.rules.specs.Rules.{Sheet, Caps, sheet, entryEnd, entryId, nextEntry, entries, refuses, Text, StateList, recordRule, sourceText, textSince, noList, listSince}
+use Rattle.rules.specs.Rules.{withRule, listedRule, rewrittenRule, pattern, Ruled, sheetOf, withSheet, withFaults, ruleAs, rule, line, nextRule, rules, routines, rulesSection}
 use Rattle.rules.specs.Rules as R
 use Rattle.rules.proofs.Heads.{fresh-from, fresh-to}
 use Rattle.rules.proofs.Patterns.{pattern-cases}

@@ -26,7 +26,8 @@ use Rattle.section.specs.Section.{comments, isComment, pastComment, pastLine, t
 use Rattle.names.specs.Names as N
 use Rattle.names.specs.Names.{allBytes, isNameByte, isStateName, isState, hasName, findRule, nameOf}
 use Rattle.escape.specs.Escape.{posixEscapes, isCodeLetter, isCode, isKeptBy, isKept, isRewritten, lastWhole, dropLone, rewrittenEnd, backspace, escapeFrom, escaped, unescaped, nextEscape, escapesFrom, escapes, anyEscape, lastEnd, replaced}
-use Rattle.declarations.specs.Declarations.{declareState, stateNames, isQuoted, expectedNames, isAlphanumeric, declares, declarationOf, declareAs, declaration, nextDeclaration, endDeclarations, declarations, trimmed, wordEnd, firstWord, restOf, isInclusive, isExclusive, isExpecting, statesOf, behindName, addState, repeatState, stateNamed, declareExpected}
+use Rattle.declarations.specs.Declarations.{declareState, stateNames, isQuoted, expectedNames, isAlphanumeric, declares, declarationOf, declareAs, declaration, nextDeclaration, endDeclarations, declarations, trimmed}
+use Rattle.declarations.specs.Declarations.{wordEnd, firstWord, restOf, isInclusive, isExclusive, isExpecting, statesOf, behindName, addState, repeatState, stateNamed, declareExpected}
 use Rattle.rules.specs.Heading.{operationOf, targetOf, isNoName, isName, labelBy, labelOf, headingOf, bodyOf, hasTarget, targetEnd, targetOperation, targetName, targetId, equalQuotes, ruleNamed, headingBehind, hasList, listEnd}
 use Rattle.rules.specs.Rules.{nextEntry, entries, refuses, recordRule, listedRule, rewrittenRule, pattern, ruleAs, rule, line, nextRule, rules, routines, rulesSection, entryEnd, entryId, withRule}
 use Rattle.parse.specs.Parse.{Caps, caps, closed, judge, rulesFrom, opening, file, outcome, leaves, parseCall, parseFields}
@@ -101,9 +102,84 @@ unfoldable pub answers : Given → Machine → List Input → List Step
 answers g m [] = []
 answers g m (i ∷ is) = step g m i .answer ∷ answers g (step g m i .machine) is
 
+-- ---- what is unfolded where something is computed, by crate
+
+unfoldable text-computes : Unit {0}
+unfolding isLineEnd isBlank isOtherWhitespace isLetter isDigit isHexDigit isMetaCharacter isEscapeLetter isWhitespaceByte isAsciiWhitespace isAlwaysKept part sameBytes sameRange lookaheadIs trimStart trimEnd backslashesBehind backslashesBefore keepEscaped trimEndUnescaped charOf
+text-computes = tt
+
+unfoldable text-computes-on : Unit {0}
+unfolding charLen utf8 firstOf first lastOf last repeat skip whitespaceOf lineEndOf whitespaceLen lineEndLen
+text-computes-on = tt
+
+unfoldable area-computes : Unit {0}
+unfolding room insertAt append stateOf ruleOf expectedOf faultOf two bytes pad fieldAt fieldFrom contents listOf stateFields ruleFields entryFields expectedFields faultFields stateAt ruleAt entryAt expectedAt
+area-computes = tt
+
+unfoldable fault-computes : Unit {0}
+unfolding nextNumber addFault startsFault isFault findFault faultEnd addSpan addPair repeatAt addRepeat loop
+fault-computes = tt
+
+unfoldable section-computes : Unit {0}
+unfolding comments isComment pastComment pastLine toDeclaration pastRuleLine toRule inSection hasRoutines
+section-computes = tt
+
+unfoldable names-computes : Unit {0}
+unfolding allBytes isNameByte isStateName isState N.findState hasName findRule nameOf
+names-computes = tt
+
+unfoldable escape-computes : Unit {0}
+unfolding posixEscapes isCodeLetter isCode isKeptBy isKept isRewritten lastWhole dropLone rewrittenEnd backspace escapeFrom escaped unescaped nextEscape escapesFrom escapes anyEscape lastEnd replaced
+escape-computes = tt
+
+unfoldable declarations-computes : Unit {0}
+unfolding declareState stateNames isQuoted expectedNames isAlphanumeric declares declarationOf declareAs declaration nextDeclaration endDeclarations declarations trimmed wordEnd firstWord restOf isInclusive isExclusive isExpecting statesOf behindName addState repeatState
+declarations-computes = tt
+
+unfoldable declarations-computes-on : Unit {0}
+unfolding stateNamed declareExpected
+declarations-computes-on = tt
+
+unfoldable rules-computes : Unit {0}
+unfolding operationOf targetOf isNoName isName labelBy labelOf headingOf bodyOf nextEntry entries refuses recordRule listedRule rewrittenRule pattern ruleAs rule line nextRule rules routines rulesSection hasTarget targetEnd targetOperation targetName targetId equalQuotes
+rules-computes = tt
+
+unfoldable rules-computes-on : Unit {0}
+unfolding ruleNamed headingBehind hasList listEnd entryEnd entryId withRule
+rules-computes-on = tt
+
+unfoldable parse-computes : Unit {0}
+unfolding closed judge rulesFrom opening file outcome leaves parseCall
+parse-computes = tt
+
+unfoldable sheet-check-computes : Unit {0}
+unfolding decoded all goodState goodRule goodExpected goodContents longEnough sheetCheck
+sheet-check-computes = tt
+
+unfoldable accepted-computes : Unit {0}
+unfolding meaning
+accepted-computes = tt
+
+unfoldable link-computes : Unit {0}
+unfolding mapEntryFields mapEntryOf mapEntryAt entryOf entriesOf findEntry idAt idOf allBelow distinct nameInside mapCheck isNone isUnmapped hasThatName isUnused numbers unmapped unused relaid LK.fits linkAll linkChecked linkCall
+link-computes = tt
+
+unfoldable run-computes : Unit {0}
+unfolding goodStart startCall
+run-computes = tt
+
+unfoldable machine-computes : Unit {0}
+unfolding operationBy nameFrom mapOf fileOf lengths noneAbove fits has isEmpty isLive before winnerOf idIn operate move token wins chooses step answers
+machine-computes = tt
+
+-- all of it
+unfoldable computing : Unit {0}
+unfolding text-computes text-computes-on area-computes fault-computes section-computes names-computes escape-computes declarations-computes declarations-computes-on rules-computes rules-computes-on parse-computes sheet-check-computes accepted-computes link-computes run-computes machine-computes
+computing = tt
+
 -- the map holds the name of each named rule
 pub met-names : (r : Run) → MapHolds (sessionFile (session r)) (sessionMap (session r))
-unfolding isLineEnd isBlank isOtherWhitespace isLetter isDigit isHexDigit isMetaCharacter isEscapeLetter isWhitespaceByte isAsciiWhitespace isAlwaysKept part sameBytes sameRange lookaheadIs trimStart trimEnd backslashesBehind backslashesBefore keepEscaped trimEndUnescaped charOf charLen utf8 firstOf first lastOf last repeat skip whitespaceOf lineEndOf whitespaceLen lineEndLen room insertAt append stateOf ruleOf expectedOf faultOf nextNumber addFault startsFault isFault findFault faultEnd addSpan addPair repeatAt addRepeat loop comments isComment pastComment pastLine toDeclaration pastRuleLine toRule inSection hasRoutines allBytes isNameByte isStateName isState N.findState hasName findRule posixEscapes isCodeLetter isCode isKeptBy isKept isRewritten lastWhole dropLone rewrittenEnd backspace escapeFrom escaped unescaped declareState stateNames isQuoted expectedNames isAlphanumeric declares declarationOf declareAs declaration nextDeclaration endDeclarations declarations operationOf targetOf isNoName isName labelBy labelOf headingOf bodyOf nextEntry entries refuses recordRule listedRule rewrittenRule pattern ruleAs rule line nextRule rules routines rulesSection closed judge rulesFrom opening file outcome two bytes pad fieldAt fieldFrom contents listOf stateFields ruleFields entryFields expectedFields faultFields stateAt ruleAt entryAt expectedAt leaves parseCall decoded all goodState goodRule goodExpected goodContents longEnough sheetCheck mapEntryFields mapEntryOf mapEntryAt entryOf entriesOf findEntry idAt idOf allBelow distinct nameInside mapCheck nameOf isNone isUnmapped hasThatName isUnused numbers unmapped unused relaid LK.fits linkAll linkChecked linkCall goodStart startCall meaning operationBy nameFrom mapOf fileOf lengths noneAbove fits has isEmpty isLive before winnerOf idIn operate move token wins chooses step answers nextEscape escapesFrom escapes anyEscape lastEnd replaced trimmed wordEnd firstWord restOf isInclusive isExclusive isExpecting statesOf behindName addState repeatState stateNamed declareExpected hasTarget targetEnd targetOperation targetName targetId equalQuotes ruleNamed headingBehind hasList listEnd entryEnd entryId withRule
+unfolding computing
 met-names r = record { holds = by }
   where
     by : (k : ℕ) (x : FileRule) (name : List ℕ) → getElem? (sessionFile (session r) .rules) k ≡ some x → x .name ≡ some name → (id : ℕ) × EntryOf (sessionMap (session r)) name id
@@ -116,13 +192,13 @@ met-names r = record { holds = by }
 
 -- the three calls are accepted
 pub met : (r : Run) → Accepts (session r)
-unfolding isLineEnd isBlank isOtherWhitespace isLetter isDigit isHexDigit isMetaCharacter isEscapeLetter isWhitespaceByte isAsciiWhitespace isAlwaysKept part sameBytes sameRange lookaheadIs trimStart trimEnd backslashesBehind backslashesBefore keepEscaped trimEndUnescaped charOf charLen utf8 firstOf first lastOf last repeat skip whitespaceOf lineEndOf whitespaceLen lineEndLen room insertAt append stateOf ruleOf expectedOf faultOf nextNumber addFault startsFault isFault findFault faultEnd addSpan addPair repeatAt addRepeat loop comments isComment pastComment pastLine toDeclaration pastRuleLine toRule inSection hasRoutines allBytes isNameByte isStateName isState N.findState hasName findRule posixEscapes isCodeLetter isCode isKeptBy isKept isRewritten lastWhole dropLone rewrittenEnd backspace escapeFrom escaped unescaped declareState stateNames isQuoted expectedNames isAlphanumeric declares declarationOf declareAs declaration nextDeclaration endDeclarations declarations operationOf targetOf isNoName isName labelBy labelOf headingOf bodyOf nextEntry entries refuses recordRule listedRule rewrittenRule pattern ruleAs rule line nextRule rules routines rulesSection closed judge rulesFrom opening file outcome two bytes pad fieldAt fieldFrom contents listOf stateFields ruleFields entryFields expectedFields faultFields stateAt ruleAt entryAt expectedAt leaves parseCall decoded all goodState goodRule goodExpected goodContents longEnough sheetCheck mapEntryFields mapEntryOf mapEntryAt entryOf entriesOf findEntry idAt idOf allBelow distinct nameInside mapCheck nameOf isNone isUnmapped hasThatName isUnused numbers unmapped unused relaid LK.fits linkAll linkChecked linkCall goodStart startCall meaning operationBy nameFrom mapOf fileOf lengths noneAbove fits has isEmpty isLive before winnerOf idIn operate move token wins chooses step answers nextEscape escapesFrom escapes anyEscape lastEnd replaced trimmed wordEnd firstWord restOf isInclusive isExclusive isExpecting statesOf behindName addState repeatState stateNamed declareExpected hasTarget targetEnd targetOperation targetName targetId equalQuotes ruleNamed headingBehind hasList listEnd entryEnd entryId withRule
+unfolding computing
 met r = record { parsed = refl; unmapped = 0; unused = 0; linked = refl; started = refl }
 
 -- and these are the answers
 pub met-answers : (r : Run) → answers (given (session r)) fresh entry-rows
     ≡ Token 300 0 2 ∷ Skip ∷ RowMismatch ∷ Skip ∷ Token 301 4 1 ∷ Token 302 5 1 ∷ Token 300 6 1 ∷ Stopped ∷ Token 302 7 1 ∷ Done ∷ []
-unfolding isLineEnd isBlank isOtherWhitespace isLetter isDigit isHexDigit isMetaCharacter isEscapeLetter isWhitespaceByte isAsciiWhitespace isAlwaysKept part sameBytes sameRange lookaheadIs trimStart trimEnd backslashesBehind backslashesBefore keepEscaped trimEndUnescaped charOf charLen utf8 firstOf first lastOf last repeat skip whitespaceOf lineEndOf whitespaceLen lineEndLen room insertAt append stateOf ruleOf expectedOf faultOf nextNumber addFault startsFault isFault findFault faultEnd addSpan addPair repeatAt addRepeat loop comments isComment pastComment pastLine toDeclaration pastRuleLine toRule inSection hasRoutines allBytes isNameByte isStateName isState N.findState hasName findRule posixEscapes isCodeLetter isCode isKeptBy isKept isRewritten lastWhole dropLone rewrittenEnd backspace escapeFrom escaped unescaped declareState stateNames isQuoted expectedNames isAlphanumeric declares declarationOf declareAs declaration nextDeclaration endDeclarations declarations operationOf targetOf isNoName isName labelBy labelOf headingOf bodyOf nextEntry entries refuses recordRule listedRule rewrittenRule pattern ruleAs rule line nextRule rules routines rulesSection closed judge rulesFrom opening file outcome two bytes pad fieldAt fieldFrom contents listOf stateFields ruleFields entryFields expectedFields faultFields stateAt ruleAt entryAt expectedAt leaves parseCall decoded all goodState goodRule goodExpected goodContents longEnough sheetCheck mapEntryFields mapEntryOf mapEntryAt entryOf entriesOf findEntry idAt idOf allBelow distinct nameInside mapCheck nameOf isNone isUnmapped hasThatName isUnused numbers unmapped unused relaid LK.fits linkAll linkChecked linkCall goodStart startCall meaning operationBy nameFrom mapOf fileOf lengths noneAbove fits has isEmpty isLive before winnerOf idIn operate move token wins chooses step answers nextEscape escapesFrom escapes anyEscape lastEnd replaced trimmed wordEnd firstWord restOf isInclusive isExclusive isExpecting statesOf behindName addState repeatState stateNamed declareExpected hasTarget targetEnd targetOperation targetName targetId equalQuotes ruleNamed headingBehind hasList listEnd entryEnd entryId withRule
+unfolding computing
 met-answers r = refl
 
 -- so demand 3 holds of the calls with these rows
@@ -143,7 +219,7 @@ unfolding all
 entries-are-bytes = record { small = λ k. all-small entries-of-map k refl }
 
 met-words : (r : Run) → AcceptsInWords (session r)
-unfolding isLineEnd isBlank isOtherWhitespace isLetter isDigit isHexDigit isMetaCharacter isEscapeLetter isWhitespaceByte isAsciiWhitespace isAlwaysKept part sameBytes sameRange lookaheadIs trimStart trimEnd backslashesBehind backslashesBefore keepEscaped trimEndUnescaped charOf charLen utf8 firstOf first lastOf last repeat skip whitespaceOf lineEndOf whitespaceLen lineEndLen room insertAt append stateOf ruleOf expectedOf faultOf nextNumber addFault startsFault isFault findFault faultEnd addSpan addPair repeatAt addRepeat loop comments isComment pastComment pastLine toDeclaration pastRuleLine toRule inSection hasRoutines allBytes isNameByte isStateName isState N.findState hasName findRule posixEscapes isCodeLetter isCode isKeptBy isKept isRewritten lastWhole dropLone rewrittenEnd backspace escapeFrom escaped unescaped declareState stateNames isQuoted expectedNames isAlphanumeric declares declarationOf declareAs declaration nextDeclaration endDeclarations declarations operationOf targetOf isNoName isName labelBy labelOf headingOf bodyOf nextEntry entries refuses recordRule listedRule rewrittenRule pattern ruleAs rule line nextRule rules routines rulesSection closed judge rulesFrom opening file outcome two bytes pad fieldAt fieldFrom contents listOf stateFields ruleFields entryFields expectedFields faultFields stateAt ruleAt entryAt expectedAt leaves parseCall decoded all goodState goodRule goodExpected goodContents longEnough sheetCheck mapEntryFields mapEntryOf mapEntryAt entryOf entriesOf findEntry idAt idOf allBelow distinct nameInside mapCheck nameOf isNone isUnmapped hasThatName isUnused numbers unmapped unused relaid LK.fits linkAll linkChecked linkCall goodStart startCall meaning operationBy nameFrom mapOf fileOf lengths noneAbove fits has isEmpty isLive before winnerOf idIn operate move token wins chooses step answers nextEscape escapesFrom escapes anyEscape lastEnd replaced trimmed wordEnd firstWord restOf isInclusive isExclusive isExpecting statesOf behindName addState repeatState stateNamed declareExpected hasTarget targetEnd targetOperation targetName targetId equalQuotes ruleNamed headingBehind hasList listEnd entryEnd entryId withRule parseFields linkFields startFields
+unfolding computing parseFields linkFields startFields
 met-words r = record { parsed = refl; linked = refl; started = refl }
 
 pub met-in-words : (r : Run) → InWords (session r) entry-rows
