@@ -8,7 +8,7 @@ use native.Mathlib.Nat.{suc-mul, add-comm, not-suc-le-zero, le-of-suc-le-suc}
 use native.Mathlib.Omega.{arith}
 use lib.ListN.{length, getD, take, drop, length-append, List·getD-append}
 use lib.Seq.{sets, getD-append-add}
-use Rattle.area.specs.Bytes.{two, bytes, fieldAt}
+use Rattle.area.specs.Bytes.{two, bytes, fieldAt, fieldFrom, AllBytes}
 use Rattle.area.specs.declared.Rule.{Rule}
 use Rattle.area.specs.Records.{ruleFields, ruleBytes}
 use Rattle.area.specs.Areas.{insertAt}
@@ -118,3 +118,9 @@ module _ (l : List ℕ) (at : ℕ) where
       let g3 : l3 ≡ sets l at (bytes two (a ++ b ++ c)) = then-fields (at + 16) (a ++ b) c g2 h3 refl in
       let g4 : l4 ≡ sets l at (bytes two (a ++ b ++ c ++ (x .operation ∷ []))) = then-field (at + 24) (a ++ b ++ c) (x .operation) g3 h4 refl in
       then-field (at + 26) (a ++ b ++ c ++ (x .operation ∷ [])) (x .target) g4 h5 refl
+
+-- ---- a field of bytes has two bytes
+
+pub field-small : (l : List ℕ) (at j : ℕ) → AllBytes l → fieldFrom l at j < 65536
+unfolding fieldFrom fieldAt
+field-small l at j h = omega (arith, h .small (at + 2 * j), h .small (at + 2 * j + 1))

@@ -5,4 +5,3 @@ pub mod Lists
 pub mod Records
 pub mod Rooms
 pub mod Contents
-pub mod Words

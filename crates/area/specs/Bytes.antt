@@ -1,7 +1,7 @@
 -- Numbers as bytes: fields of two bytes, records one after the other, and zeros behind them (01, Areas).
 -- Assumes nothing.
 use mathlib.Core.List.{List, [], _∷_, _++_}
-use Prim.Native.Nat.{ℕ, _+_, _*_, _-_, _/_, _%_}
+use Prim.Native.Nat.{ℕ, _+_, _*_, _-_, _/_, _%_, _<_}
 use lib.ListN.{length, getD, replicate}
 
 -- a number as a field: its low byte, then the rest (01, the introduction)
@@ -28,3 +28,7 @@ fieldAt l at = getD l at 0 + getD l (at + 1) 0 * 256
 -- field j of the record that starts at a place (01, Areas)
 unfoldable pub fieldFrom : List ℕ → ℕ → ℕ → ℕ
 fieldFrom l at j = fieldAt l (at + 2 * j)
+
+-- each of the list is a byte
+pub record AllBytes (l : List ℕ) : Type 0 where
+  pub small : (k : ℕ) → getD l k 0 < 256

@@ -1,16 +1,17 @@
 -- What an area holds, read back from its bytes: the list of its first n records (01, Areas).
-use Prim.Native.Nat.{ℕ, zero, suc}
+use Prim.Native.Nat.{ℕ, zero, suc, _*_}
 use mathlib.Core.Path.{_≡_}
 use mathlib.Core.Bool.{cond}
 use mathlib.Core.List.{List, [], _∷_, _++_}
 use mathlib.Core.Option.{Option, none, some}
-use lib.ListN.{length, getD}
+use lib.ListN.{length, getD, drop}
 use Rattle.area.specs.declared.State.{State}
 use Rattle.area.specs.declared.Rule.{Rule}
 use Rattle.area.specs.declared.Expected.{Expected}
 use Rattle.area.specs.declared.Fault.{Fault}
 use Rattle.area.specs.declared.Appended.{Appended}
 use Rattle.area.specs.declared.Appended.the-variants.{Next, Full}
+use Rattle.area.specs.Bytes.{bytes, pad}
 use Rattle.area.specs.Areas.{Area, one, room}
 use Rattle.area.specs.Records.{stateBytes, ruleBytes, entryBytes, expectedBytes, faultBytes, stateAt, ruleAt, entryAt, expectedAt, faultAt, stateOf, ruleOf, expectedOf, faultOf, stateWidth, ruleWidth, entryWidth, expectedWidth, faultWidth, mostStates, mostRules, mostOthers}
 
@@ -50,6 +51,14 @@ faultFormat = record { write = faultBytes; width = faultWidth; most = mostOthers
 -- the first n records of the area l
 unfoldable pub contents : {A : Type 0} → Format A → List ℕ → ℕ → List A
 contents F l n = listOf (F .read l) n
+
+-- the records of a list in an area of cap bytes, and zeros behind them
+abbrev pub laid : {A : Type 0} → Format A → ℕ → List A → List ℕ
+laid F cap xs = pad cap (bytes (F .write) xs)
+
+-- records over the front of an area; the bytes behind them stay
+unfoldable pub relaid : {A : Type 0} → Format A → List ℕ → List A → List ℕ
+relaid F l xs = bytes (F .write) xs ++ drop (length xs * F .width) l
 
 -- the area l has n records, and zeros behind them
 pub record Held {A : Type 0} (F : Format A) (l : List ℕ) (n : ℕ) : Type 0 where

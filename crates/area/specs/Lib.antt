@@ -2,4 +2,4 @@ pub mod Areas
 pub mod Bytes
 pub mod Records
 pub mod Contents
-pub mod Words
+pub mod Lists

@@ -18,17 +18,16 @@ use Rattle.text.proofs.Tests.{le-or-lt}
 use Rattle.area.specs.declared.Rule.{Rule}
 use Rattle.area.specs.Bytes.{bytes, pad, zeros}
 use Rattle.area.specs.Records.{entryWidth, entryBytes, ruleAt, nthRule}
-use Rattle.area.specs.Contents.{contents, ruleFormat, entryFormat}
+use Rattle.area.specs.Contents.{contents, ruleFormat, entryFormat, laid}
 use Rattle.area.proofs.Records.{entry-wide}
 use Rattle.area.proofs.Lists.{sets-pad}
 use Rattle.area.proofs.Fields.{bytes-append, bytes-single, bytes-length}
-use Rattle.parse.specs.Parse.{laid}
-use Rattle.sheet_check.specs.SheetCheck.{all}
+use Rattle.area.specs.Lists.{all, numbers}
 use Rattle.sheet_check.proofs.Judging.{contents-count, all-none, all-next, all-read}
 use Rattle.sheet_check.proofs.Checked.{contents-read, all-at}
 use Rattle.link.specs.Map.{entryCount, Entry, entriesOf, nth, findEntry, idAt, idOf}
 use Rattle.names.specs.Names.{nameOf}
-use Rattle.link.specs.Link.{numbers, isNone, isUnmapped, isUnlinked, hasThatName, isUnused, unmapped, unlinked, unused, fits}
+use Rattle.link.specs.Link.{isNone, isUnmapped, isUnlinked, hasThatName, isUnused, unmapped, unlinked, unused, fits}
 use Rattle.link.proofs.Maps.{entries-count}
 
 -- ---- what is asked of a rule, and of an entry

@@ -13,16 +13,17 @@ use Rattle.text.proofs.Tests.{and-left, and-right}
 use Rattle.area.specs.declared.Rule.{Rule}
 use Rattle.area.specs.Bytes.{bytes}
 use Rattle.area.specs.Records.{ruleWidth, mostStates, mostRules, nthRule}
-use Rattle.area.specs.Contents.{contents, stateFormat, ruleFormat, entryFormat, textFormat, expectedFormat}
+use Rattle.area.specs.Contents.{contents, stateFormat, ruleFormat, entryFormat, textFormat, expectedFormat, relaid}
 use Rattle.area.proofs.Fields.{bytes-length}
 use Rattle.area.proofs.Contents.{rule-sound}
 use Rattle.parse.specs.Parse.{Contents}
-use Rattle.sheet_check.specs.SheetCheck.{SheetBytes, sheetBytes, count, decoded, all, mark, ordered, within, declared, goodRule, goodContents, longEnough, sheetCheck}
+use Rattle.sheet_check.specs.SheetCheck.{SheetBytes, sheetBytes, count, decoded, mark, ordered, within, declared, goodRule, goodContents, longEnough, sheetCheck}
+use Rattle.area.specs.Lists.{all}
 use Rattle.sheet_check.proofs.Checked.{good-rule, good-contents, checked-long, rules-count}
 use Rattle.link.specs.declared.LinkAnswer.the-variants.{Linked, BrokenSheet, BrokenMap, AreaFull}
 use Rattle.link.specs.Map.{Entry, entriesOf, nth, idAt, idOf, distinct, mapCheck}
 use Rattle.names.specs.Names.{nameOf}
-use Rattle.link.specs.Link.{isNamed, withId, withFound, linkRule, linkRules, linkLeft, relaid, fits, unmapped, unused, linkAll, linkChecked, linkCall}
+use Rattle.link.specs.Link.{isNamed, withId, withFound, linkRule, linkRules, linkLeft, fits, unmapped, unused, linkAll, linkChecked, linkCall}
 use Rattle.link.proofs.Maps.{entry-first}
 use Rattle.link.proofs.Outcomes.{link-count, link-at, rules-read-back}
 

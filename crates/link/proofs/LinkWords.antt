@@ -2,8 +2,8 @@
 use mathlib.Core.Path.{_≡_, refl}
 use mathlib.Core.Bool.{cond}
 use lib.Dec.{eqb}
-use Rattle.area.specs.Words.{Fields, TellsApart}
-use Rattle.area.proofs.Words.{tells-by}
+use Rattle.answers.specs.Words.{Fields, TellsApart}
+use Rattle.answers.proofs.Words.{tells-by}
 use Rattle.link.specs.declared.LinkAnswer.{LinkAnswer}
 use Rattle.link.specs.declared.LinkAnswer.the-variants.{Linked, BrokenSheet, BrokenMap, AreaFull}
 use Rattle.link.specs.Link.{linkFields}

@@ -18,7 +18,7 @@ use Rattle.area.specs.declared.Appended.{Appended}
 use Rattle.area.specs.Bytes.{bytes, fieldAt, fieldFrom}
 use Rattle.area.specs.Records.{ruleWidth, mostRules, ruleOf, ruleAt, ruleBytes}
 use Rattle.area.specs.Areas.{Pushed, room}
-use Rattle.area.specs.Contents.{Format, contents, listOf, ruleFormat}
+use Rattle.area.specs.Contents.{Format, contents, listOf, ruleFormat, relaid}
 use Rattle.area.proofs.Rooms.{room-yes}
 use Rattle.area.proofs.Areas.{pushed-length}
 use Rattle.area.proofs.Fields.{bytes-append, bytes-single, bytes-length}
@@ -27,7 +27,7 @@ use Rattle.sheet_check.proofs.Judging.{contents-count}
 use Rattle.link.specs.declared.MapEntry.{MapEntry}
 use Rattle.link.specs.Map.{mapEntryAt, entryCount, Entry, entryOf, entriesOf, nth, findEntry, idAt, idOf}
 use Rattle.names.specs.Names.{nameOf}
-use Rattle.link.specs.Link.{withId, withFound, linkRule, linkRules, relaid}
+use Rattle.link.specs.Link.{withId, withFound, linkRule, linkRules}
 use Rattle.link.proofs.Maps.{entries-count, entries-at}
 
 -- ---- a rule

@@ -20,11 +20,11 @@ use Rattle.text.proofs.Ranges.{same-self}
 use Rattle.text.proofs.Firsts.{first-passes, first-low}
 use Rattle.area.specs.Bytes.{fieldAt, fieldFrom}
 use Rattle.area.specs.Contents.{contents}
-use Rattle.sheet_check.specs.SheetCheck.{all}
+use Rattle.area.specs.Lists.{all, allBelow}
 use Rattle.sheet_check.proofs.Judging.{contents-count, all-none, all-next, all-read}
 use Rattle.sheet_check.proofs.Checked.{contents-read}
 use Rattle.link.specs.declared.MapEntry.{MapEntry}
-use Rattle.link.specs.Map.{mapWidth, mostEntries, mapEntryOf, mapEntryAt, mapFormat, entryCount, Entry, entry, entryOf, entriesOf, nth, findEntry, allBelow, distinct, nameInside, mapCheck}
+use Rattle.link.specs.Map.{mapWidth, mostEntries, mapEntryOf, mapEntryAt, mapFormat, entryCount, Entry, entry, entryOf, entriesOf, nth, findEntry, distinct, nameInside, mapCheck}
 
 -- ---- an entry
 

@@ -15,18 +15,18 @@ use Rattle.area.specs.declared.Rule.{Rule}
 use Rattle.area.specs.Bytes.{bytes, pad, zeros}
 use Rattle.area.specs.Records.{ruleWidth, entryWidth, mostRules, ruleOf, nthRule}
 use Rattle.area.specs.Areas.{Area}
-use Rattle.area.specs.Contents.{Format, contents, ruleFormat, entryFormat}
+use Rattle.area.specs.Contents.{Format, contents, ruleFormat, entryFormat, relaid, laid}
 use Rattle.area.proofs.Fields.{bytes-at}
 use Rattle.area.proofs.Contents.{Sound, listOf-is, rule-sound}
-use Rattle.parse.specs.Parse.{laid}
-use Rattle.sheet_check.specs.SheetCheck.{SheetBytes, count, decoded, sheetCheck, all}
+use Rattle.sheet_check.specs.SheetCheck.{SheetBytes, count, decoded, sheetCheck}
+use Rattle.area.specs.Lists.{all, numbers}
 use Rattle.sheet_check.proofs.Judging.{contents-count}
 use Rattle.sheet_check.proofs.Checked.{checked-long, checked-counts}
 use Rattle.link.specs.declared.LinkAnswer.{LinkAnswer}
 use Rattle.link.specs.declared.LinkAnswer.the-variants.{Linked, BrokenSheet, BrokenMap, AreaFull}
 use Rattle.link.specs.Map.{mapWidth, mostEntries, mapFormat, entryCount, Entry, entriesOf, idOf, nameInside, distinct, mapCheck}
 use Rattle.names.specs.Names.{nameOf}
-use Rattle.link.specs.Link.{isNamed, withId, withFound, linkRule, linkRules, numbers, isNone, isUnmapped, isUnlinked, unmapped, unlinked, unused, LinkLeft, linkLeft, relaid, fits, linkAll, linkChecked, linkCall}
+use Rattle.link.specs.Link.{isNamed, withId, withFound, linkRule, linkRules, isNone, isUnmapped, isUnlinked, unmapped, unlinked, unused, LinkLeft, linkLeft, fits, linkAll, linkChecked, linkCall}
 use Rattle.link.proofs.LinkedRules.{Local, rule-local}
 
 -- ---- records laid over the front of an area are read back

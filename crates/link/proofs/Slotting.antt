@@ -21,11 +21,11 @@ use Rattle.text.proofs.Walks.{first-here, first-over}
 use Rattle.area.specs.declared.Rule.{Rule}
 use Rattle.area.specs.Records.{nthRule, ruleAt}
 use Rattle.area.specs.Contents.{contents, ruleFormat}
-use Rattle.sheet_check.specs.SheetCheck.{all}
+use Rattle.area.specs.Lists.{all, allBelow}
 use Rattle.sheet_check.proofs.Judging.{contents-count}
 use Rattle.sheet_check.proofs.Checked.{contents-read}
 use Rattle.link.specs.declared.MapEntry.{MapEntry}
-use Rattle.link.specs.Map.{mapEntryAt, entryCount, Entry, entriesOf, nth, findEntry, allBelow, distinct, mapCheck}
+use Rattle.link.specs.Map.{mapEntryAt, entryCount, Entry, entriesOf, nth, findEntry, distinct, mapCheck}
 use Rattle.names.specs.Names.{nameOf}
 use Rattle.link.specs.Link.{isNamed, hasThatName, isUnused}
 use Rattle.link.specs.Index.{slotCount, slotFrom, slotOf, Slot, Slots, EntrySlots, RuleSlots, EntryIndex, EntriesIndexed, MapChecked}

@@ -1,19 +1,19 @@
 -- Linking: the ids of named rules by a map; the numbers of rules and of entries that find no partner; and the link call (01, Linking).
-use Prim.Native.Nat.{ℕ, zero, suc, _+_, _*_}
+use Prim.Native.Nat.{ℕ, _*_}
 use mathlib.Core.Bool.{Bool, true, false, cond, not, _&&_}
-use mathlib.Core.List.{List, [], _∷_, _++_, map}
+use mathlib.Core.List.{List, map}
 use mathlib.Core.Option.{Option, none, some}
 use lib.Dec.{eqb, leb}
-use lib.ListN.{length, drop}
+use lib.ListN.{length}
 use Rattle.text.specs.Range.{sameBytes}
 use Rattle.area.specs.declared.Rule.{Rule}
-use Rattle.area.specs.Bytes.{bytes}
 use Rattle.area.specs.Records.{entryWidth, nthRule}
-use Rattle.area.specs.Contents.{Format, ruleFormat, entryFormat}
+use Rattle.area.specs.Contents.{ruleFormat, entryFormat, laid, relaid}
+use Rattle.area.specs.Lists.{all, numbers}
 use Rattle.names.specs.Names.{nameOf}
-use Rattle.area.specs.Words.{Fields, fields, word}
-use Rattle.parse.specs.Parse.{laid}
-use Rattle.sheet_check.specs.SheetCheck.{SheetBytes, decoded, sheetCheck, all}
+use Rattle.answers.specs.Numbers.{acceptedNumber, areaFullNumber, brokenSheetNumber, brokenMapNumber}
+use Rattle.answers.specs.Words.{Fields, fields, word}
+use Rattle.sheet_check.specs.SheetCheck.{SheetBytes, decoded, sheetCheck}
 use Rattle.link.specs.declared.LinkAnswer.{LinkAnswer}
 use Rattle.link.specs.declared.LinkAnswer.the-variants.{Linked, BrokenSheet, BrokenMap, AreaFull}
 use Rattle.link.specs.Map.{Entry, entriesOf, nth, idOf, mapCheck}
@@ -55,11 +55,6 @@ unfoldable pub linkRules : List ℕ → List Entry → List Rule → List Rule
 linkRules s es xs = map (linkRule s es) xs
 
 -- ---- numbers
-
--- the numbers below n that pass the test, in order
-unfoldable pub numbers : (ℕ → Bool) → ℕ → List ℕ
-numbers test zero = []
-numbers test (suc n) = numbers test n ++ cond (test n) (n ∷ []) []
 
 unfoldable pub isNone : Option ℕ → Bool
 isNone none = true
@@ -105,10 +100,6 @@ pub record LinkLeft : Type 0 where
 abbrev pub linkLeft : LinkAnswer → List ℕ → List ℕ → List ℕ → LinkLeft
 linkLeft r x2 x7 x8 = record { answer = r; area2 = x2; area7 = x7; area8 = x8 }
 
--- records over the front of an area; the bytes behind them stay
-unfoldable pub relaid : {A : Type 0} → Format A → List ℕ → List A → List ℕ
-relaid F l xs = bytes (F .write) xs ++ drop (length xs * F .width) l
-
 -- the numbers fit an area (01, Numbers given at the counter, 4)
 unfoldable pub fits : List ℕ → List ℕ → Bool
 fits ns l = leb (length ns * entryWidth) (length l)
@@ -138,10 +129,10 @@ linkCall b names entries x7 x8 =
 
 -- the number and the values of each answer (01, Numbers given at the counter)
 unfoldable pub linkFields : LinkAnswer → Fields
-linkFields (Linked a b) = fields 0 a b 0
-linkFields BrokenSheet = fields 6 0 0 0
-linkFields BrokenMap = fields 7 0 0 0
-linkFields (AreaFull n) = fields 4 n 0 0
+linkFields (Linked a b) = fields acceptedNumber a b 0
+linkFields BrokenSheet = fields brokenSheetNumber 0 0 0
+linkFields BrokenMap = fields brokenMapNumber 0 0 0
+linkFields (AreaFull n) = fields areaFullNumber n 0 0
 
 abbrev pub linkWord : LinkAnswer → ℕ
 linkWord x = word (linkFields x)

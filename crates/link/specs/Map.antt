@@ -1,6 +1,6 @@
 -- A map: names, and entries that say where a name stands in them and which id it has; and the map check, number 7 (01, Linking).
-use Prim.Native.Nat.{ℕ, zero, suc, _+_, _*_, _/_, _%_}
-use mathlib.Core.Bool.{Bool, true, cond, _&&_, not}
+use Prim.Native.Nat.{ℕ, _+_, _*_, _/_, _%_}
+use mathlib.Core.Bool.{Bool, cond, _&&_, not}
 use mathlib.Core.List.{List, [], _∷_, map}
 use mathlib.Core.Option.{Option, none, some}
 use lib.Dec.{eqb, leb, ltb}
@@ -9,7 +9,8 @@ use Rattle.text.specs.Range.{part, sameBytes}
 use Rattle.text.specs.Walk.{first}
 use Rattle.area.specs.Bytes.{two, bytes, fieldFrom}
 use Rattle.area.specs.Contents.{Format, contents}
-use Rattle.sheet_check.specs.SheetCheck.{all, within}
+use Rattle.area.specs.Lists.{all, allBelow}
+use Rattle.sheet_check.specs.SheetCheck.{within}
 use Rattle.link.specs.declared.MapEntry.{MapEntry}
 
 -- ---- the entries as bytes
@@ -74,11 +75,6 @@ unfoldable pub idOf : List Entry → List ℕ → Option ℕ
 idOf es name = idAt es (findEntry es name)
 
 -- ---- the map check
-
--- the numbers below n all pass the test
-unfoldable pub allBelow : (ℕ → Bool) → ℕ → Bool
-allBelow test zero = true
-allBelow test (suc n) = allBelow test n && test n
 
 -- two entries at different places have different names
 unfoldable pub distinct : List Entry → Bool

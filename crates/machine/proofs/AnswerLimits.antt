@@ -14,17 +14,20 @@ use Rattle.area.specs.declared.State.{State}
 use Rattle.area.specs.declared.Rule.{Rule}
 use Rattle.area.specs.Records.{ruleWidth, entryWidth, ruleOf, ruleAt, entryAt, nthRule}
 use Rattle.area.specs.Contents.{contents, ruleFormat, entryFormat}
-use Rattle.area.specs.Words.{TwoBytes, AllBytes}
-use Rattle.area.proofs.Words.{two-bytes, no-values, field-small}
+use Rattle.answers.specs.Words.{TwoBytes}
+use Rattle.area.specs.Bytes.{AllBytes}
+use Rattle.answers.proofs.Words.{two-bytes, no-values}
+use Rattle.area.proofs.Fields.{field-small}
 use Rattle.sheet_check.specs.declared.Located.{Located}
 use Rattle.sheet_check.specs.declared.Located.the-variants as C
-use Rattle.sheet_check.specs.SheetCheck.{SheetBytes, decoded, all, declared, sheetCheck}
+use Rattle.sheet_check.specs.SheetCheck.{SheetBytes, decoded, declared, sheetCheck}
+use Rattle.area.specs.Lists.{all, numbers}
 use Rattle.sheet_check.specs.Pattern.{hasRule, partOf, patternPart, patternFields}
 use Rattle.sheet_check.proofs.Judging.{contents-count}
 use Rattle.sheet_check.proofs.Checked.{contents-read, checked-contents}
 use Rattle.link.specs.Map.{Entry, nth, mapWidth, mostEntries, mapFormat, entryCount, entriesOf, nameInside, distinct, mapCheck}
 use Rattle.link.specs.Link as L
-use Rattle.link.specs.Link.{numbers, isUnmapped, isUnused, unmapped, unused, LinkLeft, linkAll, linkChecked, linkCall, linkFields}
+use Rattle.link.specs.Link.{isUnmapped, isUnused, unmapped, unused, LinkLeft, linkAll, linkChecked, linkCall, linkFields}
 use Rattle.link.proofs.Maps.{entries-count}
 use Rattle.run.specs.declared.Begun.{Begun}
 use Rattle.run.specs.declared.Begun.the-variants.{Started, StartRefused}

@@ -15,10 +15,9 @@ use Rattle.text.specs.Scan.{trimStart, trimEnd, backslashesBehind, backslashesB
 use Rattle.text.specs.Utf8.{charOf, charLen, utf8}
 use Rattle.text.specs.Walk.{firstOf, first, lastOf, last, repeat, skip}
 use Rattle.text.specs.Whitespace.{whitespaceOf, lineEndOf, whitespaceLen, lineEndLen}
-use Rattle.area.specs.Words.{AllBytes}
+use Rattle.area.specs.Bytes.{AllBytes, two, bytes, pad, fieldAt, fieldFrom}
 use Rattle.area.specs.Areas.{room, insertAt}
-use Rattle.area.specs.Bytes.{two, bytes, pad, fieldAt, fieldFrom}
-use Rattle.area.specs.Contents.{append, contents, listOf}
+use Rattle.area.specs.Contents.{append, contents, listOf, relaid}
 use Rattle.area.specs.Records.{stateFields, ruleFields, entryFields, expectedFields, faultFields, stateOf, ruleOf, expectedOf, faultOf, stateAt, ruleAt, entryAt, expectedAt}
 use Rattle.fault.specs.Faults.{nextNumber, addFault, startsFault, isFault, findFault, faultEnd, addSpan, addPair, repeatAt, addRepeat}
 use Rattle.fault.specs.Step.{loop}
@@ -26,17 +25,17 @@ use Rattle.section.specs.Section.{comments, isComment, pastComment, pastLine, t
 use Rattle.names.specs.Names as N
 use Rattle.names.specs.Names.{allBytes, isNameByte, isStateName, isState, hasName, findRule, nameOf}
 use Rattle.escape.specs.Escape.{posixEscapes, isCodeLetter, isCode, isKeptBy, isKept, isRewritten, lastWhole, dropLone, rewrittenEnd, backspace, escapeFrom, escaped, unescaped, nextEscape, escapesFrom, escapes, anyEscape, lastEnd, replaced}
-use Rattle.declarations.specs.Declarations.{declareState, stateNames, isQuoted, expectedNames, isAlphanumeric, declares, declarationOf, declareAs, declaration, nextDeclaration, endDeclarations, declarations, trimmed}
-use Rattle.declarations.specs.Declarations.{wordEnd, firstWord, restOf, isInclusive, isExclusive, isExpecting, statesOf, behindName, addState, repeatState, stateNamed, declareExpected}
+use Rattle.declarations.specs.Declarations.{declareState, stateNames, isQuoted, expectedNames, isAlphanumeric, declares, declarationOf, declareAs, declaration, nextDeclaration, endDeclarations, declarations, trimmed, wordEnd, firstWord, restOf, isInclusive, isExclusive, isExpecting, statesOf, behindName, addState, repeatState, stateNamed, declareExpected}
 use Rattle.rules.specs.Heading.{operationOf, targetOf, isNoName, isName, labelBy, labelOf, headingOf, bodyOf, hasTarget, targetEnd, targetOperation, targetName, targetId, equalQuotes, ruleNamed, headingBehind, hasList, listEnd}
 use Rattle.rules.specs.Rules.{nextEntry, entries, refuses, recordRule, listedRule, rewrittenRule, pattern, ruleAs, rule, line, nextRule, rules, routines, rulesSection, entryEnd, entryId, withRule}
 use Rattle.parse.specs.Parse.{Caps, caps, closed, judge, rulesFrom, opening, file, outcome, leaves, parseCall, parseFields}
-use Rattle.sheet_check.specs.SheetCheck.{decoded, all, goodState, goodRule, goodExpected, goodContents, longEnough, sheetCheck}
-use Rattle.accepted.specs.Accepted.{isByte}
-use Rattle.accepted.specs.Meaning.{meaning}
-use Rattle.link.specs.Map.{mapEntryFields, mapEntryOf, mapEntryAt, entryOf, entriesOf, findEntry, idAt, idOf, allBelow, distinct, nameInside, mapCheck}
+use Rattle.sheet_check.specs.SheetCheck.{decoded, goodState, goodRule, goodExpected, goodContents, longEnough, sheetCheck}
+use Rattle.area.specs.Lists.{all, numbers, allBelow}
+use Rattle.parsed_sheet.specs.Accepted.{isByte}
+use Rattle.parsed_sheet.specs.Meaning.{meaning}
+use Rattle.link.specs.Map.{mapEntryFields, mapEntryOf, mapEntryAt, entryOf, entriesOf, findEntry, idAt, idOf, distinct, nameInside, mapCheck}
 use Rattle.link.specs.Link as LK
-use Rattle.link.specs.Link.{isNone, isUnmapped, hasThatName, isUnused, numbers, unmapped, unused, relaid, linkAll, linkChecked, linkCall, linkFields}
+use Rattle.link.specs.Link.{isNone, isUnmapped, hasThatName, isUnused, unmapped, unused, linkAll, linkChecked, linkCall, linkFields}
 use Rattle.run.specs.declared.Run.{Run}
 use Rattle.run.specs.declared.Step.{Step}
 use Rattle.run.specs.declared.Step.the-variants.{RowMismatch, Done, Stopped, Skip, Token}

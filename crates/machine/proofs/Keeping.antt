@@ -10,8 +10,9 @@ use lib.ListN.{length, take, length-append}
 use lib.Seq.{length-take-le}
 use Rattle.text.proofs.Tests.{and-left, and-right}
 use Rattle.area.specs.Records.{entryWidth}
-use Rattle.sheet_check.specs.SheetCheck.{all, declared}
-use Rattle.accepted.proofs.ByteLists.{all-append}
+use Rattle.sheet_check.specs.SheetCheck.{declared}
+use Rattle.area.specs.Lists.{all}
+use Rattle.parsed_sheet.proofs.ByteLists.{all-append}
 use Rattle.run.specs.Run.{mostBytes, stackBytes}
 use Rattle.machine.specs.File.{Operation, keep, replace, push, pop}
 use Rattle.machine.specs.Machine.{Given, Machine, orInitial, operate, Winner, move}

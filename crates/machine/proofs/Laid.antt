@@ -2,8 +2,7 @@
 use Prim.Native.Nat.{ℕ}
 use mathlib.Core.List.{List}
 use lib.ListN.{length}
-use Rattle.area.specs.Contents.{entryFormat}
-use Rattle.link.specs.Link.{relaid}
+use Rattle.area.specs.Contents.{entryFormat, relaid}
 use Rattle.run.specs.declared.Run.{Run}
 use Rattle.run.specs.Run.{StepLeft, stepLeft}
 use Rattle.machine.specs.Machine.{Machine, Answered}

@@ -8,10 +8,9 @@ use lib.ListN.{length, getD, drop, getElem?}
 use lib.Seq.{getD-append-add, getD-drop}
 use Rattle.area.specs.Bytes.{bytes}
 use Rattle.area.specs.Records.{entryWidth, entryBytes}
-use Rattle.area.specs.Contents.{entryFormat}
+use Rattle.area.specs.Contents.{entryFormat, relaid}
 use Rattle.area.proofs.Fields.{bytes-length}
 use Rattle.area.proofs.Records.{entry-wide}
-use Rattle.link.specs.Link.{relaid}
 use Rattle.machine.specs.Demand.{orElse, lastHeld, PlaceHolds}
 use Rattle.machine.proofs.Options.{some-none, place-inside, place-has}
 use Rattle.machine.proofs.Stacks.{laid-bytes}

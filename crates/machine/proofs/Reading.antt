@@ -19,7 +19,7 @@ use Rattle.area.specs.Bytes.{fieldAt, fieldFrom}
 use Rattle.area.specs.Records.{entryAt, entryWidth, stateOf, nthState, nthRule, nthEntry}
 use Rattle.area.specs.Contents.{contents, entryFormat}
 use Rattle.area.proofs.Contents.{listOf-is}
-use Rattle.sheet_check.specs.SheetCheck.{all}
+use Rattle.area.specs.Lists.{all}
 use Rattle.parse.specs.Parse.{Contents}
 use Rattle.link.specs.Map.{Entry, nth, findEntry, idAt, idOf}
 use Rattle.run.specs.Winner.{findState, listed, live}

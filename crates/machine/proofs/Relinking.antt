@@ -7,13 +7,14 @@ use Prim.Native.Nat.{ℕ, _*_, _%_}
 use native.Mathlib.Omega.{arith}
 use lib.Dec.{eqb, leb}
 use lib.ListN.{length}
-use Rattle.area.specs.Contents.{contents, ruleFormat}
+use Rattle.area.specs.Contents.{contents, ruleFormat, relaid}
 use Rattle.parse.specs.Parse.{Contents}
-use Rattle.sheet_check.specs.SheetCheck.{SheetBytes, decoded, all, sheetCheck}
+use Rattle.sheet_check.specs.SheetCheck.{SheetBytes, decoded, sheetCheck}
+use Rattle.area.specs.Lists.{all}
 use Rattle.link.specs.declared.LinkAnswer.{LinkAnswer}
 use Rattle.link.specs.declared.LinkAnswer.the-variants.{Linked, BrokenSheet, BrokenMap, AreaFull}
 use Rattle.link.specs.Map.{Entry, entry, nth, mapWidth, mostEntries, mapFormat, entryCount, entriesOf, idOf, nameInside, distinct, mapCheck}
-use Rattle.link.specs.Link.{LinkLeft, linkLeft, linkRules, relaid, fits, unmapped, unused, linkAll, linkChecked, linkCall}
+use Rattle.link.specs.Link.{LinkLeft, linkLeft, linkRules, fits, unmapped, unused, linkAll, linkChecked, linkCall}
 use Rattle.link.proofs.LinkLaws.{linked-contents, linked-passes, entry-id}
 use borrow.Author.Tests.{eqb-true}
 use Rattle.text.proofs.Tests.{and-left, and-right}

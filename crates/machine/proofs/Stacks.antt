@@ -8,11 +8,10 @@ use lib.ListN.{length, getD, take, drop, length-append, length-drop, take-append
 use lib.Seq.{sets-eq, take-at, take-take, length-take-le}
 use Rattle.area.specs.Bytes.{two, bytes, fieldAt, fieldFrom}
 use Rattle.area.specs.Records.{entryAt, entryWidth, entryBytes, entryFields, nthEntry}
-use Rattle.area.specs.Contents.{contents, entryFormat}
+use Rattle.area.specs.Contents.{contents, entryFormat, relaid}
 use Rattle.area.proofs.Contents.{listOf-is}
 use Rattle.area.proofs.Fields.{bytes-append, bytes-single, bytes-length, bytes-at}
 use Rattle.area.proofs.Records.{entry-wide}
-use Rattle.link.specs.Link.{relaid}
 use Rattle.run.specs.Run.{putState}
 
 -- ---- ids at the front of bytes

@@ -10,11 +10,12 @@ use borrow.Author.Tests.{le-leb, eq-eqb, eqb-false}
 use lib.Dec.{eqb}
 use lib.ListN.{length, length-map}
 use Rattle.area.specs.Records.{entryAt, nthRule}
-use Rattle.area.specs.Contents.{contents, entryFormat}
-use Rattle.sheet_check.specs.SheetCheck.{all, declared}
+use Rattle.area.specs.Contents.{contents, entryFormat, relaid}
+use Rattle.sheet_check.specs.SheetCheck.{declared}
+use Rattle.area.specs.Lists.{all}
 use Rattle.parse.specs.Parse.{Contents}
 use Rattle.link.specs.Map.{Entry}
-use Rattle.link.specs.Link.{relaid, linkRules}
+use Rattle.link.specs.Link.{linkRules}
 use Rattle.link.proofs.Outcomes.{link-count, link-at}
 use Rattle.run.specs.declared.Step.the-variants.{RowMismatch, Done, Stopped}
 use Rattle.run.specs.Winner.{weight, greatest, earliest, best}

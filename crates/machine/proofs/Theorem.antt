@@ -13,11 +13,12 @@ use lib.ListN.{length, getElem?, length-map}
 use Rattle.text.proofs.Tests.{and-left, and-right}
 use Rattle.area.specs.Records.{entryWidth, nthRule}
 use Rattle.parse.specs.Parse.{Contents, Caps, outcome, accepted, parseCall}
-use Rattle.sheet_check.specs.SheetCheck.{SheetBytes, sheetCheck, decoded, all, declared}
-use Rattle.accepted.specs.Accepted.{sheetLeftBy}
-use Rattle.accepted.proofs.Accepting.{accepted-holds}
-use Rattle.accepted.proofs.Decoding.{accepted-decodes, accepted-checks, answer-accepted}
-use Rattle.accepted.proofs.Growing.{accepted-meaning}
+use Rattle.sheet_check.specs.SheetCheck.{SheetBytes, sheetCheck, decoded, declared}
+use Rattle.area.specs.Lists.{all}
+use Rattle.parsed_sheet.specs.Accepted.{sheetLeftBy}
+use Rattle.parsed_sheet.proofs.Accepting.{accepted-holds}
+use Rattle.parsed_sheet.proofs.Decoding.{accepted-decodes, accepted-checks, answer-accepted}
+use Rattle.parsed_sheet.proofs.Growing.{accepted-meaning}
 use Rattle.link.specs.declared.LinkAnswer.the-variants.{Linked}
 use Rattle.link.specs.Map.{Entry, entriesOf}
 use Rattle.link.specs.Link.{linkRules, linkCall}

@@ -6,8 +6,9 @@ use mathlib.Core.Option.{some}
 use Prim.Native.Nat.{ℕ, zero, suc, _+_, _%_, _<_}
 use native.Mathlib.Omega.{arith}
 use lib.ListN.{length, getD, drop, getElem?}
-use Rattle.area.specs.Words.{TwoBytes, AllBytes}
-use Rattle.area.proofs.Words.{two-bytes, no-values}
+use Rattle.answers.specs.Words.{TwoBytes}
+use Rattle.area.specs.Bytes.{AllBytes}
+use Rattle.answers.proofs.Words.{two-bytes, no-values}
 use Rattle.parse.specs.declared.Answer.{Answer}
 use Rattle.parse.specs.declared.Answer.the-variants as P
 use Rattle.parse.specs.Parse.{parseFields, parseWord}

@@ -10,7 +10,7 @@ use lib.ListN.{length, getD, getElem?}
 use Rattle.parse.specs.declared.Answer.the-variants.{Accepted}
 use Rattle.parse.specs.Parse.{Caps, parseCall}
 use Rattle.sheet_check.specs.SheetCheck.{SheetBytes, sheetBytes}
-use Rattle.accepted.specs.Accepted.{sheetLeftBy}
+use Rattle.parsed_sheet.specs.Accepted.{sheetLeftBy}
 use Rattle.link.specs.declared.LinkAnswer.the-variants.{Linked}
 use Rattle.link.specs.Map.{Entry}
 use Rattle.link.specs.Link.{LinkLeft, linkCall}

@@ -8,7 +8,7 @@ use Rattle.text.specs.Range.{part}
 use Rattle.area.specs.declared.State.{State}
 use Rattle.area.specs.declared.Rule.{Rule}
 use Rattle.parse.specs.Parse.{Contents, Outcome, longFile, unknownFlag, invalidUtf8, areaFull, faulty, accepted}
-use Rattle.accepted.specs.Meaning.{meaning}
+use Rattle.parsed_sheet.specs.Meaning.{meaning}
 use Rattle.link.specs.Map.{Entry, entry}
 
 -- what a rule does to the stack: nothing, leave a state alone on it, add one at the end, drop the last

@@ -2,7 +2,8 @@
 use Prim.Native.Nat.{ℕ, _%_}
 use mathlib.Core.Path.{_≡_}
 use mathlib.Core.List.{List, [], _∷_, map}
-use Rattle.area.specs.Words.{TwoBytes, AllBytes}
+use Rattle.answers.specs.Words.{TwoBytes}
+use Rattle.area.specs.Bytes.{AllBytes}
 use Rattle.parse.specs.Parse.{parseCall}
 use Rattle.sheet_check.specs.SheetCheck.{SheetBytes, sheetBytes}
 use Rattle.link.specs.Link.{linkCall}

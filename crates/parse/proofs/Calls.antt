@@ -7,14 +7,14 @@ use borrow.Author.Tests.{lt-ltb, le-ltb}
 use lib.ListN.{length}
 use Rattle.text.specs.Utf8.{utf8}
 use Rattle.area.specs.Bytes.{bytes, pad, zeros}
-use Rattle.area.specs.Contents.{Format, listOf, contents, Held}
+use Rattle.area.specs.Contents.{Format, listOf, contents, Held, laid}
 use Rattle.area.proofs.Contents.{state-sound, rule-sound, entry-sound, text-sound, expected-sound, fault-sound, contents-length}
 use Rattle.parse.specs.declared.FileCounts.{FileCounts}
 use Rattle.parse.specs.declared.Parsed.{Parsed}
 use Rattle.parse.specs.declared.Parsed.the-variants.{Clean, Faulty, Short}
 use Rattle.parse.specs.declared.Answer.{Answer}
 use Rattle.parse.specs.declared.Answer.the-variants.{Accepted, LongFile, UnknownFlag, InvalidUtf8, AreaFull, FaultyFile}
-use Rattle.parse.specs.Parse.{Caps, Outcome, caps, file, outcome, Left, left, laid, leaves, parseCall}
+use Rattle.parse.specs.Parse.{Caps, Outcome, caps, file, outcome, Left, left, leaves, parseCall}
 use Rattle.parse.specs.Answers.{tells, Parses, Zeroed, Cleared}
 
 -- an area of c bytes that holds n records is those records and zeros

@@ -10,9 +10,10 @@ use Rattle.area.specs.declared.State.{State}
 use Rattle.area.specs.declared.Rule.{Rule}
 use Rattle.area.specs.declared.Expected.{Expected}
 use Rattle.area.specs.declared.Fault.{Fault}
-use Rattle.area.specs.Bytes.{bytes, pad, zeros}
-use Rattle.area.specs.Words.{Fields, fields, word}
-use Rattle.area.specs.Contents.{Format, append, stateFormat, ruleFormat, entryFormat, textFormat, expectedFormat, faultFormat}
+use Rattle.area.specs.Bytes.{zeros}
+use Rattle.answers.specs.Numbers.{acceptedNumber, longFileNumber, unknownFlagNumber, invalidUtf8Number, areaFullNumber, faultyFileNumber}
+use Rattle.answers.specs.Words.{Fields, fields, word}
+use Rattle.area.specs.Contents.{append, laid, stateFormat, ruleFormat, entryFormat, textFormat, expectedFormat, faultFormat}
 use Rattle.fault.specs.Step.{Out, go, bad, full, next, onto, written}
 use Rattle.fault.specs.Faults.{addFault}
 use Rattle.declarations.specs.Declarations.{Declared, declarations, state}
@@ -121,10 +122,6 @@ pub record Left : Type 0 where
 abbrev pub left : Answer → List ℕ → List ℕ → List ℕ → List ℕ → List ℕ → List ℕ → List ℕ → Left
 left r n x1 x2 x3 x4 x5 x6 = record { answer = r; counts = n; area1 = x1; area2 = x2; area3 = x3; area4 = x4; area5 = x5; area6 = x6 }
 
--- the records of a list in an area of cap bytes, and zeros behind them
-abbrev pub laid : {A : Type 0} → Format A → ℕ → List A → List ℕ
-laid F cap xs = pad cap (bytes (F .write) xs)
-
 -- 1 to 4: all six areas zero
 abbrev pub cleared : Answer → Caps → Left
 cleared r k = left r (zeros 6) (zeros (k .c1)) (zeros (k .c2)) (zeros (k .c3)) (zeros (k .c4)) (zeros (k .c5)) (zeros (k .c6))
@@ -166,12 +163,12 @@ parseCall s flags verdicts k = leaves k (outcome s flags verdicts k)
 
 -- the number and the value of each answer (01, Numbers given at the counter)
 unfoldable pub parseFields : Answer → Fields
-parseFields Accepted = fields 0 0 0 0
-parseFields LongFile = fields 1 0 0 0
-parseFields UnknownFlag = fields 2 0 0 0
-parseFields InvalidUtf8 = fields 3 0 0 0
-parseFields (AreaFull n) = fields 4 n 0 0
-parseFields (FaultyFile n) = fields 5 n 0 0
+parseFields Accepted = fields acceptedNumber 0 0 0
+parseFields LongFile = fields longFileNumber 0 0 0
+parseFields UnknownFlag = fields unknownFlagNumber 0 0 0
+parseFields InvalidUtf8 = fields invalidUtf8Number 0 0 0
+parseFields (AreaFull n) = fields areaFullNumber n 0 0
+parseFields (FaultyFile n) = fields faultyFileNumber n 0 0
 
 abbrev pub parseWord : Answer → ℕ
 parseWord x = word (parseFields x)

@@ -11,7 +11,8 @@ use lib.ListN.{length}
 use Rattle.text.proofs.Tests.{and-left, and-right}
 use Rattle.area.specs.Records.{entryAt, entryWidth}
 use Rattle.area.specs.Contents.{contents, entryFormat}
-use Rattle.sheet_check.specs.SheetCheck.{all, declared}
+use Rattle.sheet_check.specs.SheetCheck.{declared}
+use Rattle.area.specs.Lists.{all}
 use Rattle.sheet_check.proofs.Judging.{contents-count}
 use Rattle.sheet_check.proofs.Checked.{contents-read, all-at}
 use Rattle.run.specs.declared.Run.{Run}

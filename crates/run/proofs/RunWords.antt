@@ -2,8 +2,8 @@
 use mathlib.Core.Path.{_≡_, refl}
 use mathlib.Core.Bool.{cond}
 use lib.Dec.{eqb}
-use Rattle.area.specs.Words.{Fields, TellsApart}
-use Rattle.area.proofs.Words.{tells-by}
+use Rattle.answers.specs.Words.{Fields, TellsApart}
+use Rattle.answers.proofs.Words.{tells-by}
 use Rattle.run.specs.declared.Begun.{Begun}
 use Rattle.run.specs.declared.Begun.the-variants.{Started, StartRefused}
 use Rattle.run.specs.declared.Step.{Step}

@@ -10,8 +10,10 @@ use Rattle.area.specs.declared.Rule.{Rule}
 use Rattle.area.specs.Bytes.{two}
 use Rattle.area.specs.Records.{entryAt, nthRule, stateWidth, ruleWidth, entryWidth, ruleAt}
 use Rattle.area.specs.Contents.{contents, entryFormat}
-use Rattle.sheet_check.specs.SheetCheck.{SheetBytes, decoded, sheetCheck, all, declared}
-use Rattle.area.specs.Words.{Fields, fields, word}
+use Rattle.sheet_check.specs.SheetCheck.{SheetBytes, decoded, sheetCheck, declared}
+use Rattle.area.specs.Lists.{all}
+use Rattle.answers.specs.Numbers.{acceptedNumber, startRefusedNumber, brokenSheetNumber, brokenRunNumber, rowMismatchNumber, doneNumber, stoppedNumber, unlinkedNumber, skipNumber, tokenNumber}
+use Rattle.answers.specs.Words.{Fields, fields, word}
 use Rattle.run.specs.declared.Run.{Run}
 use Rattle.run.specs.declared.Best.{Best}
 use Rattle.run.specs.declared.Begun.{Begun}
@@ -166,18 +168,18 @@ pub record Readable (area1 area2 area3 : List ℕ) (states rules entries : ℕ) 
 
 -- the number of each answer, and its values (01, Numbers given at the counter)
 unfoldable pub startFields : Begun → Fields
-startFields Started = fields 0 0 0 0
-startFields StartRefused = fields 8 0 0 0
+startFields Started = fields acceptedNumber 0 0 0
+startFields StartRefused = fields startRefusedNumber 0 0 0
 
 unfoldable pub stepFields : Step → Fields
-stepFields BrokenSheet = fields 6 0 0 0
-stepFields BrokenRun = fields 9 0 0 0
-stepFields RowMismatch = fields 10 0 0 0
-stepFields Done = fields 256 0 0 0
-stepFields Stopped = fields 257 0 0 0
-stepFields Unlinked = fields 258 0 0 0
-stepFields Skip = fields 259 0 0 0
-stepFields (Token id start bytes) = fields 260 id start bytes
+stepFields BrokenSheet = fields brokenSheetNumber 0 0 0
+stepFields BrokenRun = fields brokenRunNumber 0 0 0
+stepFields RowMismatch = fields rowMismatchNumber 0 0 0
+stepFields Done = fields doneNumber 0 0 0
+stepFields Stopped = fields stoppedNumber 0 0 0
+stepFields Unlinked = fields unlinkedNumber 0 0 0
+stepFields Skip = fields skipNumber 0 0 0
+stepFields (Token id start bytes) = fields tokenNumber id start bytes
 
 abbrev pub startWord : Begun → ℕ
 startWord x = word (startFields x)

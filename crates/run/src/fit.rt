@@ -5,7 +5,7 @@ ghost use lib.Dec.{leb};
 ghost use lib.ListN.{length};
 ghost use Rattle.area.specs.Records.{entryWidth};
 ghost use Rattle.area.specs.Contents.{contents, entryFormat};
-ghost use Rattle.sheet_check.specs.SheetCheck.{all};
+ghost use Rattle.area.specs.Lists.{all};
 ghost use Rattle.run.specs.Run.{goodNumbers, goodRun, goodRow};
 use crate::Run;
 use area::ENTRY_WIDTH;

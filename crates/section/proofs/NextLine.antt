@@ -44,8 +44,8 @@ use Rattle.section.specs.Reader.{readerAt, moved, movedBy, NextLine}
 use Rattle.section.specs.declared.reader.Reader.{Reader}
 use Rattle.section.specs.declared.reader.Line.{Line}
 use Rattle.section.proofs.Lines.{first-between}
-use Rattle.by_hand.proofs.Walking.{parts, tokens, all, have-nothings, allocated, param, arg, release, called}
-use Rattle.by_hand.proofs.Parameters.{Params, number, slice, stays, machine, meets-by}
+use Rattle.borrow_proofs.proofs.Walking.{parts, tokens, all, have-nothings, allocated, param, arg, release, called}
+use Rattle.borrow_proofs.proofs.Parameters.{Params, number, slice, stays, machine, meets-by}
 use Rattle.section.proofs.Reading.{held, flagged-mover, moves-flagged, Inside}
 use Rattle.section.proofs.reader.Reader as ReaderType
 use Rattle.section.proofs.reader.Reader.Laws as ReaderLaws

@@ -41,8 +41,8 @@ use denote.Exit.{yes}
 use Rattle.text.specs.Walk.{Between}
 use Rattle.section.specs.Reader.{readerAt, moved, movedBy}
 use Rattle.section.specs.declared.reader.Reader.{Reader}
-use Rattle.by_hand.proofs.Walking.{parts, tokens, all, have-nothings, allocated, param, arg, release, called}
-use Rattle.by_hand.proofs.Parameters.{Param, Params, number, stays, machine, meets-by}
+use Rattle.borrow_proofs.proofs.Walking.{parts, tokens, all, have-nothings, allocated, param, arg, release, called}
+use Rattle.borrow_proofs.proofs.Parameters.{Param, Params, number, stays, machine, meets-by}
 use Rattle.section.proofs.reader.Reader as ReaderType
 use Rattle.section.proofs.reader.Reader.Laws as ReaderLaws
 

@@ -18,7 +18,8 @@ use Rattle.area.specs.Records.{mostStates, mostRules, stateAt, ruleAt, entryAt,
 use Rattle.area.specs.Contents.{Format, contents, listOf, stateFormat, ruleFormat, entryFormat, textFormat, expectedFormat}
 use Rattle.area.proofs.Contents.{listOf-length}
 use Rattle.parse.specs.Parse.{Contents}
-use Rattle.sheet_check.specs.SheetCheck.{SheetBytes, all, count, decoded, ordered, within, declared, mark, goodState, goodRule, goodExpected, goodContents, longEnough, sheetCheck}
+use Rattle.sheet_check.specs.SheetCheck.{SheetBytes, count, decoded, ordered, within, declared, mark, goodState, goodRule, goodExpected, goodContents, longEnough, sheetCheck}
+use Rattle.area.specs.Lists.{all}
 use Rattle.sheet_check.proofs.Judging.{Long, long-areas, contents-count}
 
 -- ---- a record that passed, as plain facts

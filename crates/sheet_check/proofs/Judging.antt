@@ -16,7 +16,8 @@ use Rattle.area.specs.Records.{stateWidth, ruleWidth, entryWidth, expectedWidth
 use Rattle.area.specs.Contents.{Format, contents, listOf, stateFormat, ruleFormat, entryFormat, textFormat, expectedFormat}
 use Rattle.area.proofs.Contents.{listOf-length}
 use Rattle.text.proofs.Tests.{and-left, and-right}
-use Rattle.sheet_check.specs.SheetCheck.{SheetBytes, sheetBytes, all, count, decoded, ordered, within, declared, goodState, goodRule, goodExpected, goodContents, longEnough, sheetCheck}
+use Rattle.sheet_check.specs.SheetCheck.{SheetBytes, sheetBytes, count, decoded, ordered, within, declared, goodState, goodRule, goodExpected, goodContents, longEnough, sheetCheck}
+use Rattle.area.specs.Lists.{all}
 
 -- ---- a record
 

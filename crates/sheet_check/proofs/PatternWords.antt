@@ -2,8 +2,8 @@
 use mathlib.Core.Path.{_≡_, refl}
 use mathlib.Core.Bool.{cond}
 use lib.Dec.{eqb}
-use Rattle.area.specs.Words.{Fields, TellsApart}
-use Rattle.area.proofs.Words.{tells-by}
+use Rattle.answers.specs.Words.{Fields, TellsApart}
+use Rattle.answers.proofs.Words.{tells-by}
 use Rattle.sheet_check.specs.declared.Located.{Located}
 use Rattle.sheet_check.specs.declared.Located.the-variants.{Part, BrokenSheet}
 use Rattle.sheet_check.specs.Pattern.{patternFields}

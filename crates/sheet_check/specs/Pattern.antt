@@ -6,7 +6,8 @@ use lib.Dec.{eqb, ltb}
 use lib.ListN.{length, take, drop}
 use Rattle.area.specs.declared.Rule.{Rule}
 use Rattle.area.specs.Records.{nthRule}
-use Rattle.area.specs.Words.{Fields, fields, word}
+use Rattle.answers.specs.Numbers.{acceptedNumber, brokenSheetNumber}
+use Rattle.answers.specs.Words.{Fields, fields, word}
 use Rattle.sheet_check.specs.declared.Located.{Located}
 use Rattle.sheet_check.specs.declared.Located.the-variants.{Part, BrokenSheet}
 use Rattle.sheet_check.specs.SheetCheck.{SheetBytes, decoded, sheetCheck}
@@ -51,13 +52,13 @@ patternCall s t b k = handed (startOf s t (patternPart b k)) (patternText b k)
 
 -- the number of each answer
 unfoldable pub numberOf : Located → ℕ
-numberOf (Part place from len) = 0
-numberOf BrokenSheet = 6
+numberOf (Part place from len) = acceptedNumber
+numberOf BrokenSheet = brokenSheetNumber
 
 -- the number and the values of each answer
 unfoldable pub patternFields : Located → Fields
-patternFields (Part place from len) = fields 0 place from len
-patternFields BrokenSheet = fields 6 0 0 0
+patternFields (Part place from len) = fields acceptedNumber place from len
+patternFields BrokenSheet = fields brokenSheetNumber 0 0 0
 
 abbrev pub patternWord : Located → ℕ
 patternWord x = word (patternFields x)

@@ -1,7 +1,7 @@
 -- A sheet as a call takes it, and the sheet check (01, Linking, the end).
 use Prim.Native.Nat.{ℕ, _+_, _*_, _-_}
-use mathlib.Core.Bool.{Bool, true, cond, _&&_}
-use mathlib.Core.List.{List, [], _∷_}
+use mathlib.Core.Bool.{Bool, cond, _&&_}
+use mathlib.Core.List.{List, []}
 use lib.Dec.{eqb, leb, ltb}
 use lib.ListN.{length, getD}
 use Rattle.area.specs.declared.State.{State}
@@ -9,6 +9,7 @@ use Rattle.area.specs.declared.Rule.{Rule}
 use Rattle.area.specs.declared.Expected.{Expected}
 use Rattle.area.specs.Records.{stateWidth, ruleWidth, entryWidth, expectedWidth, mostStates, mostRules}
 use Rattle.area.specs.Contents.{contents, stateFormat, ruleFormat, entryFormat, textFormat, expectedFormat}
+use Rattle.area.specs.Lists.{all}
 use Rattle.parse.specs.Parse.{Contents}
 
 -- the source, areas 1 to 5 and the six counts
@@ -38,11 +39,6 @@ decoded b = record {
   expected = contents expectedFormat (b .area5) (count b 5);
   faults = [];
 }
-
--- every element passes the test
-unfoldable pub all : {A : Type 0} → (A → Bool) → List A → Bool
-all test [] = true
-all test (x ∷ xs) = test x && all test xs
 
 -- a mark is 0 or 1
 abbrev pub mark : ℕ → Bool

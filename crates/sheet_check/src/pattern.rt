@@ -5,6 +5,8 @@ ghost use Rattle.sheet_check.specs.SheetCheck.{sheetBytes};
 ghost use Rattle.sheet_check.specs.Pattern.{patternPart, patternCall, handed, numberOf};
 use crate::Located;
 use crate::check::check;
+use answers::ACCEPTED;
+use answers::BROKEN_SHEET;
 use area::read_rule;
 
 // Where the text of a rule stands.
@@ -75,7 +77,7 @@ pub fn pattern_test(
     ensures { λ r. ⌜ r ≡ numberOf (patternPart (sheetBytes (now (src .entry)) (now (area1 .entry)) (now (area2 .entry)) (now (area3 .entry)) (now (area4 .entry)) (now (area5 .entry)) (now (counts .entry))) rule) ⌝ }
 {
     match locate(src, area1, area2, area3, area4, area5, counts, rule) {
-        Located::Part(place, from, length) => 0,
-        Located::BrokenSheet => 6,
+        Located::Part(place, from, length) => ACCEPTED as u64,
+        Located::BrokenSheet => BROKEN_SHEET as u64,
     }
 }

@@ -12,13 +12,13 @@ use Rattle.area.specs.declared.Rule.{Rule}
 use Rattle.area.specs.declared.Fault.{Fault}
 use Rattle.area.specs.Areas.{Area}
 use Rattle.area.specs.Bytes.{bytes, pad, zeros}
-use Rattle.area.specs.Contents.{Format, stateFormat, ruleFormat, faultFormat}
+use Rattle.area.specs.Contents.{Format, stateFormat, ruleFormat, faultFormat, laid}
 use Rattle.area.specs.Records.{nthState, nthRule, nthFault}
 use Rattle.area.proofs.Contents.{Sound, state-sound, rule-sound, fault-sound}
 use Rattle.area.proofs.Fields.{bytes-length}
 use Rattle.parse.specs.declared.Answer.{Answer}
 use Rattle.parse.specs.declared.Answer.the-variants.{Accepted, LongFile, UnknownFlag, InvalidUtf8, AreaFull, FaultyFile}
-use Rattle.parse.specs.Parse.{Left, left, leaves, laid, Outcome, Caps, caps, longFile, unknownFlag, invalidUtf8, areaFull, faulty, accepted, outcome, parseCall}
+use Rattle.parse.specs.Parse.{Left, left, leaves, Outcome, Caps, caps, longFile, unknownFlag, invalidUtf8, areaFull, faulty, accepted, outcome, parseCall}
 use Rattle.sheet_print.specs.Output.{Appends, Written}
 use Rattle.sheet_print.specs.Lines.{joined, stateLine, ruleLine, faultLine, statesIn, rulesIn, faultsIn, sheetIn, refusedLine, fullLine, answerText, textOf, sheetText, lent}
 use Rattle.sheet_print.proofs.Appending.{appends-first}

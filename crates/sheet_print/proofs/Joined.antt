@@ -3,7 +3,7 @@ use mathlib.Core.List.{List}
 use Prim.Native.Nat.{ℕ, zero, suc, _*_, _≤_}
 use native.Mathlib.Omega.{arith}
 use lib.ListN.{length, length-append}
-use Rattle.accepted.proofs.Totals.{total}
+use Rattle.parsed_sheet.proofs.Totals.{total}
 use Rattle.sheet_print.specs.Lines.{joined}
 
 -- texts joined, each of which has a bound

@@ -15,12 +15,12 @@ use Rattle.area.specs.declared.Fault.{Fault}
 use Rattle.area.specs.Bytes.{bytes}
 use Rattle.area.specs.Records.{ruleFields, faultFields, nthState, nthRule, nthFault}
 use Rattle.parse.specs.Parse.{Outcome, longFile, unknownFlag, invalidUtf8, areaFull, faulty, accepted, outcome}
-use Rattle.accepted.proofs.Accepting.{accepted-holds, accepted-short}
+use Rattle.parsed_sheet.proofs.Accepting.{accepted-holds, accepted-short}
 use Rattle.sheet_print.specs.Output.{Written, AllWritten, digitAt, tens, decimal, field}
 use Rattle.sheet_print.specs.Lines.{joined, fields, stateName, stateHead, stateLine, ruleLine, faultLine, refusedLine, fullLine, textOf, lent, sheetText, sheetRoom}
-use Rattle.accepted.proofs.Totals.{total-plus, nameLength, nameBytes}
+use Rattle.parsed_sheet.proofs.Totals.{total-plus, nameLength, nameBytes}
 use Rattle.sheet_print.proofs.Joined.{joined-total, joined-most}
-use Rattle.accepted.proofs.Bounds.{Bounded, outcome-bounded}
+use Rattle.parsed_sheet.proofs.Bounds.{Bounded, outcome-bounded}
 
 -- the text t has at most n bytes
 record Most (t : List ℕ) (n : ℕ) : Type 0 where

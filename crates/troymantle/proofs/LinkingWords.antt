@@ -4,7 +4,7 @@ use mathlib.Core.List.{List}
 use Prim.Native.Nat.{ℕ, _+_, _*_}
 use native.Mathlib.Omega.{arith}
 use borrow.Author.Needs.{needs}
-use Rattle.area.specs.Words.{fields, word}
+use Rattle.answers.specs.Words.{fields, word}
 use Rattle.link.specs.declared.LinkAnswer.{LinkAnswer}
 use Rattle.link.specs.declared.LinkAnswer.the-variants.{Linked, BrokenSheet, BrokenMap, AreaFull}
 use Rattle.link.specs.Link.{LinkLeft, linkLeft, linkWord, linkFields}

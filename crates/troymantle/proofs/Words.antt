@@ -4,7 +4,7 @@ use mathlib.Core.List.{List}
 use Prim.Native.Nat.{ℕ, _+_, _*_}
 use native.Mathlib.Omega.{arith}
 use Rattle.parse.specs.declared.Answer.{Answer}
-use Rattle.area.specs.Words.{fields, word}
+use Rattle.answers.specs.Words.{fields, word}
 use Rattle.parse.specs.Parse.{Left, left, parseWord}
 use Rattle.troymantle.specs.Words.{leftInWords, inWords}
 

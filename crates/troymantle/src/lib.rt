@@ -3,6 +3,13 @@ ghost use mathlib.Core.Path.{_≡_};
 ghost use lib.ListN.{length};
 ghost use Rattle.parse.specs.Parse.{caps, parseCall, parseWord};
 ghost use Rattle.troymantle.specs.Words.{inWords, leftInWords};
+use answers::ACCEPTED;
+use answers::AREA_FULL;
+use answers::FAULTY_FILE;
+use answers::INVALID_UTF8;
+use answers::LONG_FILE;
+use answers::UNKNOWN_FLAG;
+use answers::word;
 use parse::Answer;
 use parse::call::parse;
 
@@ -14,12 +21,12 @@ fn word_of(answer: Answer) -> u64
     ensures { λ r. ⌜ r ≡ parseWord answer ⌝ }
 {
     match answer {
-        Answer::Accepted => 0,
-        Answer::LongFile => 1,
-        Answer::UnknownFlag => 2,
-        Answer::InvalidUtf8 => 3,
-        Answer::AreaFull(n) => 4 + 65536 * (n as u64),
-        Answer::FaultyFile(n) => 5 + 65536 * (n as u64),
+        Answer::Accepted => word(ACCEPTED, 0, 0, 0),
+        Answer::LongFile => word(LONG_FILE, 0, 0, 0),
+        Answer::UnknownFlag => word(UNKNOWN_FLAG, 0, 0, 0),
+        Answer::InvalidUtf8 => word(INVALID_UTF8, 0, 0, 0),
+        Answer::AreaFull(n) => word(AREA_FULL, n, 0, 0),
+        Answer::FaultyFile(n) => word(FAULTY_FILE, n, 0, 0),
     }
 }
 

@@ -3,6 +3,11 @@ ghost use mathlib.Core.Path.{_≡_};
 ghost use Rattle.sheet_check.specs.SheetCheck.{sheetBytes};
 ghost use Rattle.link.specs.Link.{linkCall, linkWord};
 ghost use Rattle.troymantle.specs.LinkWords.{inLinkWords, linkInWords};
+use answers::ACCEPTED;
+use answers::AREA_FULL;
+use answers::BROKEN_MAP;
+use answers::BROKEN_SHEET;
+use answers::word;
 use link::LinkAnswer;
 use link::call::set_rule_ids_spanned;
 
@@ -10,10 +15,10 @@ fn link_word(answer: LinkAnswer) -> u64
     ensures { λ r. ⌜ r ≡ linkWord answer ⌝ }
 {
     match answer {
-        LinkAnswer::Linked(missing, idle) => 65536 * (missing as u64) + 4294967296 * (idle as u64),
-        LinkAnswer::BrokenSheet => 6,
-        LinkAnswer::BrokenMap => 7,
-        LinkAnswer::AreaFull(n) => 4 + 65536 * (n as u64),
+        LinkAnswer::Linked(unmapped, unused) => word(ACCEPTED, unmapped, unused, 0),
+        LinkAnswer::BrokenSheet => word(BROKEN_SHEET, 0, 0, 0),
+        LinkAnswer::BrokenMap => word(BROKEN_MAP, 0, 0, 0),
+        LinkAnswer::AreaFull(n) => word(AREA_FULL, n, 0, 0),
     }
 }
 

@@ -2,6 +2,9 @@
 ghost use mathlib.Core.Path.{_≡_};
 ghost use Rattle.sheet_check.specs.SheetCheck.{sheetBytes};
 ghost use Rattle.sheet_check.specs.Pattern.{patternPart, numberOf, patternWord};
+use answers::ACCEPTED;
+use answers::BROKEN_SHEET;
+use answers::word;
 use sheet_check::Located;
 use sheet_check::pattern::locate;
 use sheet_check::pattern::pattern_test;
@@ -10,10 +13,8 @@ fn located_word(part: Located) -> u64
     ensures { λ r. ⌜ r ≡ patternWord part ⌝ }
 {
     match part {
-        Located::Part(place, from, length) => {
-            65536 * (place as u64) + 4294967296 * (from as u64) + 281474976710656 * (length as u64)
-        }
-        Located::BrokenSheet => 6,
+        Located::Part(place, from, length) => word(ACCEPTED, place, from, length),
+        Located::BrokenSheet => word(BROKEN_SHEET, 0, 0, 0),
     }
 }
 

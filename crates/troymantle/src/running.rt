@@ -3,6 +3,17 @@ ghost use mathlib.Core.Path.{_≡_};
 ghost use Rattle.sheet_check.specs.SheetCheck.{sheetBytes};
 ghost use Rattle.run.specs.Run.{startCall, startWord, stepCall, stepWord};
 ghost use Rattle.troymantle.specs.RunWords.{runInWords, startInWords, stepInWords};
+use answers::ACCEPTED;
+use answers::BROKEN_RUN;
+use answers::BROKEN_SHEET;
+use answers::DONE;
+use answers::ROW_MISMATCH;
+use answers::SKIP;
+use answers::START_REFUSED;
+use answers::STOPPED;
+use answers::TOKEN;
+use answers::UNLINKED;
+use answers::word;
 use run::Begun;
 use run::Run;
 use run::Step;
@@ -13,8 +24,8 @@ fn start_word(answer: Begun) -> u64
     ensures { λ r. ⌜ r ≡ startWord answer ⌝ }
 {
     match answer {
-        Begun::Started => 0,
-        Begun::StartRefused => 8,
+        Begun::Started => word(ACCEPTED, 0, 0, 0),
+        Begun::StartRefused => word(START_REFUSED, 0, 0, 0),
     }
 }
 
@@ -22,19 +33,14 @@ fn step_word(answer: Step) -> u64
     ensures { λ r. ⌜ r ≡ stepWord answer ⌝ }
 {
     match answer {
-        Step::BrokenSheet => 6,
-        Step::BrokenRun => 9,
-        Step::RowMismatch => 10,
-        Step::Done => 256,
-        Step::Stopped => 257,
-        Step::Unlinked => 258,
-        Step::Skip => 259,
-        Step::Token(id, from, length) => {
-            260
-                + 65536 * (id as u64)
-                + 4294967296 * (from as u64)
-                + 281474976710656 * (length as u64)
-        }
+        Step::BrokenSheet => word(BROKEN_SHEET, 0, 0, 0),
+        Step::BrokenRun => word(BROKEN_RUN, 0, 0, 0),
+        Step::RowMismatch => word(ROW_MISMATCH, 0, 0, 0),
+        Step::Done => word(DONE, 0, 0, 0),
+        Step::Stopped => word(STOPPED, 0, 0, 0),
+        Step::Unlinked => word(UNLINKED, 0, 0, 0),
+        Step::Skip => word(SKIP, 0, 0, 0),
+        Step::Token(id, from, length) => word(TOKEN, id, from, length),
     }
 }
 

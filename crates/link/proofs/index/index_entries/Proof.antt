@@ -4,7 +4,8 @@ use Prim.Native.Nat.{_≤_, _-_}
 use native.Mathlib.Omega.{arith}
 use lib.ListN.{length}
 use lib.Dec.{eqb}
-use Rattle.link.specs.Map.{entryCount, entriesOf, nth, findEntry, allBelow}
+use Rattle.link.specs.Map.{entryCount, entriesOf, nth, findEntry}
+use Rattle.area.specs.Lists.{allBelow}
 use Rattle.link.specs.Index.{EntrySlots}
 use Rattle.link.proofs.Maps.{below-none, below-next}
 use Rattle.link.proofs.Slotting.{slotting-entries, slots-none, slots-set, entries-indexed}

@@ -2,7 +2,7 @@
 use mathlib.Core.Path.{_≡_}
 use Prim.Native.Nat.{_≤_, _-_}
 use Rattle.area.specs.Contents.{contents}
-use Rattle.sheet_check.specs.SheetCheck.{all}
+use Rattle.area.specs.Lists.{all}
 use Rattle.sheet_check.proofs.Judging.{all-next}
 use Rattle.link.specs.Map.{mapFormat, entryCount, nameInside}
 use Rattle.link.proofs.Maps.{reading-names}

@@ -3,7 +3,8 @@ use mathlib.Core.Path.{_≡_}
 use Prim.Native.Nat.{_≤_, _-_}
 use lib.ListN.{length}
 use Rattle.link.specs.Map.{entriesOf}
-use Rattle.link.specs.Link.{numbers, isUnmapped}
+use Rattle.link.specs.Link.{isUnmapped}
+use Rattle.area.specs.Lists.{numbers}
 use Rattle.link.proofs.Counting.{counting, unmappedAt, unmapped-is, count-yes, count-no, counted, rule-fails, rule-passes}
 use Rattle.link.proofs.numbers.count_unmapped.Statement.{statement}
 use Rattle.link.proofs.numbers.count_unmapped.Tie as tie

@@ -3,7 +3,7 @@ use mathlib.Core.Path.{_≡_}
 use Prim.Native.Nat.{_≤_, _-_}
 use lib.ListN.{length}
 use Rattle.link.specs.Map.{entryCount}
-use Rattle.link.specs.Link.{numbers}
+use Rattle.area.specs.Lists.{numbers}
 use Rattle.link.proofs.Counting.{counting, unusedAt, unused-is, count-yes, count-no, counted, entry-fails, entry-passes}
 use Rattle.link.proofs.numbers.count_unused.Statement.{statement}
 use Rattle.link.proofs.numbers.count_unused.Tie as tie

@@ -3,7 +3,7 @@ use mathlib.Core.Path.{_≡_}
 use mathlib.Core.Bool.{true, not}
 use Prim.Native.Nat.{_≤_, _-_}
 use Rattle.area.specs.Contents.{contents, ruleFormat}
-use Rattle.sheet_check.specs.SheetCheck.{all}
+use Rattle.area.specs.Lists.{all}
 use Rattle.link.specs.Map.{entriesOf, nth}
 use Rattle.link.specs.Link.{hasThatName}
 use Rattle.link.proofs.Counting.{asking-entries, unused-next}

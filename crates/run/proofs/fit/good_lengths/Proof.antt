@@ -3,7 +3,7 @@ use mathlib.Core.Path.{_≡_, refl}
 use Prim.Native.Nat.{_≤_, _-_}
 use lib.Dec.{leb}
 use Rattle.area.specs.Contents.{contents, entryFormat}
-use Rattle.sheet_check.specs.SheetCheck.{all}
+use Rattle.area.specs.Lists.{all}
 use Rattle.sheet_check.proofs.Judging.{judging, all-next}
 use Rattle.run.proofs.fit.good_lengths.Statement.{statement}
 use Rattle.run.proofs.fit.good_lengths.Tie as tie

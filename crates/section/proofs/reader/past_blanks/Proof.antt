@@ -41,8 +41,8 @@ use Rattle.text.specs.Scan.{skipBlanks}
 use Rattle.section.specs.Reader.{readerAt, moved}
 use Rattle.section.specs.declared.reader.Reader.{Reader}
 use Rattle.section.proofs.Lines.{first-between}
-use Rattle.by_hand.proofs.Walking.{parts, tokens, all, have-nothings, allocated, param, arg, release, called}
-use Rattle.by_hand.proofs.Parameters.{Params, number, slice, stays, machine, meets-by}
+use Rattle.borrow_proofs.proofs.Walking.{parts, tokens, all, have-nothings, allocated, param, arg, release, called}
+use Rattle.borrow_proofs.proofs.Parameters.{Params, number, slice, stays, machine, meets-by}
 use Rattle.section.proofs.Reading.{held, Inside}
 use Rattle.section.proofs.reader.Reader as ReaderType
 use Rattle.section.proofs.reader.Reader.Laws as ReaderLaws

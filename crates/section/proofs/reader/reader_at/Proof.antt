@@ -24,8 +24,8 @@ use denote.Triple.Spec.{tripleOf}
 use denote.Triple.Table.{entered}
 use denote.Triple.Walked.{says, Stays, walkOf, ends-at}
 use Rattle.section.specs.Reader.{readerAt}
-use Rattle.by_hand.proofs.Walking.{parts, tokens, all, have-nothings, allocated, param, release}
-use Rattle.by_hand.proofs.Parameters.{Params, number, slice, stays, machine, meets-by}
+use Rattle.borrow_proofs.proofs.Walking.{parts, tokens, all, have-nothings, allocated, param, release}
+use Rattle.borrow_proofs.proofs.Parameters.{Params, number, slice, stays, machine, meets-by}
 use Rattle.section.proofs.Reading.{held}
 use Rattle.section.proofs.reader.Reader as ReaderType
 use Rattle.section.proofs.reader.Reader.Laws as ReaderLaws

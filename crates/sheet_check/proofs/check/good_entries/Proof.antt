@@ -2,7 +2,8 @@
 use mathlib.Core.Path.{_≡_, refl}
 use Prim.Native.Nat.{_≤_, _-_}
 use Rattle.area.specs.Contents.{contents, entryFormat}
-use Rattle.sheet_check.specs.SheetCheck.{all, declared}
+use Rattle.sheet_check.specs.SheetCheck.{declared}
+use Rattle.area.specs.Lists.{all}
 use Rattle.sheet_check.proofs.Judging.{judging, all-next}
 use Rattle.sheet_check.proofs.check.good_entries.Statement.{statement}
 use Rattle.sheet_check.proofs.check.good_entries.Tie as tie

@@ -37,9 +37,9 @@ use denote.Triple.Walked.{says, Stays, walkOf, ends-at}
 use Rattle.run.specs.Run.{startLeft, startCall, startWord}
 use Rattle.run.specs.declared.Run.{Run}
 use Rattle.run.specs.declared.Begun.{Begun}
-use Rattle.by_hand.proofs.Walking.{parts, tokens, nothings, all, allocated, param, arg, release, called}
-use Rattle.by_hand.proofs.Lending.{but, with, taken-out, put-in}
-use Rattle.by_hand.proofs.Parameters.{Params, number, given, given-slice, stays, machine, meets-by}
+use Rattle.borrow_proofs.proofs.Walking.{parts, tokens, nothings, all, allocated, param, arg, release, called}
+use Rattle.borrow_proofs.proofs.Lending.{but, with, taken-out, put-in}
+use Rattle.borrow_proofs.proofs.Parameters.{Params, number, given, given-slice, stays, machine, meets-by}
 use Rattle.run.proofs.Run as RunType
 use Rattle.run.proofs.Begun as AnswerType
 use Rattle.run.proofs.Begun.Laws as AnswerLaws

@@ -39,9 +39,9 @@ use Rattle.sheet_check.specs.SheetCheck.{sheetBytes}
 use Rattle.run.specs.Run.{stepLeft, stepCall, stepWord}
 use Rattle.run.specs.declared.Run.{Run}
 use Rattle.run.specs.declared.Step.{Step}
-use Rattle.by_hand.proofs.Walking.{parts, tokens, nothings, all, allocated, param, arg, release, called}
-use Rattle.by_hand.proofs.Lending.{but, with, taken-out, put-in}
-use Rattle.by_hand.proofs.Parameters.{Params, slice, shared, given, given-slice, stays, machine, meets-by}
+use Rattle.borrow_proofs.proofs.Walking.{parts, tokens, nothings, all, allocated, param, arg, release, called}
+use Rattle.borrow_proofs.proofs.Lending.{but, with, taken-out, put-in}
+use Rattle.borrow_proofs.proofs.Parameters.{Params, slice, shared, given, given-slice, stays, machine, meets-by}
 use Rattle.run.proofs.Run as RunType
 use Rattle.run.proofs.Step as AnswerType
 use Rattle.run.proofs.Step.Laws as AnswerLaws

@@ -1,0 +1,25 @@
+-- The values of the parse call's answers have two bytes: a full area is one of the six, and no fault list passes its limit.
+use Prim.Native.Nat.{ℕ}
+use mathlib.Core.List.{List}
+use native.Mathlib.Omega.{arith}
+use lib.ListN.{length}
+use Rattle.answers.specs.Words.{TwoBytes}
+use Rattle.answers.proofs.Words.{two-bytes, no-values}
+use Rattle.parse.specs.Parse.{Caps, Outcome, longFile, unknownFlag, invalidUtf8, areaFull, faulty, accepted, outcome, leaves, parseCall, parseFields}
+use Rattle.parsed_sheet.proofs.Growing.{Settled, larger, limits-wide}
+use Rattle.parsed_sheet.specs.Meaning.{limits}
+use Rattle.parsed_sheet.proofs.Bounds.{Bounded, outcome-bounded}
+
+outcome-small : (s : List ℕ) (k : Caps) (o p : Outcome) → Settled o p → Bounded s (k .c6) o → TwoBytes (parseFields (leaves k o .answer))
+unfolding leaves parseFields
+outcome-small s k longFile p h b = no-values 1 (omega arith)
+outcome-small s k unknownFlag p h b = no-values 2 (omega arith)
+outcome-small s k invalidUtf8 p h b = no-values 3 (omega arith)
+outcome-small s k (areaFull n) p h b = two-bytes 4 n 0 0 (omega arith) (omega (arith, h .kept)) (omega arith) (omega arith)
+outcome-small s k (faulty fs) p h b = two-bytes 5 (length fs) 0 0 (omega arith) (omega (arith, b .few)) (omega arith) (omega arith)
+outcome-small s k (accepted c) p h b = no-values 0 (omega arith)
+
+pub parse-small : (s : List ℕ) (flags : ℕ) (verdicts : List ℕ) (k : Caps) → TwoBytes (parseFields (parseCall s flags verdicts k .answer))
+unfolding parseCall
+parse-small s flags verdicts k =
+    outcome-small s k (outcome s flags verdicts k) (outcome s flags verdicts limits) (larger k limits (limits-wide k) s flags verdicts) (outcome-bounded s flags verdicts k)

@@ -1,0 +1,260 @@
+-- What the rules section keeps: each rule's ranges lie within the source, the list entries and the rewritten text so far, which only grow; its id is
+-- its position; each entry and each target is a declared state; and no two rules have the same name.
+use Prim.Native.Nat.{ℕ, _+_, _-_, _≤_, _<_}
+use mathlib.Core.Path.{_≡_, refl, sym}
+use mathlib.Core.Bool.{Bool, true, false, cond}
+use mathlib.Core.List.{List, [], _∷_, _++_}
+use mathlib.Core.Option.{Option, none, some}
+use native.Mathlib.Nat.{le-refl}
+use native.Mathlib.Omega.{arith}
+use borrow.Author.Tests.{leb-false}
+use lib.Dec.{eqb, leb}
+use lib.ListN.{length, length-append, List·getD-append}
+use lib.Seq.{getD-append-seam}
+use Rattle.text.specs.Whitespace.{atWhitespace, atLineEnd}
+use Rattle.text.specs.Scan.{lineEnd, trimEnd, trimEndUnescaped}
+use Rattle.text.proofs.Tests.{by-test}
+use Rattle.text.proofs.Walks.{first-from, first-to}
+use Rattle.area.specs.declared.State.{State}
+use Rattle.area.specs.declared.Rule.{Rule}
+use Rattle.area.specs.declared.Fault.{Fault}
+use Rattle.area.specs.Records.{nthRule, ruleOf}
+use Rattle.area.specs.Contents.{append, ruleFormat, entryFormat, textFormat}
+use Rattle.fault.specs.Step.{Out, go, bad, next, onto, written}
+use Rattle.fault.specs.Faults.{addFault, addRepeat, UnknownStartState, DuplicateName, RegexError, RoutinesNotSupported, VerbatimNotSupported}
+use Rattle.names.specs.Names.{nameOf}
+use Rattle.escape.specs.Escape.{unescaped}
+use Rattle.section.specs.Section.{toRule, inSection, hasRoutines}
+use Rattle.rules.specs.declared.Head.{Head}
+use Rattle.rules.specs.declared.Heading.{Heading}
+use Rattle.rules.specs.declared.Heading.the-variants.{Faulty, Repeated, Fresh}
+use Rattle.rules.specs.Heading.{headingOf}
+use Rattle.rules.specs.Rules.{Sheet, Caps, sheet, entryEnd, entryId, nextEntry, entries, refuses, Text, StateList, recordRule, sourceText, textSince, noList, listSince, withRule, listedRule, rewrittenRule, pattern, Ruled, sheetOf, withSheet, withFaults, ruleAs, rule, line, nextRule, rules, routines, rulesSection}
+use Rattle.rules.specs.Rules as R
+use Rattle.rules.proofs.Heads.{fresh-from, fresh-to}
+use Rattle.rules.proofs.Patterns.{pattern-cases}
+use Rattle.area.specs.Lists.{all}
+use Rattle.parsed_sheet.specs.Accepted.{Fits, RuleHolds, EntryHolds, NamesDiffer, RulesHold, EntriesHold, TextHolds, isByte}
+use Rattle.fault.proofs.Yielding.{Yields, yields-next, yields-onto, yields-loop}
+use Rattle.parsed_sheet.proofs.Appending.{yields-append}
+use Rattle.parsed_sheet.proofs.Elements.{each-snoc, each-weaken, place-cases}
+use Rattle.parsed_sheet.proofs.Places.{rule-to, pattern-to}
+use Rattle.parsed_sheet.proofs.ByteLists.{all-append, unescaped-bytes}
+use Rattle.parsed_sheet.proofs.Headings.{Unused, HeadHolds, heading-holds}
+
+-- ---- a rule more, and more entries and text behind the rules
+
+module _ (s : List ℕ) (rs : List Rule) (x : Rule) where
+  earlier : (j : ℕ) → j < length rs → nthRule (rs ++ (x ∷ [])) j ≡ nthRule rs j
+  earlier j h = List·getD-append rs (x ∷ []) (ruleOf (λ _. 0)) j h
+
+  newest : nthRule (rs ++ (x ∷ [])) (length rs) ≡ x
+  newest = getD-append-seam rs x [] (ruleOf (λ _. 0))
+
+  differ-more : NamesDiffer s rs → Unused s rs (x .named) (x .«name_from») (x .«name_length») → NamesDiffer s (rs ++ (x ∷ []))
+  unfolding nameOf
+  differ-more d u = record {
+    differ = λ i j h l. place-cases x rs j l (λ g. rw (earlier i (omega arith), earlier j g) (d .differ i j h g)) (λ q. rw (earlier i (omega arith), q, newest) (u .unused i (omega arith)));
+  }
+
+module _ (s : List ℕ) (m a b cap : ℕ) (rs : List Rule) where
+  rules-more : (x : Rule) → RulesHold s m a b cap rs → RuleHolds (length s) m a b (length rs) x → Unused s rs (x .named) (x .«name_from») (x .«name_length») → Fits ruleFormat cap (rs ++ (x ∷ [])) → RulesHold s m a b cap (rs ++ (x ∷ []))
+  rules-more x h g u f = record {
+    each = each-snoc (RuleHolds (length s) m a b) (ruleOf (λ _. 0)) rs x (h .each) g;
+    differ = differ-more s rs x (h .differ) u;
+    fits = f;
+  }
+
+  wider : (t : Bool) (n c d : ℕ) → c ≤ d → cond t c n ≤ cond t d n
+  wider true n c d h = h
+  wider false n c d h = le-refl n
+
+  rules-weaken : (a′ b′ : ℕ) → a ≤ a′ → b ≤ b′ → RulesHold s m a b cap rs → RulesHold s m a′ b′ cap rs
+  rules-weaken a′ b′ ha hb h = record {
+    each = each-weaken (RuleHolds (length s) m a b) (ruleOf (λ _. 0)) rs (RuleHolds (length s) m a′ b′) more (h .each);
+    differ = h .differ;
+    fits = h .fits;
+  }
+    where
+      more : (j : ℕ) (x : Rule) → j < length rs → RuleHolds (length s) m a b j x → RuleHolds (length s) m a′ b′ j x
+      more j x _ g = record {
+        hasId = g .hasId;
+        id = g .id;
+        named = g .named;
+        place = g .place;
+        ordered = g .ordered;
+        inside = g .inside;
+        name = g .name;
+        text = omega (arith, g .text, wider (eqb (x .place) 1) (length s) b b′ hb);
+        list = omega (arith, g .list);
+        operation = g .operation;
+        target = g .target;
+      }
+
+-- ---- the list of states
+
+-- the entries hold, and there are no fewer than n of them
+record EntriesFrom (n m cap : ℕ) (ids : List ℕ) : Type 0 where
+  longer : n ≤ length ids
+  hold : EntriesHold m cap ids
+
+module _ (s : List ℕ) (c3 n : ℕ) (xs : List State) where
+  abbrev Listing : ℕ → List ℕ → Type 0
+  Listing i ids = EntriesFrom n (length xs) c3 ids
+
+  entry-kept : (i g a : ℕ) (ids : List ℕ) → Listing a ids → Yields Listing (nextEntry s c3 xs i g a ids)
+  unfolding nextEntry
+  entry-kept i g a ids h =
+      let e = entryEnd s g a in
+      let j = entryId s xs a e in
+      by-test (Yields Listing) (leb (length xs) j) (bad UnknownStartState i ids) (written 3 (e + 1) (append entryFormat c3 (j ∷ []) ids)) (λ _. tt)
+      (λ q. yields-append Listing entryFormat c3 3 (e + 1) (j ∷ []) ids
+      (λ f. record {
+        longer = omega (arith, h .longer, length-append ids (j ∷ []));
+        hold = record { each = each-snoc (EntryHolds (length xs)) 0 ids j (h .hold .each) (leb-false (length xs) j q); fits = f };
+      }))
+
+  entries-kept : (i g : ℕ) (ids : List ℕ) → Listing 0 ids → Yields Listing (entries s c3 xs i g ids)
+  unfolding entries
+  entries-kept i g ids h =
+      yields-loop Listing (λ a. leb a g) (nextEntry s c3 xs i g) (λ a ys _ k. entry-kept i g a ys k) (length s) (i + 1) ids h
+
+-- ---- the record
+
+-- what holds of the rules, list entries and text, beside m states
+pub record SheetHolds (s : List ℕ) (m : ℕ) (k : Caps) (w : Sheet) : Type 0 where
+  pub rules : RulesHold s m (length (w .lists)) (length (w .text)) (k .c2) (w .rules)
+  pub lists : EntriesHold m (k .c3) (w .lists)
+  pub text : TextHolds (k .c4) (w .text)
+
+module _ (s : List ℕ) (m a b : ℕ) where
+  record-kept : (verdicts : List ℕ) (c2 i e : ℕ) (x : Rule) (rs : List Rule) → RulesHold s m a b c2 rs → RuleHolds (length s) m a b (length rs) x
+      → Unused s rs (x .named) (x .«name_from») (x .«name_length») → Yields (λ _ ys. RulesHold s m a b c2 ys) (recordRule verdicts c2 i e x rs)
+  unfolding recordRule
+  record-kept verdicts c2 i e x rs h g u =
+      by-test (Yields (λ _ ys. RulesHold s m a b c2 ys)) (refuses verdicts (length rs)) (bad RegexError i rs) (written 2 e (append ruleFormat c2 (x ∷ []) rs)) (λ _. tt)
+      (λ _. yields-append (λ _ ys. RulesHold s m a b c2 ys) ruleFormat c2 2 e (x ∷ []) rs (rules-more s m a b c2 rs x h g u))
+
+  -- the record of a heading, with its text and its list
+  rule-of : (rs : List Rule) (h : Head) → HeadHolds s m rs h → (x : Text) (y : StateList) → x .place ≤ 1 → x .from + x .length ≤ cond (eqb (x .place) 1) b (length s) → y .from + y .count ≤ a
+      → RuleHolds (length s) m a b (length rs) (R.ruleOf h (length rs) x y)
+  rule-of rs h g x y p t l = record {
+    hasId = refl;
+    id = refl;
+    named = g .named;
+    place = p;
+    ordered = g .ordered;
+    inside = g .inside;
+    name = g .name;
+    text = t;
+    list = l;
+    operation = g .operation;
+    target = g .target;
+  }
+
+module _ (s : List ℕ) (flags : ℕ) (verdicts : List ℕ) (xs : List State) (k : Caps) (i e : ℕ) where
+  abbrev Sheets : ℕ → Sheet → Type 0
+  Sheets j w = SheetHolds s (length xs) k w
+
+  module _ (w : Sheet) (holds : SheetHolds s (length xs) k w) (h : Head) (head : HeadHolds s (length xs) (w .rules) h) (c : ℕ) (cl : c ≤ length s) where
+    -- the rule of a text and a list, behind list entries and text that hold and are no fewer
+    with-kept : (x : Text) (y : StateList) (ids t : List ℕ) → x .place ≤ 1 → x .from + x .length ≤ cond (eqb (x .place) 1) (length t) (length s) → y .from + y .count ≤ length ids
+        → EntriesFrom (length (w .lists)) (length xs) (k .c3) ids → length (w .text) ≤ length t → TextHolds (k .c4) t
+        → Yields Sheets (withRule s flags verdicts xs k i e h c x y (sheet (w .rules) ids t))
+    unfolding withRule
+    with-kept x y ids t px tx ly g longer holds-text =
+        let a = length ids in
+        let b = length t in
+        let z = R.ruleOf h (length (w .rules)) x y in
+        yields-onto (λ _ rs. RulesHold s (length xs) a b (k .c2) rs) Sheets (λ rs. sheet rs ids t) (recordRule verdicts (k .c2) i e z (w .rules))
+        (record-kept s (length xs) a b verdicts (k .c2) i e z (w .rules)
+        (rules-weaken s (length xs) (length (w .lists)) (length (w .text)) (k .c2) (w .rules) a b (g .longer) longer (holds .rules))
+        (rule-of s (length xs) a b (w .rules) h head x y px tx ly) (head .unused))
+        (λ _ rs r. record { rules = r; lists = g .hold; text = holds-text })
+
+    same-entries : EntriesFrom (length (w .lists)) (length xs) (k .c3) (w .lists)
+    same-entries = record { longer = le-refl (length (w .lists)); hold = holds .lists }
+
+    -- the rule follows a step that writes list entries, or text
+    then-kept : (P : ℕ → List ℕ → Type 0) (f : List ℕ → Sheet) (o : Out (List ℕ)) (g : ℕ → Sheet → Out Sheet) → Yields P o → ((j : ℕ) (ys : List ℕ) → P j ys → Yields Sheets (g j (f ys)))
+        → Yields Sheets (next (onto f o) g)
+    then-kept P f o g h then =
+        yields-next (λ j v. Yields Sheets (g j v)) Sheets (onto f o) g (yields-onto P (λ j v. Yields Sheets (g j v)) f o h then) (λ _ _ y. y)
+
+    listed-kept : (g : ℕ) → g < c → Yields Sheets (listedRule s flags verdicts xs k i e h c g w)
+    unfolding listedRule
+    listed-kept g gc =
+        then-kept (λ _ ids. EntriesFrom (length (w .lists)) (length xs) (k .c3) ids) (λ ids. sheet (w .rules) ids (w .text)) (entries s (k .c3) xs i g (w .lists))
+        (λ _ v. withRule s flags verdicts xs k i e h c (sourceText (g + 1) c) (listSince w v) v) (entries-kept s (k .c3) (length (w .lists)) xs i g (w .lists) same-entries)
+        (λ _ ids f. with-kept (sourceText (g + 1) c) (listSince w (sheet (w .rules) ids (w .text))) ids (w .text) (omega arith) (omega arith) (omega (arith, f .longer)) f (le-refl (length (w .text))) (holds .text))
+
+    rewritten-kept : all isByte s ≡ true → Yields Sheets (rewrittenRule s flags verdicts xs k i e h c w)
+    unfolding rewrittenRule
+    rewritten-kept source =
+        let u = unescaped s flags i c in
+        then-kept (λ _ t. (length (w .text) ≤ length t) × TextHolds (k .c4) t) (λ t. sheet (w .rules) (w .lists) t) (written 4 e (append textFormat (k .c4) u (w .text)))
+        (λ _ v. withRule s flags verdicts xs k i e h c (textSince w v) (noList w) v)
+        (yields-append (λ _ t. (length (w .text) ≤ length t) × TextHolds (k .c4) t) textFormat (k .c4) 4 e u (w .text)
+        (λ f. (omega (arith, length-append (w .text) u), record { bytes = all-append isByte (w .text) u (holds .text .bytes) (unescaped-bytes s flags c source i); fits = f })))
+        (λ _ t f. with-kept (textSince w (sheet (w .rules) (w .lists) t)) (noList w) (w .lists) t (omega arith) (omega (arith, f .0)) (omega arith) same-entries (f .0) (f .1))
+
+    pattern-kept : all isByte s ≡ true → i ≤ length s → Yields Sheets (pattern s flags verdicts xs k i e h c w)
+    pattern-kept source il =
+        pattern-cases s flags verdicts xs k i e h c w (Yields Sheets) tt (λ g _ gc. listed-kept g gc) (rewritten-kept source)
+        (with-kept (sourceText i c) (noList w) (w .lists) (w .text) (omega arith) (omega arith) (omega arith) same-entries (le-refl (length (w .text))) (holds .text))
+
+-- ---- a line, and the section
+
+module _ (s : List ℕ) (flags : ℕ) (verdicts : List ℕ) (xs : List State) (stated : 0 < length xs) (source : all isByte s ≡ true) (k : Caps) (c6 : ℕ) where
+  abbrev Lined : ℕ → Ruled → Type 0
+  Lined i r = SheetHolds s (length xs) k (sheetOf r)
+
+  -- a step that writes faults only
+  faults-kept : (e : ℕ) (r : Ruled) (o : Option (List Fault)) → Lined e r → Yields Lined (onto (withFaults r) (written 6 e o))
+  faults-kept e r none h = tt
+  faults-kept e r (some fs) h = h
+
+  as-kept : (i e : ℕ) → i ≤ e → e ≤ length s → (r : Ruled) → Lined i r → (x : Heading) → headingOf s i (trimEnd s i e) xs (r .rules) ≡ x → Yields Lined (ruleAs s flags verdicts xs k c6 i e x r)
+  unfolding ruleAs trimEnd
+  as-kept i e a l r h (Faulty kind at) q = tt
+  as-kept i e a l r h (Repeated c d b z) q = faults-kept e r (addRepeat c6 DuplicateName c d b z (r .faults)) h
+  as-kept i e a l r h (Fresh b hd) q =
+      let t = trimEnd s i e in
+      let tl : t ≤ e = first-to _ i e a in
+      let bi : i ≤ b = fresh-from s i t xs (r .rules) (Fresh b hd) (sym q) b hd refl in
+      let bt : b < t = fresh-to s i t xs (r .rules) (Fresh b hd) (sym q) b hd refl in
+      let c = trimEndUnescaped s i b in
+      yields-onto (Sheets s flags verdicts xs k i e) Lined (withSheet r) (pattern s flags verdicts xs k i e hd c (sheetOf r))
+      (pattern-kept s flags verdicts xs k i e (sheetOf r) h hd (heading-holds s xs stated (r .rules) i t (omega arith) b hd q) c (pattern-to s i b bi (omega arith)) source (omega arith))
+      (λ _ w g. g)
+
+  line-kept : (i e : ℕ) → i ≤ e → e ≤ length s → (r : Ruled) → Lined i r → Yields Lined (line s flags verdicts xs k c6 i e r)
+  unfolding line rule
+  line-kept i e a l r h =
+      by-test (Yields Lined) (atWhitespace s i) (onto (withFaults r) (written 6 e (addFault c6 VerbatimNotSupported i e (r .faults)))) (rule s flags verdicts xs k c6 i e r)
+      (λ _. faults-kept e r (addFault c6 VerbatimNotSupported i e (r .faults)) h)
+      (λ _. as-kept i e a l r h (headingOf s i (trimEnd s i e) xs (r .rules)) refl)
+
+  -- between two lines, and at the section's end, the place is within the source
+  abbrev Placed : ℕ → Ruled → Type 0
+  Placed i r = (i ≤ length s) × SheetHolds s (length xs) k (sheetOf r)
+
+  rule-kept : (i : ℕ) (r : Ruled) → Placed i r → Yields Placed (nextRule s flags verdicts xs k c6 i r)
+  unfolding nextRule
+  rule-kept i r h =
+      let e = lineEnd s i in
+      let l : e ≤ length s = first-to (atLineEnd s) i (length s) (h .0) in
+      yields-next Lined Placed (line s flags verdicts xs k c6 i e r) (λ _ t. go (toRule s flags e) t) (line-kept i e (first-from (atLineEnd s) i (length s)) l r (h .1))
+      (λ _ t g. (rule-to s flags e l, g))
+
+  routines-kept : (i : ℕ) (r : Ruled) → Placed i r → Yields Lined (routines s i r)
+  unfolding routines
+  routines-kept i r h = by-test (Yields Lined) (hasRoutines s i) (bad RoutinesNotSupported i r) (go i r) (λ _. tt) (λ _. h .1)
+
+  -- the section keeps what holds at its start
+  pub rules-hold : (i : ℕ) (r : Ruled) → i ≤ length s → SheetHolds s (length xs) k (sheetOf r) → Yields (λ _ t. SheetHolds s (length xs) k (sheetOf t)) (rulesSection s flags verdicts xs k c6 i r)
+  unfolding rulesSection rules
+  rules-hold i r l h =
+      yields-next Placed Lined (rules s flags verdicts xs k c6 i r) (routines s)
+      (yields-loop Placed (inSection s) (nextRule s flags verdicts xs k c6) (λ j t _ g. rule-kept j t g) (length s) (toRule s flags i) r (rule-to s flags i l, h))
+      routines-kept
