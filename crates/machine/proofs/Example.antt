@@ -41,7 +41,7 @@ use Rattle.run.specs.declared.Run.{Run}
 use Rattle.run.specs.declared.Step.{Step}
 use Rattle.run.specs.declared.Step.the-variants.{RowMismatch, Done, Stopped, Skip, Token}
 use Rattle.run.specs.Run.{goodStart, startCall, startFields}
-use Rattle.machine.specs.File.{FileRule, operationBy, nameFrom, mapOf, fileOf}
+use Rattle.machine.specs.File.{FileRule, operationBy, nameAt, nameFrom, mapOf, fileOf}
 use Rattle.machine.specs.Machine.{Given, Input, Machine, fresh, lengths, noneAbove, fits, has, isEmpty, isLive, before, winnerOf, idIn, operate, move, token, wins, chooses, step}
 use Rattle.machine.specs.Means.{EntryOf}
 use Rattle.machine.specs.Demand.{Demand, Session, startLeftOf, sessionFile, sessionMap, given, MapHolds, Accepts, sessionCalls, DEMAND}
@@ -169,7 +169,7 @@ unfolding goodStart startCall
 run-computes = tt
 
 unfoldable machine-computes : Unit {0}
-unfolding operationBy nameFrom mapOf fileOf lengths noneAbove fits has isEmpty isLive before winnerOf idIn operate move token wins chooses step answers
+unfolding operationBy nameAt nameFrom mapOf fileOf lengths noneAbove fits has isEmpty isLive before winnerOf idIn operate move token wins chooses step answers
 machine-computes = tt
 
 -- all of it
