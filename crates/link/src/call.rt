@@ -7,6 +7,7 @@ ghost use Rattle.area.specs.Records.{ruleWidth, mostRules};
 ghost use Rattle.area.specs.Contents.{contents, ruleFormat};
 ghost use Rattle.sheet_check.specs.SheetCheck.{sheetBytes};
 ghost use Rattle.link.specs.declared.LinkAnswer.the-variants.{Linked};
+ghost use Rattle.names.specs.Names.{nameOf};
 ghost use Rattle.link.specs.Map.{mostEntries, entryCount, entriesOf};
 ghost use Rattle.link.specs.Index.{EntryIndex, RuleSlots};
 ghost use Rattle.link.specs.Link.{unmapped, unused, fits, linkLeft, linkAll, linkChecked, linkCall};
@@ -45,10 +46,10 @@ fn write_all(
     requires { ⌜ (rules ≤ mostRules) × (rules * ruleWidth ≤ length (now area2)) ⌝ }
     requires { ⌜ entryCount (now entries) ≤ mostEntries ⌝ }
     requires { ⌜ EntryIndex (now names) (now entries) (now «entry_slots») ⌝ }
-    requires { ⌜ RuleSlots (now src) (now area2) rules rules (now «rule_slots») ⌝ }
-    requires { ⌜ fits (unmapped (now src) (entriesOf (now names) (now entries)) (contents ruleFormat (now area2) rules)) (now area7) ≡ true ⌝ }
-    requires { ⌜ fits (unused (now src) (entriesOf (now names) (now entries)) (contents ruleFormat (now area2) rules)) (now area8) ≡ true ⌝ }
-    ensures { λ r. ⌜ linkLeft r (now (area2 .exit)) (now (area7 .exit)) (now (area8 .exit)) ≡ linkAll (Linked missing idle) (now (src .entry)) (contents ruleFormat (now (area2 .entry)) rules) (entriesOf (now (names .entry)) (now (entries .entry))) (now (area2 .entry)) (now (area7 .entry)) (now (area8 .entry)) ⌝ }
+    requires { ⌜ RuleSlots (nameOf (now src)) (now area2) rules rules (now «rule_slots») ⌝ }
+    requires { ⌜ fits (unmapped (nameOf (now src)) (entriesOf (now names) (now entries)) (contents ruleFormat (now area2) rules)) (now area7) ≡ true ⌝ }
+    requires { ⌜ fits (unused (nameOf (now src)) (entriesOf (now names) (now entries)) (contents ruleFormat (now area2) rules)) (now area8) ≡ true ⌝ }
+    ensures { λ r. ⌜ linkLeft r (now (area2 .exit)) (now (area7 .exit)) (now (area8 .exit)) ≡ linkAll (nameOf (now (src .entry))) (Linked missing idle) (contents ruleFormat (now (area2 .entry)) rules) (entriesOf (now (names .entry)) (now (entries .entry))) (now (area2 .entry)) (now (area7 .entry)) (now (area8 .entry)) ⌝ }
 {
     clear(area8);
     write_unused(src, area2, rules, rule_slots, names, entries, area8);
@@ -72,7 +73,7 @@ fn link_checked(
     requires { ⌜ EntryIndex (now names) (now entries) (now «entry_slots») ⌝ }
     requires { ⌜ (rules ≤ mostRules) × (rules * ruleWidth ≤ length (now area2)) ⌝ }
     requires { ⌜ entryCount (now entries) ≤ mostEntries ⌝ }
-    ensures { λ r. ⌜ linkLeft r (now (area2 .exit)) (now (area7 .exit)) (now (area8 .exit)) ≡ linkChecked (now (src .entry)) (contents ruleFormat (now (area2 .entry)) rules) (entriesOf (now (names .entry)) (now (entries .entry))) (now (area2 .entry)) (now (area7 .entry)) (now (area8 .entry)) ⌝ }
+    ensures { λ r. ⌜ linkLeft r (now (area2 .exit)) (now (area7 .exit)) (now (area8 .exit)) ≡ linkChecked (nameOf (now (src .entry))) (contents ruleFormat (now (area2 .entry)) rules) (entriesOf (now (names .entry)) (now (entries .entry))) (now (area2 .entry)) (now (area7 .entry)) (now (area8 .entry)) ⌝ }
 {
     let missing = count_unmapped(src, area2, rules, names, entries, entry_slots);
     if area7.len() < missing as usize * NUMBER_WIDTH {

@@ -162,7 +162,7 @@ fn rule_slot(src: &[u8], x: Rule) -> usize
 pub fn index_rules(src: &[u8], area: &[u8], count: u16, slots: &mut [u16])
     requires { ⌜ count * ruleWidth ≤ length (now area) ⌝ }
     requires { ⌜ now slots ≡ replicate slotCount 0 ⌝ }
-    ensures { λ _. ⌜ RuleSlots (now (src .entry)) (now (area .entry)) count count (now (slots .exit)) ⌝ }
+    ensures { λ _. ⌜ RuleSlots (nameOf (now (src .entry))) (now (area .entry)) count count (now (slots .exit)) ⌝ }
 {
     let mut k = 0;
     while k < count {
@@ -187,9 +187,9 @@ pub fn is_unused_by(
     j: usize,
 ) -> bool
     requires { ⌜ count * ruleWidth ≤ length (now area) ⌝ }
-    requires { ⌜ RuleSlots (now src) (now area) count count (now slots) ⌝ }
+    requires { ⌜ RuleSlots (nameOf (now src)) (now area) count count (now slots) ⌝ }
     requires { ⌜ j < entryCount (now entries) ⌝ }
-    ensures { λ r. ⌜ r ≡ isUnused (now (src .entry)) (contents ruleFormat (now (area .entry)) count) (nth (entriesOf (now (names .entry)) (now (entries .entry))) j .name) ⌝ }
+    ensures { λ r. ⌜ r ≡ isUnused (nameOf (now (src .entry))) (contents ruleFormat (now (area .entry)) count) (nth (entriesOf (now (names .entry)) (now (entries .entry))) j .name) ⌝ }
 {
     let at = entry_slot(names, entries, j);
     let number = read_slot(slots, at);

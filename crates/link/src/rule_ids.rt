@@ -43,7 +43,7 @@ fn with_id(x: Rule, has: u16, id: u16) -> Rule
 
 fn link_rule(src: &[u8], names: &[u8], entries: &[u8], slots: &[u16], x: Rule) -> Rule
     requires { ⌜ EntryIndex (now names) (now entries) (now slots) ⌝ }
-    ensures { λ r. ⌜ r ≡ linkRule (now (src .entry)) (entriesOf (now (names .entry)) (now (entries .entry))) x ⌝ }
+    ensures { λ r. ⌜ r ≡ linkRule (nameOf (now (src .entry))) (entriesOf (now (names .entry)) (now (entries .entry))) x ⌝ }
 {
     if x.named != 1 {
         return x;
@@ -67,7 +67,7 @@ pub fn link_rules(
 )
     requires { ⌜ EntryIndex (now names) (now entries) (now slots) ⌝ }
     requires { ⌜ (count ≤ mostRules) × (count * ruleWidth ≤ length (now area)) ⌝ }
-    ensures { λ _. ⌜ now (area .exit) ≡ relaid ruleFormat (now (area .entry)) (linkRules (now (src .entry)) (entriesOf (now (names .entry)) (now (entries .entry))) (contents ruleFormat (now (area .entry)) count)) ⌝ }
+    ensures { λ _. ⌜ now (area .exit) ≡ relaid ruleFormat (now (area .entry)) (linkRules (nameOf (now (src .entry))) (entriesOf (now (names .entry)) (now (entries .entry))) (contents ruleFormat (now (area .entry)) count)) ⌝ }
 {
     let mut k = 0;
     while k < count {

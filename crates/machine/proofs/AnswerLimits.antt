@@ -20,7 +20,7 @@ use Rattle.answers.proofs.Words.{two-bytes, no-values}
 use Rattle.area.proofs.Fields.{field-small}
 use Rattle.sheet_check.specs.declared.Located.{Located}
 use Rattle.sheet_check.specs.declared.Located.the-variants as C
-use Rattle.sheet_check.specs.SheetCheck.{SheetBytes, decoded, declared, sheetCheck}
+use Rattle.sheet_check.specs.SheetCheck.{SheetBytes, nameIn, decoded, declared, sheetCheck}
 use Rattle.area.specs.Lists.{all, numbers}
 use Rattle.sheet_check.specs.Pattern.{hasRule, partOf, patternPart, patternFields}
 use Rattle.sheet_check.proofs.Judging.{contents-count}
@@ -86,20 +86,20 @@ numbers-few test (suc n) = omega (arith, length-append (numbers test n) (cond (t
 abbrev LinkSmall : LinkLeft → Type 0
 LinkSmall x = TwoBytes (linkFields (x .answer))
 
-module _ (s : List ℕ) (xs : List Rule) (es : List Entry) (x2 x7 x8 : List ℕ) (few-rules : length xs ≤ 2048) (few-entries : length es ≤ 2048) where
-  few-unmapped : length (unmapped s es xs) ≤ length xs
+module _ (name : Rule → List ℕ) (xs : List Rule) (es : List Entry) (x2 x7 x8 : List ℕ) (few-rules : length xs ≤ 2048) (few-entries : length es ≤ 2048) where
+  few-unmapped : length (unmapped name es xs) ≤ length xs
   unfolding unmapped
-  few-unmapped = numbers-few (λ k. isUnmapped s es (nthRule xs k)) (length xs)
+  few-unmapped = numbers-few (λ k. isUnmapped name es (nthRule xs k)) (length xs)
 
-  few-unused : length (unused s es xs) ≤ length es
+  few-unused : length (unused name es xs) ≤ length es
   unfolding unused
-  few-unused = numbers-few (λ j. isUnused s xs (nth es j .name)) (length es)
+  few-unused = numbers-few (λ j. isUnused name xs (nth es j .name)) (length es)
 
-  checked-small : LinkSmall (linkChecked s xs es x2 x7 x8)
+  checked-small : LinkSmall (linkChecked name xs es x2 x7 x8)
   unfolding linkChecked linkAll linkFields
   checked-small =
-      by-test LinkSmall (L.fits (unmapped s es xs) x7) _ _
-      (λ _. by-test LinkSmall (L.fits (unused s es xs) x8) _ _
+      by-test LinkSmall (L.fits (unmapped name es xs) x7) _ _
+      (λ _. by-test LinkSmall (L.fits (unused name es xs) x8) _ _
       (λ _. two-bytes 0 _ _ 0 (omega arith) (omega (arith, few-unmapped, few-rules)) (omega (arith, few-unused, few-entries)) (omega arith))
       (λ _. two-bytes 4 8 0 0 (omega arith) (omega arith) (omega arith) (omega arith)))
       (λ _. two-bytes 4 7 0 0 (omega arith) (omega arith) (omega arith) (omega arith))
@@ -118,7 +118,7 @@ unfolding linkCall linkFields
 link-small b names entries x7 x8 =
     by-test LinkSmall (sheetCheck b) _ _
     (λ passed. by-test LinkSmall (mapCheck names entries) _ _
-    (λ good. checked-small (b .source) (decoded b .rules) (entriesOf names entries) (b .area2) x7 x8 (checked-contents b passed .few-rules) (few-mapped names entries good))
+    (λ good. checked-small (nameIn b) (decoded b .rules) (entriesOf names entries) (b .area2) x7 x8 (checked-contents b passed .few-rules) (few-mapped names entries good))
     (λ _. no-values 7 (omega arith)))
     (λ _. no-values 6 (omega arith))
 

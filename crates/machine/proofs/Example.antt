@@ -27,7 +27,8 @@ use Rattle.names.specs.Names.{allBytes, isNameByte, isStateName, isState, hasNa
 use Rattle.escape.specs.Escape.{posixEscapes, isCodeLetter, isCode, isKeptBy, isKept, isRewritten, lastWhole, dropLone, rewrittenEnd, backspace, escapeFrom, escaped, unescaped, nextEscape, escapesFrom, escapes, anyEscape, lastEnd, replaced}
 use Rattle.declarations.specs.Declarations.{declareState, stateNames, isQuoted, expectedNames, isAlphanumeric, declares, declarationOf, declareAs, declaration, nextDeclaration, endDeclarations, declarations, trimmed, wordEnd, firstWord, restOf, isInclusive, isExclusive, isExpecting, statesOf, behindName, addState, repeatState, stateNamed, declareExpected}
 use Rattle.rules.specs.Heading.{operationOf, targetOf, isNoName, isName, labelBy, labelOf, headingOf, bodyOf, hasTarget, targetEnd, targetOperation, targetName, targetId, equalQuotes, ruleNamed, headingBehind, hasList, listEnd}
-use Rattle.rules.specs.Rules.{nextEntry, entries, refuses, recordRule, listedRule, rewrittenRule, pattern, ruleAs, rule, line, nextRule, rules, routines, rulesSection, entryEnd, entryId, withRule}
+use Rattle.rules.specs.Rules.{nextEntry, entries, refuses, recordRule, entryEnd, entryId}
+use Rattle.rules_section.specs.RulesSection.{listedRule, rewrittenRule, pattern, ruleAs, rule, line, nextRule, rules, routines, rulesSection, withRule}
 use Rattle.parse.specs.Parse.{Caps, caps, closed, judge, rulesFrom, opening, file, outcome, leaves, parseCall, parseFields}
 use Rattle.sheet_check.specs.SheetCheck.{decoded, goodState, goodRule, goodExpected, goodContents, longEnough, sheetCheck}
 use Rattle.area.specs.Lists.{all, numbers, allBelow}
@@ -40,7 +41,7 @@ use Rattle.run.specs.declared.Run.{Run}
 use Rattle.run.specs.declared.Step.{Step}
 use Rattle.run.specs.declared.Step.the-variants.{RowMismatch, Done, Stopped, Skip, Token}
 use Rattle.run.specs.Run.{goodStart, startCall, startFields}
-use Rattle.machine.specs.File.{FileRule, operationBy, nameFrom, mapOf, fileOf}
+use Rattle.machine.specs.File.{FileRule, operationBy, nameAt, nameFrom, mapOf, fileOf}
 use Rattle.machine.specs.Machine.{Given, Input, Machine, fresh, lengths, noneAbove, fits, has, isEmpty, isLive, before, winnerOf, idIn, operate, move, token, wins, chooses, step}
 use Rattle.machine.specs.Means.{EntryOf}
 use Rattle.machine.specs.Demand.{Demand, Session, startLeftOf, sessionFile, sessionMap, given, MapHolds, Accepts, sessionCalls, DEMAND}
@@ -168,7 +169,7 @@ unfolding goodStart startCall
 run-computes = tt
 
 unfoldable machine-computes : Unit {0}
-unfolding operationBy nameFrom mapOf fileOf lengths noneAbove fits has isEmpty isLive before winnerOf idIn operate move token wins chooses step answers
+unfolding operationBy nameAt nameFrom mapOf fileOf lengths noneAbove fits has isEmpty isLive before winnerOf idIn operate move token wins chooses step answers
 machine-computes = tt
 
 -- all of it

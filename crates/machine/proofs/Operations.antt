@@ -10,14 +10,12 @@ use borrow.Author.Tests.{ne-eqb}
 use lib.Dec.{eqb}
 use lib.ListN.{length, take, length-append}
 use lib.Seq.{length-take-le}
-use Rattle.text.specs.Range.{part}
 use Rattle.area.specs.declared.State.{State}
 use Rattle.area.specs.declared.Rule.{Rule}
 use Rattle.area.specs.Records.{entryWidth, nthRule}
 use Rattle.area.specs.Contents.{entryFormat, relaid}
 use Rattle.parse.specs.Parse.{Contents}
 use Rattle.link.specs.Map.{Entry, idOf}
-use Rattle.names.specs.Names.{nameOf}
 use Rattle.link.specs.Link.{isNamed, withId, withFound, linkRule, linkRules}
 use Rattle.link.proofs.LinkLaws.{link-changes-ids}
 use Rattle.link.proofs.Outcomes.{link-at}
@@ -69,47 +67,47 @@ operated-as x st b h l w = go (eqb (x .operation) 1) (eqb (x .operation) 2) (eqb
 
 -- ---- a rule that is linked
 
-module _ (s : List ℕ) (es : List Entry) where
-  linked-live : (states : List State) (lists : List ℕ) (state : ℕ) (x : Rule) → live states lists state (linkRule s es x) ≡ live states lists state x
+module _ (name : Rule → List ℕ) (es : List Entry) where
+  linked-live : (states : List State) (lists : List ℕ) (state : ℕ) (x : Rule) → live states lists state (linkRule name es x) ≡ live states lists state x
   unfolding live listed withId
-  linked-live states lists state x = ap (live states lists state) (link-changes-ids s es x)
+  linked-live states lists state x = ap (live states lists state) (link-changes-ids name es x)
 
   pub linked-weight : (states : List State) (xs : List Rule) (lists : List ℕ) (state : ℕ) (row : List ℕ)
-      → weight states (linkRules s es xs) lists state row ≡ weight states xs lists state row
+      → weight states (linkRules name es xs) lists state row ≡ weight states xs lists state row
   unfolding weight
   linked-weight states xs lists state row =
-      λ i k. cond ((ap (live states lists state) (link-at s es xs k) ∙ linked-live states lists state (nthRule xs k)) i) (lengthIn row k) 0
+      λ i k. cond ((ap (live states lists state) (link-at name es xs k) ∙ linked-live states lists state (nthRule xs k)) i) (lengthIn row k) 0
 
 -- ---- a call that does not move, and a winner
 
 pub still-as : (n : ℕ) (m : Machine) (b : List ℕ) → Begins (m .stack) b → (a : Step) → stepLeft a (runAs n m) b ≡ leftAs n b (answered a m)
 still-as n m b h a = ap (stepLeft a (runAs n m)) (laid-again (m .stack) b h)
 
--- the bytes b begin with the stack, with room for one id more; s is the source, and c what stands in the areas
-module _ (n : ℕ) (m : Machine) (b : List ℕ) (begins : Begins (m .stack) b) (some-id : 1 ≤ length (m .stack)) (room : length (m .stack) * entryWidth + entryWidth ≤ length b) (s : List ℕ) (c : Contents) where
+-- the bytes b begin with the stack, with room for one id more; c is what stands in the areas
+module _ (n : ℕ) (m : Machine) (b : List ℕ) (begins : Begins (m .stack) b) (some-id : 1 ≤ length (m .stack)) (room : length (m .stack) * entryWidth + entryWidth ≤ length b) (name : Rule → List ℕ) (c : Contents) where
   move-as : (a : Step) (x : Rule) (bytes : ℕ)
-      → stepLeft a (moveBy x bytes (runAs n m) b .run) (moveBy x bytes (runAs n m) b .stack) ≡ leftAs n b (answered a (move (winner (fileRule s c x) bytes) m))
+      → stepLeft a (moveBy x bytes (runAs n m) b .run) (moveBy x bytes (runAs n m) b .stack) ≡ leftAs n b (answered a (move (winner (fileRule name c x) bytes) m))
   unfolding moveBy move
   move-as a x bytes =
       ap (λ (z : Stacked). stepLeft a (record { n = n; position = m .position + bytes; depth = z .depth; moves = m .moves + 1 }) (z .stack))
       (operated-as x (m .stack) b begins some-id room)
 
   -- the id of a named winner is the map's
-  named-as : (g : Given) (x : Rule) (w : Winner) → cond (isNamed x) (token (idOf (g .map) (nameOf s x)) w m) (answered Skip (move w m)) ≡ wins g (nameFrom s x) w m
-  unfolding wins nameFrom nameOf
+  named-as : (g : Given) (x : Rule) (w : Winner) → cond (isNamed x) (token (idOf (g .map) (name x)) w m) (answered Skip (move w m)) ≡ wins g (nameFrom name x) w m
+  unfolding wins nameFrom
   named-as g x w = go (isNamed x)
     where
-      go : (t : Bool) → cond t (token (idOf (g .map) (nameOf s x)) w m) (answered Skip (move w m)) ≡ wins g (cond t (some (part s (x .«name_from») (x .«name_from» + x .«name_length»))) none) w m
-      go true = ap (λ (o : Option ℕ). token o w m) (id-same (g .map) (nameOf s x))
+      go : (t : Bool) → cond t (token (idOf (g .map) (name x)) w m) (answered Skip (move w m)) ≡ wins g (cond t (some (name x)) none) w m
+      go true = ap (λ (o : Option ℕ). token o w m) (id-same (g .map) (name x))
       go false = refl
 
-  pub won-as : (g : Given) (x : Rule) (bytes : ℕ) → wonBy (linkRule s (g .map) x) bytes (runAs n m) b ≡ leftAs n b (wins g (nameFrom s x) (winner (fileRule s c x) bytes) m)
+  pub won-as : (g : Given) (x : Rule) (bytes : ℕ) → wonBy (linkRule name (g .map) x) bytes (runAs n m) b ≡ leftAs n b (wins g (nameFrom name x) (winner (fileRule name c x) bytes) m)
   unfolding wonBy linkRule withFound withId token moveBy operated
-  won-as g x bytes = go (isNamed x) refl (idOf (g .map) (nameOf s x)) ∙ ap (leftAs n b) (named-as g x (winner (fileRule s c x) bytes))
+  won-as g x bytes = go (isNamed x) refl (idOf (g .map) (name x)) ∙ ap (leftAs n b) (named-as g x (winner (fileRule name c x) bytes))
     where
       go : (t : Bool) → isNamed x ≡ t → (o : Option ℕ)
           → wonBy (cond t (withFound o x) x) bytes (runAs n m) b
-          ≡ leftAs n b (cond t (token o (winner (fileRule s c x) bytes) m) (answered Skip (move (winner (fileRule s c x) bytes) m)))
+          ≡ leftAs n b (cond t (token o (winner (fileRule name c x) bytes) m) (answered Skip (move (winner (fileRule name c x) bytes) m)))
       go true e (some i) = rw e (move-as (Token i (m .position) bytes) x bytes)
       go true e none = rw e (still-as n m b begins Unlinked)
       go false e o = rw e (move-as Skip x bytes)

@@ -80,10 +80,10 @@ module _ (c : Contents) (sound : Sound c) where
       let q : x .«list_from» + x .«list_count» - x .«list_from» ≡ x .«list_count» = omega arith in
       ap (λ (n : ℕ). take n (drop (x .«list_from») (c .lists))) q
 
-  pub live-same : (s : List ℕ) (state : ℕ) (x : Rule) → x .«list_from» + x .«list_count» ≤ length (c .lists)
-      → isLive (map fileState (c .states)) state (fileRule s c x) ≡ live (c .states) (c .lists) state x
+  pub live-same : (name : Rule → List ℕ) (state : ℕ) (x : Rule) → x .«list_from» + x .«list_count» ≤ length (c .lists)
+      → isLive (map fileState (c .states)) state (fileRule name c x) ≡ live (c .states) (c .lists) state x
   unfolding isLive live listed findState first
-  live-same s state x h =
+  live-same name state x h =
       let q : x .«list_from» + x .«list_count» - x .«list_from» ≡ x .«list_count» = omega arith in
       rw (list-taken x, state-at state, marks (nthState (c .states) state .exclusive) (mark-low state), q, first-has (c .lists) state (x .«list_count») (x .«list_from») h, none-empty (c .lists) (x .«list_count») (x .«list_from») h) refl
 

@@ -7,9 +7,10 @@ use Prim.Native.Nat.{ℕ, _*_, _%_}
 use native.Mathlib.Omega.{arith}
 use lib.Dec.{eqb, leb}
 use lib.ListN.{length}
+use Rattle.area.specs.declared.Rule.{Rule}
 use Rattle.area.specs.Contents.{contents, ruleFormat, relaid}
 use Rattle.parse.specs.Parse.{Contents}
-use Rattle.sheet_check.specs.SheetCheck.{SheetBytes, decoded, sheetCheck}
+use Rattle.sheet_check.specs.SheetCheck.{SheetBytes, nameIn, decoded, sheetCheck}
 use Rattle.area.specs.Lists.{all}
 use Rattle.link.specs.declared.LinkAnswer.{LinkAnswer}
 use Rattle.link.specs.declared.LinkAnswer.the-variants.{Linked, BrokenSheet, BrokenMap, AreaFull}
@@ -30,18 +31,18 @@ isLinked BrokenMap = 0
 isLinked (AreaFull a) = 0
 
 module _ (b : SheetBytes) (names entries x7 x8 : List ℕ) (p q : ℕ) (accepted : linkCall b names entries x7 x8 .answer ≡ Linked p q) where
-  linked-area : linkCall b names entries x7 x8 .area2 ≡ relaid ruleFormat (b .area2) (linkRules (b .source) (entriesOf names entries) (decoded b .rules))
+  linked-area : linkCall b names entries x7 x8 .area2 ≡ relaid ruleFormat (b .area2) (linkRules (nameIn b) (entriesOf names entries) (decoded b .rules))
   unfolding linkCall linkChecked linkAll isLinked
   linked-area =
-      go (sheetCheck b) (mapCheck names entries) (fits (unmapped (b .source) (entriesOf names entries) (decoded b .rules)) x7)
-      (fits (unused (b .source) (entriesOf names entries) (decoded b .rules)) x8)
+      go (sheetCheck b) (mapCheck names entries) (fits (unmapped (nameIn b) (entriesOf names entries) (decoded b .rules)) x7)
+      (fits (unused (nameIn b) (entriesOf names entries) (decoded b .rules)) x8)
       accepted
     where
       done : LinkLeft
       done =
-          let s : List ℕ = b .source in
+          let name : Rule → List ℕ = nameIn b in
           let es : List Entry = entriesOf names entries in
-          linkAll (Linked (length (unmapped s es (decoded b .rules))) (length (unused s es (decoded b .rules)))) s (decoded b .rules) es (b .area2) x7 x8
+          linkAll name (Linked (length (unmapped name es (decoded b .rules))) (length (unused name es (decoded b .rules)))) (decoded b .rules) es (b .area2) x7 x8
 
       left : LinkAnswer → LinkLeft
       left a = linkLeft a (b .area2) x7 x8
@@ -49,7 +50,7 @@ module _ (b : SheetBytes) (names entries x7 x8 : List ℕ) (p q : ℕ) (accepted
       go : (t u v w : Bool)
           → cond t (cond u (cond v (cond w done (left (AreaFull 8))) (left (AreaFull 7))) (left BrokenMap)) (left BrokenSheet) .answer ≡ Linked p q
           → cond t (cond u (cond v (cond w done (left (AreaFull 8))) (left (AreaFull 7))) (left BrokenMap)) (left BrokenSheet) .area2
-          ≡ relaid ruleFormat (b .area2) (linkRules (b .source) (entriesOf names entries) (decoded b .rules))
+          ≡ relaid ruleFormat (b .area2) (linkRules (nameIn b) (entriesOf names entries) (decoded b .rules))
       go true true true true e = refl
       go true true true false e = absurd (omega (arith, ap isLinked e))
       go true true false w e = absurd (omega (arith, ap isLinked e))
@@ -58,16 +59,16 @@ module _ (b : SheetBytes) (names entries x7 x8 : List ℕ) (p q : ℕ) (accepted
 
   module _ (passed : sheetCheck b ≡ true) where
     pub linked-checks : sheetCheck (linkedSheet b (linkCall b names entries x7 x8)) ≡ true
-    linked-checks = rw linked-area (linked-passes (b .source) (entriesOf names entries) b passed)
+    linked-checks = rw linked-area (linked-passes (nameIn b) (entriesOf names entries) b passed)
 
     -- what the linked sheet holds
     abbrev relinked : Contents
     relinked =
         let c : Contents = decoded b in
-        record { states = c .states; rules = linkRules (b .source) (entriesOf names entries) (c .rules); lists = c .lists; text = c .text; expected = c .expected; faults = c .faults }
+        record { states = c .states; rules = linkRules (nameIn b) (entriesOf names entries) (c .rules); lists = c .lists; text = c .text; expected = c .expected; faults = c .faults }
 
     pub linked-decodes : decoded (linkedSheet b (linkCall b names entries x7 x8)) ≡ relinked
-    linked-decodes = rw linked-area (linked-contents (b .source) (entriesOf names entries) b passed)
+    linked-decodes = rw linked-area (linked-contents (nameIn b) (entriesOf names entries) b passed)
 
 -- the map of an accepted link has one id for a name
 module _ (b : SheetBytes) (names entries x7 x8 : List ℕ) (p q : ℕ) (accepted : linkCall b names entries x7 x8 .answer ≡ Linked p q) where
@@ -76,7 +77,7 @@ module _ (b : SheetBytes) (names entries x7 x8 : List ℕ) (p q : ℕ) (accepted
   map-checked = go (sheetCheck b) (mapCheck names entries) accepted
     where
       go : (t u : Bool)
-          → cond t (cond u (linkChecked (b .source) (decoded b .rules) (entriesOf names entries) (b .area2) x7 x8) (linkLeft BrokenMap (b .area2) x7 x8)) (linkLeft BrokenSheet (b .area2) x7 x8) .answer ≡ Linked p q
+          → cond t (cond u (linkChecked (nameIn b) (decoded b .rules) (entriesOf names entries) (b .area2) x7 x8) (linkLeft BrokenMap (b .area2) x7 x8)) (linkLeft BrokenSheet (b .area2) x7 x8) .answer ≡ Linked p q
           → u ≡ true
       go t true e = refl
       go true false e = absurd (omega (arith, ap isLinked e))

@@ -9,6 +9,7 @@ use native.Mathlib.Omega.{arith}
 use borrow.Author.Tests.{le-leb, eq-eqb, eqb-false}
 use lib.Dec.{eqb}
 use lib.ListN.{length, length-map}
+use Rattle.area.specs.declared.Rule.{Rule}
 use Rattle.area.specs.Records.{entryAt, nthRule}
 use Rattle.area.specs.Contents.{contents, entryFormat, relaid}
 use Rattle.sheet_check.specs.SheetCheck.{declared}
@@ -37,9 +38,9 @@ by-same-test : (n : ℕ) (b : List ℕ) (t : Bool) (x y : StepLeft) (p q : Answe
 by-same-test n b true x y p q f k = f refl
 by-same-test n b false x y p q f k = k refl
 
-module _ (s : List ℕ) (c : Contents) (es : List Entry) (limit n : ℕ) (sound : Sound c) where
+module _ (name : Rule → List ℕ) (c : Contents) (es : List Entry) (limit n : ℕ) (sound : Sound c) where
   abbrev g : Given
-  g = record { file = fileIn s c; map = es; limit = limit; n = n }
+  g = record { file = fileIn name c; map = es; limit = limit; n = n }
 
   module _ (m : Machine) (b : List ℕ) (h : Runs g m b) where
     laid : b ≡ relaid entryFormat b (m .stack)
@@ -60,41 +61,41 @@ module _ (s : List ℕ) (c : Contents) (es : List Entry) (limit n : ℕ) (sound 
         rw (read-stack, ids-declared, le-leb n mostBytes (h .small), le-leb (m .position) n (h .inside), le-leb 1 (length (m .stack)) (h .some), le-leb (length (m .stack)) (m .position + 1) (h .depth), le-leb (m .moves) (m .position) (h .moves), le-leb (stackBytes n) (length b) (h .long)) refl
 
     -- the weights over the linked rules
-    weights-as : (row : List ℕ) → weight (c .states) (linkRules s es (c .rules)) (c .lists) (current (runAs n m) b) row ≡ weight (c .states) (c .rules) (c .lists) (currentState (m .stack)) row
+    weights-as : (row : List ℕ) → weight (c .states) (linkRules name es (c .rules)) (c .lists) (current (runAs n m) b) row ≡ weight (c .states) (c .rules) (c .lists) (currentState (m .stack)) row
     weights-as row =
-        linked-weight s es (c .states) (c .rules) (c .lists) (current (runAs n m) b) row ∙ ap (λ (k : ℕ). weight (c .states) (c .rules) (c .lists) k row) current-as
+        linked-weight name es (c .states) (c .rules) (c .lists) (current (runAs n m) b) row ∙ ap (λ (k : ℕ). weight (c .states) (c .rules) (c .lists) k row) current-as
 
     module _ (row : List ℕ) (size : length row ≡ length (c .rules) * 2) (before : m .position < n) where
-      won : (w : Winner) (k : ℕ) → w .rule ≡ fileRule s c (nthRule (c .rules) k)
-          → wonBy (nthRule (linkRules s es (c .rules)) k) (w .bytes) (runAs n m) b ≡ leftAs n b (wins g (w .rule .name) w m)
+      won : (w : Winner) (k : ℕ) → w .rule ≡ fileRule name c (nthRule (c .rules) k)
+          → wonBy (nthRule (linkRules name es (c .rules)) k) (w .bytes) (runAs n m) b ≡ leftAs n b (wins g (w .rule .name) w m)
       won w k e =
-          rw (link-at s es (c .rules) k)
-          (won-as n m b (h .begins) (h .some) (omega (arith, h .depth, h .long, before)) s c g (nthRule (c .rules) k) (w .bytes)
+          rw (link-at name es (c .rules) k)
+          (won-as n m b (h .begins) (h .some) (omega (arith, h .depth, h .long, before)) name c g (nthRule (c .rules) k) (w .bytes)
           ∙ ap (λ (x : FileRule). leftAs n b (wins g (x .name) (winner x (w .bytes)) m)) (sym e))
 
-      chooses-as : (o : Option Winner) → Picks (alive s c sound m row size) (rules s c sound m row size) (lengths row) o
-          → choose (linkRules s es (c .rules)) (best (f s c sound m row size) (length (c .rules))) (runAs n m) b ≡ leftAs n b (chooses g o m)
+      chooses-as : (o : Option Winner) → Picks (alive name c sound m row size) (rules name c sound m row size) (lengths row) o
+          → choose (linkRules name es (c .rules)) (best (f name c sound m row size) (length (c .rules))) (runAs n m) b ≡ leftAs n b (chooses g o m)
       unfolding choose chooses
       chooses-as none p =
-          let low : greatest (f s c sound m row size) (length (c .rules)) ≤ 0 = greatest-low (f s c sound m row size) 0 (length (c .rules)) (weights-under s c sound m row size 0 (λ k x e l. absurd (p k x e l))) in
-          rw (eq-eqb (greatest (f s c sound m row size) (length (c .rules))) 0 (omega arith)) (still-as n m b (h .begins) Stopped)
+          let low : greatest (f name c sound m row size) (length (c .rules)) ≤ 0 = greatest-low (f name c sound m row size) 0 (length (c .rules)) (weights-under name c sound m row size 0 (λ k x e l. absurd (p k x e l))) in
+          rw (eq-eqb (greatest (f name c sound m row size) (length (c .rules))) 0 (omega arith)) (still-as n m b (h .begins) Stopped)
       chooses-as (some w) p =
-          ap (λ (v : ℕ). cond (eqb v 0) (stepLeft Stopped (runAs n m) b) (wonBy (nthRule (linkRules s es (c .rules)) (earliest (f s c sound m row size) (length (c .rules)))) v (runAs n m) b)) (top s c sound m row size w p)
+          ap (λ (v : ℕ). cond (eqb v 0) (stepLeft Stopped (runAs n m) b) (wonBy (nthRule (linkRules name es (c .rules)) (earliest (f name c sound m row size) (length (c .rules)))) v (runAs n m) b)) (top name c sound m row size w p)
           ∙ by-same-test n b (eqb (w .bytes) 0) _ _ _ _ (λ _. still-as n m b (h .begins) Stopped)
-          (λ e. ap (λ (k : ℕ). wonBy (nthRule (linkRules s es (c .rules)) k) (w .bytes) (runAs n m) b) (place-same s c sound m row size w p (omega (arith, eqb-false (w .bytes) 0 e)))
-          ∙ won w (p .place) (is-rule s c sound m row size w p))
+          (λ e. ap (λ (k : ℕ). wonBy (nthRule (linkRules name es (c .rules)) k) (w .bytes) (runAs n m) b) (place-same name c sound m row size w p (omega (arith, eqb-false (w .bytes) 0 e)))
+          ∙ won w (p .place) (is-rule name c sound m row size w p))
 
-    pub step-as : (i : Input) → stepRun (c .states) (linkRules s es (c .rules)) (c .lists) (runAs n m) b (i .row) ≡ leftAs n b (step g m i)
+    pub step-as : (i : Input) → stepRun (c .states) (linkRules name es (c .rules)) (c .lists) (runAs n m) b (i .row) ≡ leftAs n b (step g m i)
     unfolding stepRun step stepRow
     step-as i =
-        rw (run-good, length-map (c .rules) (fileRule s c), link-count s es (c .rules), row-same (length (c .rules)) (n - m .position) (i .row), weights-as (i .row))
+        rw (run-good, length-map (c .rules) (fileRule name c), link-count name es (c .rules), row-same (length (c .rules)) (n - m .position) (i .row), weights-as (i .row))
         (by-same-test n b (eqb (m .position) n) _ _ _ _ (λ _. still-as n m b (h .begins) Done)
         (λ e. by-same-test n b (fits (length (c .rules)) (n - m .position) (i .row)) _ _ _ _ (chosen e) (λ _. still-as n m b (h .begins) RowMismatch)))
       where
         chosen : eqb (m .position) n ≡ false → fits (length (c .rules)) (n - m .position) (i .row) ≡ true
-            → choose (linkRules s es (c .rules)) (best (weight (c .states) (c .rules) (c .lists) (currentState (m .stack)) (i .row)) (length (c .rules))) (runAs n m) b
-            ≡ leftAs n b (chooses g (winnerOf (map fileState (c .states)) (currentState (m .stack)) (map (fileRule s c) (c .rules)) (lengths (i .row))) m)
+            → choose (linkRules name es (c .rules)) (best (weight (c .states) (c .rules) (c .lists) (currentState (m .stack)) (i .row)) (length (c .rules))) (runAs n m) b
+            ≡ leftAs n b (chooses g (winnerOf (map fileState (c .states)) (currentState (m .stack)) (map (fileRule name c) (c .rules)) (lengths (i .row))) m)
         chosen e d =
             let size : length (i .row) ≡ length (c .rules) * 2 = fits-size (length (c .rules)) (n - m .position) (i .row) d in
-            let count : length (lengths (i .row)) ≡ length (map (fileRule s c) (c .rules)) = lengths-count (length (c .rules)) (i .row) size ∙ sym (length-map (c .rules) (fileRule s c)) in
-            chooses-as (i .row) size (omega (arith, eqb-false (m .position) n e, h .inside)) _ (picked (map fileState (c .states)) (currentState (m .stack)) (map (fileRule s c) (c .rules)) (lengths (i .row)) count)
+            let count : length (lengths (i .row)) ≡ length (map (fileRule name c) (c .rules)) = lengths-count (length (c .rules)) (i .row) size ∙ sym (length-map (c .rules) (fileRule name c)) in
+            chooses-as (i .row) size (omega (arith, eqb-false (m .position) n e, h .inside)) _ (picked (map fileState (c .states)) (currentState (m .stack)) (map (fileRule name c) (c .rules)) (lengths (i .row)) count)

@@ -11,9 +11,11 @@ use borrow.Author.Tests.{leb-true, lt-ltb}
 use lib.Dec.{eqb, leb}
 use lib.ListN.{length, getElem?, length-map}
 use Rattle.text.proofs.Tests.{and-left, and-right}
+use Rattle.area.specs.declared.Rule.{Rule}
 use Rattle.area.specs.Records.{entryWidth, nthRule}
+use Rattle.names.specs.Names.{nameOf}
 use Rattle.parse.specs.Parse.{Contents, Caps, outcome, accepted, parseCall}
-use Rattle.sheet_check.specs.SheetCheck.{SheetBytes, sheetCheck, decoded, declared}
+use Rattle.sheet_check.specs.SheetCheck.{SheetBytes, nameIn, sheetCheck, decoded, declared}
 use Rattle.area.specs.Lists.{all}
 use Rattle.parsed_sheet.specs.Accepted.{sheetLeftBy}
 use Rattle.parsed_sheet.proofs.Accepting.{accepted-holds}
@@ -25,7 +27,7 @@ use Rattle.link.specs.Link.{linkRules, linkCall}
 use Rattle.run.specs.declared.Run.{Run}
 use Rattle.run.specs.declared.Begun.the-variants.{Started, StartRefused}
 use Rattle.run.specs.Run.{mostBytes, stackBytes, goodStart, startCall, StartLeft, startLeft, firstRun, putState, startFields, startWord, stepCall, stepRun}
-use Rattle.machine.specs.File.{keep, replace, push, pop, operationBy, FileRule, File, fileState, fileRule, fileIn, fileBy, mapOf, fileOf}
+use Rattle.machine.specs.File.{keep, replace, push, pop, operationBy, FileRule, File, fileState, nameAt, fileRule, fileIn, fileBy, mapOf, fileOf}
 use Rattle.machine.specs.Machine.{Given, fresh}
 use Rattle.machine.specs.Demand.{lastHeld, PlaceHolds, Demand, sheetParsed, linkLeftOf, linkedSheet, startLeftOf, sessionFile, sessionMap, calls, sessionCalls, DEMAND}
 use Rattle.machine.proofs.Laid.{runAs, stackAs}
@@ -85,7 +87,7 @@ module _ (n : ℕ) (r : Run) (stack : List ℕ) (started : startCall n r stack .
 record Relinked (b : SheetBytes) (es : List Entry) (e : SheetBytes) : Type 0 where
   checks : sheetCheck e ≡ true
   states : decoded e .states ≡ decoded b .states
-  rules : decoded e .rules ≡ linkRules (b .source) es (decoded b .rules)
+  rules : decoded e .rules ≡ linkRules (nameIn b) es (decoded b .rules)
   lists : decoded e .lists ≡ decoded b .lists
 
 relink : (b : SheetBytes) (names entries x7 x8 : List ℕ) (p q : ℕ) → linkCall b names entries x7 x8 .answer ≡ Linked p q → sheetCheck b ≡ true
@@ -98,21 +100,26 @@ checked-step : (e : SheetBytes) (r : Run) (s row : List ℕ) → sheetCheck e �
 unfolding stepCall
 checked-step e r s row t = rw t refl
 
-relinked-steps : (s : List ℕ) (c : Contents) (es : List Entry) (b e : SheetBytes) → b .source ≡ s → decoded b ≡ c → Relinked b es e → Sheet s c es e
-relinked-steps s c es b e is d h = record {
+-- the machine's names are the sheet's
+name-same : (b : SheetBytes) → nameIn b ≡ nameAt (b .source)
+unfolding nameOf nameAt
+name-same b = refl
+
+relinked-steps : (name : Rule → List ℕ) (c : Contents) (es : List Entry) (b e : SheetBytes) → nameIn b ≡ name → decoded b ≡ c → Relinked b es e → Sheet name c es e
+relinked-steps name c es b e is d h = record {
   steps = λ r l row.
       calling r l row
-      ∙ ap (λ (x : Contents). stepRun (x .states) (linkRules (b .source) es (x .rules)) (x .lists) r l row) d
-      ∙ ap (λ (t : List ℕ). stepRun (c .states) (linkRules t es (c .rules)) (c .lists) r l row) is;
+      ∙ ap (λ (x : Contents). stepRun (x .states) (linkRules (nameIn b) es (x .rules)) (x .lists) r l row) d
+      ∙ ap (λ (t : Rule → List ℕ). stepRun (c .states) (linkRules t es (c .rules)) (c .lists) r l row) is;
 }
   where
-    calling : (r : Run) (l row : List ℕ) → stepCall e r l row ≡ stepRun (decoded b .states) (linkRules (b .source) es (decoded b .rules)) (decoded b .lists) r l row
+    calling : (r : Run) (l row : List ℕ) → stepCall e r l row ≡ stepRun (decoded b .states) (linkRules (nameIn b) es (decoded b .rules)) (decoded b .lists) r l row
     calling r l row = checked-step e r l row (h .checks) ∙ (λ i. stepRun (h .states i) (h .rules i) (h .lists i) r l row)
 
 -- ---- the demand
 
 -- the file's meaning has these states and rules
-file-is : (s : List ℕ) (flags : ℕ) (verdicts : List ℕ) (k : Caps) (c : Contents) → outcome s flags verdicts k ≡ accepted c → fileOf s flags verdicts ≡ fileIn s c
+file-is : (s : List ℕ) (flags : ℕ) (verdicts : List ℕ) (k : Caps) (c : Contents) → outcome s flags verdicts k ≡ accepted c → fileOf s flags verdicts ≡ fileIn (nameAt s) c
 unfolding fileOf
 file-is s flags verdicts k c e = ap (fileBy s) (accepted-meaning s flags verdicts k c e)
 
@@ -127,10 +134,10 @@ aims states number target h = go (eqb number 1) (eqb number 2) (eqb number 3)
     go false false true = tt
     go false false false = tt
 
-file-targets : (s : List ℕ) (c : Contents) → ((k : ℕ) → k < length (c .rules) → nthRule (c .rules) k .target < length (c .states))
-    → (k : ℕ) (x : FileRule) → getElem? (fileIn s c .rules) k ≡ some x → Aims (length (fileIn s c .states)) (x .operation)
-file-targets s c h k x e =
-    let r = map-is (fileRule s c) (c .rules) k (nthRule [] 0) x e in
+file-targets : (name : Rule → List ℕ) (c : Contents) → ((k : ℕ) → k < length (c .rules) → nthRule (c .rules) k .target < length (c .states))
+    → (k : ℕ) (x : FileRule) → getElem? (fileIn name c .rules) k ≡ some x → Aims (length (fileIn name c .states)) (x .operation)
+file-targets name c h k x e =
+    let r = map-is (fileRule name c) (c .rules) k (nthRule [] 0) x e in
     subst⁻¹ (λ (y : FileRule). Aims (length (map fileState (c .states))) (y .operation)) (r .1)
     (aims (length (map fileState (c .states))) (nthRule (c .rules) k .operation) (nthRule (c .rules) k .target) (omega (arith, h k (r .0), length-map (c .states) fileState)))
 
@@ -138,30 +145,31 @@ pub demand : DEMAND
 unfolding DEMAND
 demand q ok is =
     let s : List ℕ = q .source in
+    let name : Rule → List ℕ = nameAt s in
     let got = answer-accepted s (q .flags) (q .verdicts) (q .capacities) (ok .parsed) in
     let c : Contents = got .0 in
     let accepts : outcome s (q .flags) (q .verdicts) (q .capacities) ≡ accepted c = got .1 in
-    let same : sessionFile q ≡ fileIn s c = file-is s (q .flags) (q .verdicts) (q .capacities) c accepts in
+    let same : sessionFile q ≡ fileIn name c = file-is s (q .flags) (q .verdicts) (q .capacities) c accepts in
     let sheet : SheetBytes = sheetParsed q in
     let es : List Entry = entriesOf (q .names) (q .entries) in
     let maps : es ≡ sessionMap q = map-same (q .names) (q .entries) (linked-whole sheet (q .names) (q .entries) (q .area7) (q .area8) (ok .unmapped) (ok .unused) (ok .linked)) in
-    let g : Given = record { file = fileIn s c; map = es; limit = mostBytes; n = q .n } in
+    let g : Given = record { file = fileIn name c; map = es; limit = mostBytes; n = q .n } in
     let e : SheetBytes = linkedSheet sheet (linkLeftOf q) in
     let h = accepted-holds s (q .flags) (q .verdicts) (q .capacities) c accepts in
     let sound : Sound c = record { exclusive = λ j l. h .states .each .at j l .exclusive; lists = λ j l. h .rules .each .at j l .list } in
     let some : 0 < length (map fileState (c .states)) = omega (arith, h .states .some, length-map (c .states) fileState) in
     let usable : Usable g = record {
       some-state = some;
-      targets = file-targets s c (λ j l. h .rules .each .at j l .target);
+      targets = file-targets name c (λ j l. h .rules .each .at j l .target);
       differ = linked-differ sheet (q .names) (q .entries) (q .area7) (q .area8) (ok .unmapped) (ok .unused) (ok .linked);
     } in
     let first : List ℕ = stackAs (q .stack) fresh in
     let runs : Runs g fresh first = start-runs (q .n) (q .run) (q .stack) (ok .started) g refl some in
     let relinked = relink sheet (q .names) (q .entries) (q .area7) (q .area8) (ok .unmapped) (ok .unused) (ok .linked) (accepted-checks s (q .flags) (q .verdicts) (q .capacities) c accepts) in
-    let steps : Sheet s c es e = relinked-steps s c es sheet e refl (accepted-decodes s (q .flags) (q .verdicts) (q .capacities) c accepts) relinked in
+    let steps : Sheet name c es e = relinked-steps name c es sheet e (name-same sheet) (accepted-decodes s (q .flags) (q .verdicts) (q .capacities) c accepts) relinked in
     let long : length first ≡ length (q .stack) = laid-length (q .stack) (fresh .stack) (fits (q .n) (q .run) (q .stack) (ok .started) g refl some) in
     let held : ((p : ℕ) → PlaceHolds (lastHeld p (fresh .stack ∷ [])) p (q .stack) first) = λ p. place-next [] (fresh .stack) (q .stack) (q .stack) p (place-first (q .stack) p) in
-    let w = whole g usable e (sheet-calls s c es mostBytes (q .n) sound e steps) (q .stack) is fresh [] first runs held long in
+    let w = whole g usable e (sheet-calls name c es mostBytes (q .n) sound e steps) (q .stack) is fresh [] first runs held long in
     let left : StartLeft = startLeft Started (runAs (q .n) fresh) first in
     subst (λ (z : List Entry). Demand (record { file = sessionFile q; map = z; limit = mostBytes; n = q .n }) (q .stack) (startLeftOf q) is (sessionCalls q is)) maps
     (subst⁻¹ (λ (f : StartLeft). Demand (record { file = sessionFile q; map = es; limit = mostBytes; n = q .n }) (q .stack) f is (calls e (f .run) (f .stack) is)) (start-left (q .n) (q .run) (q .stack) (ok .started))

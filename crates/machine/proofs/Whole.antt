@@ -5,6 +5,7 @@ use Prim.Native.Nat.{ℕ, _+_, _-_, _≤_}
 use native.Mathlib.Omega.{arith}
 use borrow.Author.Tests.{ltb-true}
 use lib.ListN.{length, length-append}
+use Rattle.area.specs.declared.Rule.{Rule}
 use Rattle.parse.specs.Parse.{Contents}
 use Rattle.sheet_check.specs.SheetCheck.{SheetBytes, declared}
 use Rattle.sheet_check.proofs.Checked.{all-at}
@@ -26,8 +27,8 @@ use Rattle.machine.proofs.Only.{only}
 use Rattle.machine.proofs.Reading.{Sound}
 
 -- a call with the sheet b goes by the file's states, linked rules and lists
-pub record Sheet (s : List ℕ) (c : Contents) (es : List Entry) (b : SheetBytes) : Type 0 where
-  pub steps : (r : Run) (l row : List ℕ) → stepCall b r l row ≡ stepRun (c .states) (linkRules s es (c .rules)) (c .lists) r l row
+pub record Sheet (name : Rule → List ℕ) (c : Contents) (es : List Entry) (b : SheetBytes) : Type 0 where
+  pub steps : (r : Run) (l row : List ℕ) → stepCall b r l row ≡ stepRun (c .states) (linkRules name es (c .rules)) (c .lists) r l row
 
 -- calls that left os, from the machine m on, which held these stacks before, over a stack whose bytes were s before the start call
 pub record Whole (g : Given) (s : List ℕ) (m : Machine) (held : List (List ℕ)) (is : List Input) (os : List StepLeft) : Type 0 where
@@ -50,8 +51,8 @@ as-machine g m held s l h places size = record {
 pub record Calls (g : Given) (b : SheetBytes) : Type 0 where
   pub called : (m : Machine) (l : List ℕ) (i : Input) → Runs g m l → stepCall b (runAs (g .n) m) l (i .row) ≡ leftAs (g .n) l (step g m i)
 
-pub sheet-calls : (s : List ℕ) (c : Contents) (es : List Entry) (limit n : ℕ) → Sound c → (b : SheetBytes) → Sheet s c es b → Calls (record { file = fileIn s c; map = es; limit = limit; n = n }) b
-sheet-calls s c es limit n sound b sheet = record { called = λ m l i h. sheet .steps (runAs n m) l (i .row) ∙ step-as s c es limit n sound m l h i }
+pub sheet-calls : (name : Rule → List ℕ) (c : Contents) (es : List Entry) (limit n : ℕ) → Sound c → (b : SheetBytes) → Sheet name c es b → Calls (record { file = fileIn name c; map = es; limit = limit; n = n }) b
+sheet-calls name c es limit n sound b sheet = record { called = λ m l i h. sheet .steps (runAs n m) l (i .row) ∙ step-as name c es limit n sound m l h i }
 
 module _ (g : Given) (usable : Usable g) (b : SheetBytes) (by-machine : Calls g b) where
   pub whole : (s : List ℕ) (is : List Input) (m : Machine) (held : List (List ℕ)) (l : List ℕ) → Runs g m l

@@ -10,6 +10,7 @@ use Rattle.area.specs.declared.Expected.{Expected}
 use Rattle.area.specs.Records.{stateWidth, ruleWidth, entryWidth, expectedWidth, mostStates, mostRules}
 use Rattle.area.specs.Contents.{contents, stateFormat, ruleFormat, entryFormat, textFormat, expectedFormat}
 use Rattle.area.specs.Lists.{all}
+use Rattle.names.specs.Names.{nameOf}
 use Rattle.parse.specs.Parse.{Contents}
 
 -- the source, areas 1 to 5 and the six counts
@@ -24,6 +25,10 @@ pub record SheetBytes : Type 0 where
 
 abbrev pub sheetBytes : List ℕ → List ℕ → List ℕ → List ℕ → List ℕ → List ℕ → List ℕ → SheetBytes
 sheetBytes s x1 x2 x3 x4 x5 n = record { source = s; area1 = x1; area2 = x2; area3 = x3; area4 = x4; area5 = x5; counts = n }
+
+-- the bytes of a rule's name: they stand in the source (01, Areas, 2)
+abbrev pub nameIn : SheetBytes → Rule → List ℕ
+nameIn b = nameOf (b .source)
 
 -- the count of an area, by its number
 abbrev pub count : SheetBytes → ℕ → ℕ

@@ -11,5 +11,7 @@ pattern-test-spec =
     (λ c κs. search needs)
     (λ c. search needs)
     (λ c. search needs)
+    (λ c. search needs)
+    (λ c. search needs)
     (λ c. number-part _ _ (c .before .before .before .locate .ensures) _ _ _ (c .before .place .given .1))
     (λ c. number-broken _ _ (c .before .before .locate .ensures) (c .enum-told .given .1)))

@@ -1,14 +1,14 @@
--- `parse::rules_section::parse_rules` meets its contract: the loop has come to the line `line`, and the names of the rules so far have their marks.
+-- `rules_section::lines::parse_rules` meets its contract: the loop has come to the line `line`, and the names of the rules so far have their marks.
 use mathlib.Core.Path.{refl, sym, ap}
 use Prim.Native.Nat.{_-_}
 use lib.ListN.{length}
 use Rattle.area.specs.Contents.{contents, stateFormat}
 use Rattle.names.proofs.Marking.{marked-none}
-use Rattle.rules.specs.Rules.{rules}
-use Rattle.parse.specs.Answers.{ruleProgress, ruledIn, sizesOf}
-use Rattle.parse.proofs.RuleLines.{Rules, sectioning, rules-marked, rules-less, rules-next, rules-routines}
-use Rattle.parse.proofs.rules_section.parse_rules.Statement.{statement}
-use Rattle.parse.proofs.rules_section.parse_rules.Tie as tie
+use Rattle.rules_section.specs.RulesSection.{rules}
+use Rattle.rules_section.specs.Answers.{ruleProgress, ruledIn, sizesOf}
+use Rattle.rules_section.proofs.RuleLines.{Rules, sectioning, rules-marked, rules-less, rules-next, rules-routines}
+use Rattle.rules_section.proofs.lines.parse_rules.Statement.{statement}
+use Rattle.rules_section.proofs.lines.parse_rules.Tie as tie
 
 abbrev Inv-loop : tie.InvT-loop
 Inv-loop src flags verdicts i area1 n1 area2₀ area3₀ area4₀ area6₀ line₀ counts₀ marks₀ area2 area3 area4 area6 line counts marks = Rules (rules src flags verdicts (contents stateFormat area1 n1) (sizesOf (length area2₀) (length area3₀) (length area4₀)) (length area6₀) i (ruledIn area2₀ area3₀ area4₀ area6₀ counts₀)) src flags verdicts (contents stateFormat area1 n1) area2₀ area3₀ area4₀ area6₀ line area2 area3 area4 area6 counts marks

@@ -24,12 +24,43 @@ use Rattle.rules.specs.declared.Head.{Head}
 use Rattle.rules.specs.declared.Body.{Body}
 use Rattle.rules.specs.declared.Body.the-variants.{Unclosed, Listed, Rewritten, Plain}
 use Rattle.rules.specs.Heading.{bodyOf}
-use Rattle.rules.proofs.Patterns.{listed-from, listed-to, pattern-is-unclosed, pattern-is-listed, pattern-is-rewritten, pattern-is-plain}
-use Rattle.rules.specs.Rules.{Sheet, sheet, Caps, entries, Text, StateList, ruleOf, recordRule, sourceText, textSince, noList, listSince, withRule, listedRule, rewrittenRule, pattern}
-use Rattle.parse.specs.declared.SheetCounts.{SheetCounts}
-use Rattle.parse.specs.declared.SheetProgress.{SheetProgress}
-use Rattle.parse.specs.declared.SheetProgress.the-variants.{Go, Bad, Full}
-use Rattle.parse.specs.Answers.{sheetProgress, sheetIn, HeldSheet, sheetCounts, sizesOf}
+use Rattle.rules.proofs.Patterns.{listed-from, listed-to}
+use Rattle.rules.specs.Rules.{entries, recordRule}
+use Rattle.rules_section.specs.RulesSection.{Sheet, sheet, Caps, Text, StateList, ruleOf, sourceText, textSince, noList, listSince, withRule, listedRule, rewrittenRule, pattern}
+use Rattle.rules_section.specs.declared.SheetCounts.{SheetCounts}
+use Rattle.rules_section.specs.declared.SheetProgress.{SheetProgress}
+use Rattle.rules_section.specs.declared.SheetProgress.the-variants.{Go, Bad, Full}
+use Rattle.rules_section.specs.Answers.{sheetProgress, sheetIn, HeldSheet, sheetCounts, sizesOf}
+
+-- ---- what becomes of a pattern, by what it is
+
+module _ (s : List ℕ) (flags : ℕ) (verdicts : List ℕ) (xs : List State) (k : Caps) (i e : ℕ) (h : Head) (c : ℕ) (w : Sheet) where
+  pub pattern-is-unclosed : bodyOf s i c ≡ Unclosed → pattern s flags verdicts xs k i e h c w ≡ bad InvalidStartState i w
+  unfolding pattern
+  pattern-is-unclosed q = rw (q, pattern)
+
+  pub pattern-is-listed : (g : ℕ) → bodyOf s i c ≡ Listed g → pattern s flags verdicts xs k i e h c w ≡ listedRule s flags verdicts xs k i e h c g w
+  unfolding pattern
+  pattern-is-listed g q = rw (q, pattern)
+
+  pub pattern-is-rewritten : bodyOf s i c ≡ Rewritten → pattern s flags verdicts xs k i e h c w ≡ rewrittenRule s flags verdicts xs k i e h c w
+  unfolding pattern
+  pattern-is-rewritten q = rw (q, pattern)
+
+  pub pattern-is-plain : bodyOf s i c ≡ Plain → pattern s flags verdicts xs k i e h c w ≡ withRule s flags verdicts xs k i e h c (sourceText i c) (noList w) w
+  unfolding pattern
+  pattern-is-plain q = rw (q, pattern)
+
+  -- what holds of each outcome holds of the pattern
+  pub pattern-cases : (P : Out Sheet → Type 0) → P (bad InvalidStartState i w) → ((g : ℕ) → i ≤ g → g < c → P (listedRule s flags verdicts xs k i e h c g w))
+      → P (rewrittenRule s flags verdicts xs k i e h c w) → P (withRule s flags verdicts xs k i e h c (sourceText i c) (noList w) w) → P (pattern s flags verdicts xs k i e h c w)
+  pattern-cases P unclosed listed rewritten plain = by (bodyOf s i c) refl
+    where
+      by : (b : Body) → bodyOf s i c ≡ b → P (pattern s flags verdicts xs k i e h c w)
+      by Unclosed q = subst P (sym (pattern-is-unclosed q)) unclosed
+      by (Listed g) q = subst P (sym (pattern-is-listed g q)) (listed g (listed-from s i c (Listed g) (sym q) g refl) (listed-to s i c (Listed g) (sym q) g refl))
+      by Rewritten q = subst P (sym (pattern-is-rewritten q)) rewritten
+      by Plain q = subst P (sym (pattern-is-plain q)) plain
 
 -- ---- a list of states is closed within the pattern
 

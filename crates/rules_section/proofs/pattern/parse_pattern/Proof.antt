@@ -1,8 +1,8 @@
--- `parse::pattern::parse_pattern` meets its contract: each return is an outcome of what the pattern is.
+-- `rules_section::pattern::parse_pattern` meets its contract: each return is an outcome of what the pattern is.
 use Rattle.rules.proofs.Patterns.{listed-from}
-use Rattle.parse.proofs.Patterns.{patterning, list-to, pattern-listed, pattern-rewritten}
-use Rattle.parse.proofs.pattern.parse_pattern.Statement.{statement}
-use Rattle.parse.proofs.pattern.parse_pattern.Tie as tie
+use Rattle.rules_section.proofs.Patterns.{patterning, list-to, pattern-listed, pattern-rewritten}
+use Rattle.rules_section.proofs.pattern.parse_pattern.Statement.{statement}
+use Rattle.rules_section.proofs.pattern.parse_pattern.Tie as tie
 
 parse-start-states-requires : tie.Need-parse-start-states-requires
 parse-start-states-requires c κs =

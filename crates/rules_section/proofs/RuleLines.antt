@@ -28,14 +28,14 @@ use Rattle.rules.specs.declared.Head.{Head}
 use Rattle.rules.specs.declared.Heading.{Heading}
 use Rattle.rules.specs.declared.Heading.the-variants.{Faulty, Repeated, Fresh}
 use Rattle.rules.specs.Heading.{headingOf}
-use Rattle.rules.specs.Rules.{Ruled, Caps, withSheet, withFaults, pattern, ruleAs, rule, line, nextRule, rules, routines, rulesSection}
+use Rattle.rules_section.specs.RulesSection.{Ruled, Caps, withSheet, withFaults, pattern, ruleAs, rule, line, nextRule, rules, routines, rulesSection}
 use Rattle.rules.proofs.Heads.{fresh-from, fresh-to}
-use Rattle.parse.specs.declared.SheetProgress.{SheetProgress}
-use Rattle.parse.specs.declared.RuleCounts.{RuleCounts}
-use Rattle.parse.specs.declared.RuleProgress.{RuleProgress}
-use Rattle.parse.specs.declared.RuleProgress.the-variants.{Go, Bad, Full}
-use Rattle.parse.specs.Answers.{sheetProgress, sheetIn, HeldSheet, sheetCounts, ruleProgress, ruledIn, HeldRuled, ruleCounts, sizesOf, afterFaults}
-use Rattle.parse.proofs.Extending.{rules-kept}
+use Rattle.rules_section.specs.declared.SheetProgress.{SheetProgress}
+use Rattle.rules_section.specs.declared.RuleCounts.{RuleCounts}
+use Rattle.rules_section.specs.declared.RuleProgress.{RuleProgress}
+use Rattle.rules_section.specs.declared.RuleProgress.the-variants.{Go, Bad, Full}
+use Rattle.rules_section.specs.Answers.{sheetProgress, sheetIn, HeldSheet, sheetCounts, ruleProgress, ruledIn, HeldRuled, ruleCounts, sizesOf, afterFaults}
+use Rattle.rules_section.proofs.Extending.{rules-kept}
 
 -- ---- a rule
 

@@ -1,8 +1,8 @@
--- `parse::line::parse_rule` meets its contract: each return is an outcome of what the heading is.
+-- `rules_section::line::parse_rule` meets its contract: each return is an outcome of what the heading is.
 use native.Mathlib.Omega.{arith}
-use Rattle.parse.proofs.RuleLines.{ruling, sheet-held, rule-repeated, rule-fresh}
-use Rattle.parse.proofs.line.parse_rule.Statement.{statement}
-use Rattle.parse.proofs.line.parse_rule.Tie as tie
+use Rattle.rules_section.proofs.RuleLines.{ruling, sheet-held, rule-repeated, rule-fresh}
+use Rattle.rules_section.proofs.line.parse_rule.Statement.{statement}
+use Rattle.rules_section.proofs.line.parse_rule.Tie as tie
 
 heading-of-requires : tie.Need-heading-of-requires
 heading-of-requires c κs =

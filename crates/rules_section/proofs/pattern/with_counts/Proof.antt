@@ -1,9 +1,9 @@
--- `parse::pattern::with_counts` meets its contract: each case of the progress.
+-- `rules_section::pattern::with_counts` meets its contract: each case of the progress.
 use mathlib.Core.Path.{sym, ap}
 use borrow.Author.Needs.{needs}
 use Rattle.fault.specs.Step.{onto, progress}
-use Rattle.parse.proofs.pattern.with_counts.Statement.{statement}
-use Rattle.parse.proofs.pattern.with_counts.Tie as tie
+use Rattle.rules_section.proofs.pattern.with_counts.Statement.{statement}
+use Rattle.rules_section.proofs.pattern.with_counts.Tie as tie
 
 pub with-counts-spec : {M : Type 1} → statement M
 with-counts-spec =

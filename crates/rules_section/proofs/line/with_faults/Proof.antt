@@ -1,10 +1,10 @@
--- `parse::line::with_faults` meets its contract: each case of the progress.
+-- `rules_section::line::with_faults` meets its contract: each case of the progress.
 use mathlib.Core.Path.{sym, ap}
 use borrow.Author.Needs.{needs}
 use Rattle.fault.specs.Step.{onto}
-use Rattle.parse.specs.Answers.{sheetProgress}
-use Rattle.parse.proofs.line.with_faults.Statement.{statement}
-use Rattle.parse.proofs.line.with_faults.Tie as tie
+use Rattle.rules_section.specs.Answers.{sheetProgress}
+use Rattle.rules_section.proofs.line.with_faults.Statement.{statement}
+use Rattle.rules_section.proofs.line.with_faults.Tie as tie
 
 pub with-faults-spec : {M : Type 1} → statement M
 with-faults-spec =

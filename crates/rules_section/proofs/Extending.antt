@@ -24,12 +24,13 @@ use Rattle.rules.specs.declared.Head.{Head}
 use Rattle.rules.specs.declared.Heading.{Heading}
 use Rattle.rules.specs.declared.Heading.the-variants.{Faulty, Repeated, Fresh}
 use Rattle.rules.specs.Heading.{headingOf}
-use Rattle.rules.specs.Rules.{Sheet, Caps, sheet, entries, refuses, Text, StateList, recordRule, sourceText, textSince, noList, listSince, withRule, listedRule, rewrittenRule, pattern, Ruled, sheetOf, withSheet, withFaults, ruleAs, rule, line}
-use Rattle.rules.proofs.Patterns.{pattern-cases}
-use Rattle.parse.specs.declared.RuleCounts.{RuleCounts}
-use Rattle.parse.specs.declared.RuleProgress.{RuleProgress}
-use Rattle.parse.specs.declared.RuleProgress.the-variants.{Go}
-use Rattle.parse.specs.Answers.{ruleProgress, ruledIn, HeldRuled}
+use Rattle.rules.specs.Rules.{entries, refuses, recordRule}
+use Rattle.rules_section.specs.RulesSection.{Sheet, Caps, sheet, Text, StateList, sourceText, textSince, noList, listSince, withRule, listedRule, rewrittenRule, pattern, Ruled, sheetOf, withSheet, withFaults, ruleAs, rule, line}
+use Rattle.rules_section.proofs.Patterns.{pattern-cases}
+use Rattle.rules_section.specs.declared.RuleCounts.{RuleCounts}
+use Rattle.rules_section.specs.declared.RuleProgress.{RuleProgress}
+use Rattle.rules_section.specs.declared.RuleProgress.the-variants.{Go}
+use Rattle.rules_section.specs.Answers.{ruleProgress, ruledIn, HeldRuled}
 
 -- where the step goes on, the rules in its state begin with the rules xs
 abbrev Keeps : {S : Type 0} → List Rule → (S → List Rule) → Out S → Type 0
