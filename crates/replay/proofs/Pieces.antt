@@ -7,8 +7,8 @@ use native.Mathlib.Numerals.{add-one}
 use lib.ListN.{length}
 use borrow.Author.Needs.{needs}
 use Rattle.text.specs.Range.{part}
-use Rattle.sheet_print.specs.Output.{Appends}
-use Rattle.sheet_print.proofs.Appending.{appends-none, appends-then, appends-first, joined-none, joined-next, joined-all}
+use Rattle.output.specs.Output.{Appends}
+use Rattle.output.proofs.Appending.{appends-none, appends-then, appends-first, joined-none, joined-next, joined-all}
 use Rattle.replay.specs.Records.{repeated, pieces, piecesEnd, pieceEnd, sourceAt, sourceEnd, Sourced, bytesAt, bytesEnd, skipTo, numberAt, Skips, Ends}
 
 -- ---- a text n times

@@ -6,7 +6,7 @@ use native.Mathlib.Omega.{arith}
 use lib.ListN.{length}
 use borrow.Author.Needs.{needs}
 use Rattle.area.specs.Bytes.{fieldAt}
-use Rattle.sheet_print.proofs.Numbers.{field-made}
+use Rattle.output.proofs.Numbers.{field-made}
 use Rattle.replay.specs.Records.{numberAt, longAt, skipTo, bytesEnd, lentAt, Skips, Ends}
 
 pub number-made : (l : List ℕ) (at a b : ℕ) → a ≡ fieldAt l at → b ≡ fieldAt l (at + 2) → a + b * 65536 ≡ numberAt l at

@@ -9,8 +9,7 @@ use Rattle.area.specs.Bytes.{fieldAt, pad, zeros}
 use Rattle.area.specs.Contents.{listOf}
 use Rattle.parse.specs.Parse.{Caps, caps, parseCall}
 use Rattle.troymantle.specs.Words.{LeftInWords, leftInWords, inWords}
-use Rattle.sheet_print.specs.Output.{Written}
-use Rattle.sheet_print.specs.Lines.{joined}
+use Rattle.output.specs.Output.{Written, joined}
 use Rattle.replay.specs.declared.record.Source.{Source}
 use Rattle.replay.specs.declared.record.Replayed.{Replayed}
 

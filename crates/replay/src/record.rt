@@ -3,7 +3,7 @@ ghost use mathlib.Core.Path.{_≡_};
 ghost use Prim.Native.Nat.{_+_, _≤_, _<_};
 ghost use lib.ListN.{length, take};
 ghost use Rattle.text.specs.Range.{part};
-ghost use Rattle.sheet_print.specs.Output.{Appends};
+ghost use Rattle.output.specs.Output.{Appends};
 ghost use Rattle.replay.specs.Records.{lentAt, repeated, sourceAt, sourceEnd, Sourced, Told, AreaIs, ThreeAre, NumbersAre, LeftIs, Compares, Called, Agrees, recordEnd, areasAt, fourthAt};
 use crate::compared::counted;
 use crate::compared::holds;
@@ -12,7 +12,7 @@ use crate::reader::long;
 use crate::reader::number;
 use crate::reader::skip;
 use libc::STDOUT_FILENO;
-use sheet_print::output::put_part;
+use output::put_part;
 use troymantle::troymantle_parse;
 
 struct Source {

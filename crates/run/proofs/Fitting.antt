@@ -16,25 +16,26 @@ use Rattle.area.specs.Lists.{all}
 use Rattle.sheet_check.proofs.Judging.{contents-count}
 use Rattle.sheet_check.proofs.Checked.{contents-read, all-at}
 use Rattle.run.specs.declared.Run.{Run}
-use Rattle.run.specs.Run.{mostBytes, stackBytes, goodNumbers, goodRun, goodRow, current}
+use Rattle.run.specs.Run.{running, movesOf, mostBytes, stackBytes, current, goodNumbers, goodRun, goodRow}
 
-pub record GoodNumbers (r : Run) (bytes : ℕ) : Type 0 where
+-- the numbers of a run fit each other and a stack of so many bytes
+pub record GoodNumbers (r : Run) (space : ℕ) : Type 0 where
   pub small : r .n ≤ mostBytes
   pub inside : r .position ≤ r .n
   pub some-depth : 1 ≤ r .depth
   pub low-depth : r .depth ≤ r .position + 1
-  pub few-moves : r .moves ≤ r .position
-  pub long : stackBytes (r .n) ≤ bytes
+  pub few-moves : movesOf r ≤ r .position
+  pub long : stackBytes (r .n) ≤ space
 
-pub good-numbers : (r : Run) (bytes : ℕ) → goodNumbers r bytes ≡ true → GoodNumbers r bytes
+pub good-numbers : (r : Run) (s : List ℕ) → goodNumbers (running r s) ≡ true → GoodNumbers r (length s)
 unfolding goodNumbers
-good-numbers r bytes e =
+good-numbers r s e =
     let a1 : Bool = leb (r .n) mostBytes in
     let a2 : Bool = leb (r .position) (r .n) in
     let a3 : Bool = leb 1 (r .depth) in
     let a4 : Bool = leb (r .depth) (r .position + 1) in
-    let a5 : Bool = leb (r .moves) (r .position) in
-    let a6 : Bool = leb (stackBytes (r .n)) bytes in
+    let a5 : Bool = leb (movesOf r) (r .position) in
+    let a6 : Bool = leb (stackBytes (r .n)) (length s) in
     let t5 = and-left (a1 && a2 && a3 && a4 && a5) a6 e in
     let t4 = and-left (a1 && a2 && a3 && a4) a5 t5 in
     let t3 = and-left (a1 && a2 && a3) a4 t4 in
@@ -44,65 +45,66 @@ good-numbers r bytes e =
       inside = leb-true (r .position) (r .n) (and-right a1 a2 t2);
       some-depth = leb-true 1 (r .depth) (and-right (a1 && a2) a3 t3);
       low-depth = leb-true (r .depth) (r .position + 1) (and-right (a1 && a2 && a3) a4 t4);
-      few-moves = leb-true (r .moves) (r .position) (and-right (a1 && a2 && a3 && a4) a5 t5);
-      long = leb-true (stackBytes (r .n)) bytes (and-right (a1 && a2 && a3 && a4 && a5) a6 e);
+      few-moves = leb-true (movesOf r) (r .position) (and-right (a1 && a2 && a3 && a4) a5 t5);
+      long = leb-true (stackBytes (r .n)) (length s) (and-right (a1 && a2 && a3 && a4 && a5) a6 e);
     }
 
 -- the entries in use lie within the stack
-pub depth-inside : (r : Run) (bytes : ℕ) → GoodNumbers r bytes → r .depth * entryWidth ≤ bytes
-depth-inside r bytes g = omega (arith, g .inside, g .low-depth, g .long)
+pub depth-inside : (r : Run) (space : ℕ) → GoodNumbers r space → r .depth * entryWidth ≤ space
+depth-inside r space g = omega (arith, g .inside, g .low-depth, g .long)
 
-module _ (states : ℕ) (r : Run) (s : List ℕ) (t : Bool) (is : t ≡ goodNumbers r (length s)) where
-  pub run-numbers : (q : Bool) → t ≡ true → q ≡ all (declared states) (contents entryFormat s (r .depth)) → q ≡ goodRun states r s
+module _ (states : ℕ) (r : Run) (s : List ℕ) (t : Bool) (is : t ≡ goodNumbers (running r s)) where
+  pub run-numbers : (q : Bool) → t ≡ true → q ≡ all (declared states) (contents entryFormat s (r .depth)) → q ≡ goodRun states (running r s)
   unfolding goodRun
   run-numbers q e a = rw (← is, e) a
 
-  pub run-broken : t ≡ false → false ≡ goodRun states r s
+  pub run-broken : t ≡ false → false ≡ goodRun states (running r s)
   unfolding goodRun
   run-broken e = rw (← is, e)
 
   pub run-readable : t ≡ true → r .depth * entryWidth ≤ length s
-  run-readable e = depth-inside r (length s) (good-numbers r (length s) (sym is ∙ e))
+  run-readable e = depth-inside r (length s) (good-numbers r s (sym is ∙ e))
 
 pub ruleset run-fits = (needs, run-numbers, run-broken, run-readable)
 
-module _ (rules left : ℕ) (row : List ℕ) where
-  pub row-lengths : (q : Bool) → length row ≡ rules * entryWidth → q ≡ all (λ x. leb x left) (contents entryFormat row rules) → q ≡ goodRow rules left row
+module _ (fits : ℕ → Bool) (rules : ℕ) (row : List ℕ) where
+  abbrev lengths-fit : Bool
+  lengths-fit = all fits (contents entryFormat row rules)
+
+  pub row-lengths : (q : Bool) → length row ≡ rules * entryWidth → q ≡ lengths-fit → q ≡ goodRow fits rules row
   unfolding goodRow
   row-lengths q e a = rw (eq-eqb (length row) (rules * entryWidth) e) a
 
-  pub row-broken : (length row ≡ rules * entryWidth → ⊥) → false ≡ goodRow rules left row
+  pub row-broken : (length row ≡ rules * entryWidth → ⊥) → false ≡ goodRow fits rules row
   unfolding goodRow
   row-broken h = rw (ne-eqb (length row) (rules * entryWidth) h)
 
   -- a row that fits
-  pub row-long : goodRow rules left row ≡ true → length row ≡ rules * entryWidth
+  pub row-long : goodRow fits rules row ≡ true → length row ≡ rules * entryWidth
   unfolding goodRow
-  row-long e = eqb-true (length row) (rules * entryWidth) (and-left (eqb (length row) (rules * entryWidth)) (all (λ x. leb x left) (contents entryFormat row rules)) e)
+  row-long e = eqb-true (length row) (rules * entryWidth) (and-left (eqb (length row) (rules * entryWidth)) lengths-fit e)
 
-  pub row-length : goodRow rules left row ≡ true → (k : ℕ) → k < rules → entryAt row k ≤ left
+  pub row-length : goodRow fits rules row ≡ true → (k : ℕ) → k < rules → fits (entryAt row k) ≡ true
   unfolding goodRow
   row-length e k h =
-      let a : all (λ x. leb x left) (contents entryFormat row rules) ≡ true =
-      and-right (eqb (length row) (rules * entryWidth)) (all (λ x. leb x left) (contents entryFormat row rules)) e in
+      let a : lengths-fit ≡ true = and-right (eqb (length row) (rules * entryWidth)) lengths-fit e in
       let m : k < length (contents entryFormat row rules) = omega (arith, contents-count entryFormat row rules, h) in
-      let b : leb (entryAt row k) left ≡ true = ap (λ (x : ℕ). leb x left) (sym (contents-read entryFormat row rules k h)) ∙ all-at (λ x. leb x left) (contents entryFormat row rules) 0 k a m in
-      leb-true (entryAt row k) left b
+      ap fits (sym (contents-read entryFormat row rules k h)) ∙ all-at fits (contents entryFormat row rules) 0 k a m
 
 pub ruleset row-fits = (needs, row-lengths, row-broken)
 
 -- a run that fits
-module _ (states : ℕ) (r : Run) (s : List ℕ) (fits : goodRun states r s ≡ true) where
+module _ (states : ℕ) (r : Run) (s : List ℕ) (fits : goodRun states (running r s) ≡ true) where
   pub run-is : GoodNumbers r (length s)
   unfolding goodRun
-  run-is = good-numbers r (length s) (and-left (goodNumbers r (length s)) (all (declared states) (contents entryFormat s (r .depth))) fits)
+  run-is = good-numbers r s (and-left (goodNumbers (running r s)) (all (declared states) (contents entryFormat s (r .depth))) fits)
 
-  pub current-declared : current r s < states
+  pub current-declared : current (running r s) < states
   unfolding goodRun
   current-declared =
       let d : ℕ = r .depth in
       let h : d - 1 < d = omega (arith, run-is .some-depth) in
-      let a : all (declared states) (contents entryFormat s d) ≡ true = and-right (goodNumbers r (length s)) (all (declared states) (contents entryFormat s d)) fits in
+      let a : all (declared states) (contents entryFormat s d) ≡ true = and-right (goodNumbers (running r s)) (all (declared states) (contents entryFormat s d)) fits in
       let m : d - 1 < length (contents entryFormat s d) = omega (arith, contents-count entryFormat s d, h) in
       let b : declared states (entryAt s (d - 1)) ≡ true = ap (declared states) (sym (contents-read entryFormat s d (d - 1) h)) ∙ all-at (declared states) (contents entryFormat s d) 0 (d - 1) a m in
       ltb-true (entryAt s (d - 1)) states b

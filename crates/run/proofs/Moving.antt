@@ -7,27 +7,31 @@ use borrow.Author.Tests.{eq-eqb, ne-eqb}
 use Rattle.area.specs.declared.Rule.{Rule}
 use Rattle.run.specs.declared.Run.{Run}
 use Rattle.run.specs.declared.Step.the-variants.{Unlinked, Skip, Token}
-use Rattle.run.specs.Run.{putState, Stacked, stacked, popped, operated, moved, moveBy, moveLeft, stepLeft, wonBy}
+use Rattle.run.specs.Run.{Running, running, leaving, runLeft, putState, withDepth, advanced, popped, operated, moveBy, wonBy}
 
-module _ (x : Rule) (d : ℕ) (s e : List ℕ) where
-  pub operated-replace : x .operation ≡ 1 → e ≡ putState s 0 (x .target) → stacked 1 e ≡ operated x d s
-  unfolding operated
-  operated-replace h q = rw (eq-eqb (x .operation) 1 h, q)
+module _ (x : Rule) (r : Run) (s : List ℕ) where
+  abbrev result : Running
+  result = operated (running r s) x
 
-  pub operated-push : (x .operation ≡ 1 → ⊥) → x .operation ≡ 2 → e ≡ putState s d (x .target) → stacked (d + 1) e ≡ operated x d s
-  unfolding operated
-  operated-push a h q = rw (ne-eqb (x .operation) 1 a, eq-eqb (x .operation) 2 h, q)
+  module _ (e : List ℕ) where
+    pub operated-replace : x .operation ≡ 1 → e ≡ putState s 0 (x .target) → running (withDepth r 1) e ≡ result
+    unfolding operated
+    operated-replace h q = rw (eq-eqb (x .operation) 1 h, q)
 
-  pub operated-empty : (x .operation ≡ 1 → ⊥) → (x .operation ≡ 2 → ⊥) → x .operation ≡ 3 → d ≡ 1 → e ≡ putState s 0 0 → stacked 1 e ≡ operated x d s
+    pub operated-push : (x .operation ≡ 1 → ⊥) → x .operation ≡ 2 → e ≡ putState s (r .depth) (x .target) → running (withDepth r (r .depth + 1)) e ≡ result
+    unfolding operated
+    operated-push a h q = rw (ne-eqb (x .operation) 1 a, eq-eqb (x .operation) 2 h, q)
+
+    pub operated-empty : (x .operation ≡ 1 → ⊥) → (x .operation ≡ 2 → ⊥) → x .operation ≡ 3 → r .depth ≡ 1 → e ≡ putState s 0 0
+        → running (withDepth r 1) e ≡ result
+    unfolding operated popped
+    operated-empty a b h z q = rw (ne-eqb (x .operation) 1 a, ne-eqb (x .operation) 2 b, eq-eqb (x .operation) 3 h, eq-eqb (r .depth) 1 z, q)
+
+  pub operated-pop : (x .operation ≡ 1 → ⊥) → (x .operation ≡ 2 → ⊥) → x .operation ≡ 3 → (r .depth ≡ 1 → ⊥) → running (withDepth r (r .depth - 1)) s ≡ result
   unfolding operated popped
-  operated-empty a b h z q = rw (ne-eqb (x .operation) 1 a, ne-eqb (x .operation) 2 b, eq-eqb (x .operation) 3 h, eq-eqb d 1 z, q)
+  operated-pop a b h z = rw (ne-eqb (x .operation) 1 a, ne-eqb (x .operation) 2 b, eq-eqb (x .operation) 3 h, ne-eqb (r .depth) 1 z)
 
-module _ (x : Rule) (d : ℕ) (s : List ℕ) where
-  pub operated-pop : (x .operation ≡ 1 → ⊥) → (x .operation ≡ 2 → ⊥) → x .operation ≡ 3 → (d ≡ 1 → ⊥) → stacked (d - 1) s ≡ operated x d s
-  unfolding operated popped
-  operated-pop a b h z = rw (ne-eqb (x .operation) 1 a, ne-eqb (x .operation) 2 b, eq-eqb (x .operation) 3 h, ne-eqb d 1 z)
-
-  pub operated-none : (x .operation ≡ 1 → ⊥) → (x .operation ≡ 2 → ⊥) → (x .operation ≡ 3 → ⊥) → stacked d s ≡ operated x d s
+  pub operated-none : (x .operation ≡ 1 → ⊥) → (x .operation ≡ 2 → ⊥) → (x .operation ≡ 3 → ⊥) → running (withDepth r (r .depth)) s ≡ result
   unfolding operated
   operated-none a b h = rw (ne-eqb (x .operation) 1 a, ne-eqb (x .operation) 2 b, ne-eqb (x .operation) 3 h)
 
@@ -35,23 +39,21 @@ pub ruleset operating = (needs, operated-replace, operated-push, operated-empty,
 
 -- the numbers of a move, and the stack
 module _ (x : Rule) (bytes : ℕ) (r : Run) (s e : List ℕ) where
-  pub move-made : (d : ℕ) → stacked d e ≡ operated x (r .depth) s
-      → moved (record { n = r .n; position = r .position + bytes; depth = d; moves = r .moves + 1 }) e ≡ moveBy x bytes r s
+  pub move-made : (d : ℕ) → running (withDepth r d) e ≡ operated (running r s) x → running (advanced (withDepth r d) bytes) e ≡ moveBy (running r s) x bytes
   unfolding moveBy
-  move-made d q =
-      ap (λ (z : Stacked). moved (record { n = r .n; position = r .position + bytes; depth = z .depth; moves = r .moves + 1 }) (z .stack)) q
+  move-made d q = ap (λ (z : Running). running (advanced (z .run) bytes) (z .stack)) q
 
-  module _ (q : Run) (is : moved q e ≡ moveBy x bytes r s) where
-    pub won-token : x .named ≡ 1 → x .«has_id» ≡ 1 → stepLeft (Token (x .id) (r .position) bytes) q e ≡ wonBy x bytes r s
+  module _ (q : Run) (is : running q e ≡ moveBy (running r s) x bytes) where
+    pub won-token : x .named ≡ 1 → x .«has_id» ≡ 1 → runLeft (Token (x .id) (r .position) bytes) q e ≡ wonBy (running r s) x bytes
     unfolding wonBy
-    won-token h g = rw (eq-eqb (x .named) 1 h, eq-eqb (x .«has_id») 1 g) (ap (moveLeft (Token (x .id) (r .position) bytes)) is)
+    won-token h g = rw (eq-eqb (x .named) 1 h, eq-eqb (x .«has_id») 1 g) (ap (leaving (Token (x .id) (r .position) bytes)) is)
 
-    pub won-skip : (x .named ≡ 1 → ⊥) → stepLeft Skip q e ≡ wonBy x bytes r s
+    pub won-skip : (x .named ≡ 1 → ⊥) → runLeft Skip q e ≡ wonBy (running r s) x bytes
     unfolding wonBy
-    won-skip h = rw (ne-eqb (x .named) 1 h) (ap (moveLeft Skip) is)
+    won-skip h = rw (ne-eqb (x .named) 1 h) (ap (leaving Skip) is)
 
 module _ (x : Rule) (bytes : ℕ) (r : Run) (s : List ℕ) where
-  pub won-unlinked : x .named ≡ 1 → (x .«has_id» ≡ 1 → ⊥) → stepLeft Unlinked r s ≡ wonBy x bytes r s
+  pub won-unlinked : x .named ≡ 1 → (x .«has_id» ≡ 1 → ⊥) → runLeft Unlinked r s ≡ wonBy (running r s) x bytes
   unfolding wonBy
   won-unlinked h g = rw (eq-eqb (x .named) 1 h, ne-eqb (x .«has_id») 1 g)
 

@@ -2,16 +2,17 @@
 use mathlib.Core.Path.{_≡_, refl}
 use mathlib.Core.Bool.{cond}
 use lib.Dec.{eqb}
+use Rattle.answers.specs.Numbers.{acceptedNumber, brokenSheetNumber, brokenRunNumber, rowMismatchNumber, doneNumber, stoppedNumber, unlinkedNumber, skipNumber}
 use Rattle.answers.specs.Words.{Fields, TellsApart}
 use Rattle.answers.proofs.Words.{tells-by}
 use Rattle.run.specs.declared.Begun.{Begun}
 use Rattle.run.specs.declared.Begun.the-variants.{Started, StartRefused}
 use Rattle.run.specs.declared.Step.{Step}
 use Rattle.run.specs.declared.Step.the-variants.{BrokenSheet, BrokenRun, RowMismatch, Done, Stopped, Unlinked, Skip, Token}
-use Rattle.run.specs.Run.{startFields, stepFields}
+use Rattle.run.specs.Run.{startFields, view, viewFields, stepFields}
 
 startBack : Fields → Begun
-startBack f = cond (eqb (f .number) 0) Started StartRefused
+startBack f = cond (eqb (f .number) acceptedNumber) Started StartRefused
 
 start-again : (x : Begun) → startBack (startFields x) ≡ x
 unfolding startBack startFields
@@ -23,14 +24,17 @@ start-tells = tells-by startFields startBack start-again
 
 stepBack : Fields → Step
 stepBack f =
-    cond (eqb (f .number) 6) BrokenSheet
-    (cond (eqb (f .number) 9) BrokenRun
-    (cond (eqb (f .number) 10) RowMismatch
-    (cond (eqb (f .number) 256) Done
-    (cond (eqb (f .number) 257) Stopped (cond (eqb (f .number) 258) Unlinked (cond (eqb (f .number) 259) Skip (Token (f .a) (f .b) (f .c))))))))
+    let n = f .number in
+    cond (eqb n brokenSheetNumber) BrokenSheet
+    (cond (eqb n brokenRunNumber) BrokenRun
+    (cond (eqb n rowMismatchNumber) RowMismatch
+    (cond (eqb n doneNumber) Done
+    (cond (eqb n stoppedNumber) Stopped
+    (cond (eqb n unlinkedNumber) Unlinked
+    (cond (eqb n skipNumber) Skip (Token (f .a) (f .b) (f .c))))))))
 
 step-again : (x : Step) → stepBack (stepFields x) ≡ x
-unfolding stepBack stepFields
+unfolding stepBack view viewFields
 step-again BrokenSheet = refl
 step-again BrokenRun = refl
 step-again RowMismatch = refl

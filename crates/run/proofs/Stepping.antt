@@ -6,7 +6,8 @@ use mathlib.Core.List.{List}
 use Prim.Native.Nat.{ℕ, _+_, _*_, _-_, _≤_, _<_}
 use native.Mathlib.Omega.{arith}
 use borrow.Author.Needs.{needs}
-use borrow.Author.Tests.{le-leb, lt-leb, eq-eqb, ne-eqb}
+use borrow.Author.Tests.{le-leb, lt-leb, leb-true, eq-eqb, ne-eqb}
+use lib.Dec.{leb}
 use lib.ListN.{length}
 use Rattle.text.proofs.Tests.{and-false}
 use Rattle.area.specs.declared.Rule.{Rule}
@@ -18,24 +19,26 @@ use Rattle.sheet_check.proofs.Checked.{contents-read, checked-long, checked-rul
 use Rattle.run.specs.declared.Run.{Run}
 use Rattle.run.specs.declared.Best.{Best}
 use Rattle.run.specs.declared.Begun.the-variants.{Started, StartRefused}
+use Rattle.run.specs.declared.Step.{Step}
 use Rattle.run.specs.declared.Step.the-variants.{BrokenSheet, BrokenRun, RowMismatch, Done, Stopped}
 use Rattle.run.specs.Winner.{weight, best}
-use Rattle.run.specs.Run.{mostBytes, stackBytes, putState, startLeft, firstRun, startCall, goodStart, goodRun, goodRow, current, stepLeft, StepLeft, wonBy, choose, stepRow, stepRun, stepCall, Readable}
+use Rattle.run.specs.Run.{mostBytes, stackBytes, running, input, current, putState, RunLeft, runLeft, firstRun, startCall, goodStart, goodRun, fitsIn, goodRow, wonBy, choose, stepRow, stepRun, stepCall}
+use Rattle.run.specs.Contracts.{lexerAt, Readable, Inside}
 use Rattle.run.proofs.Fitting.{GoodNumbers, run-is, row-length}
 use Rattle.run.proofs.Winning.{winner-inside, weights-low}
 
 -- ---- the start call
 
 module _ (n : ℕ) (r : Run) (s : List ℕ) where
-  pub start-long : mostBytes < n → startLeft StartRefused r s ≡ startCall n r s
+  pub start-long : mostBytes < n → runLeft StartRefused r s ≡ startCall n (running r s)
   unfolding startCall goodStart
   start-long h = rw (lt-leb n mostBytes h)
 
-  pub start-short : length s < stackBytes n → startLeft StartRefused r s ≡ startCall n r s
+  pub start-short : length s < stackBytes n → runLeft StartRefused r s ≡ startCall n (running r s)
   unfolding startCall goodStart
   start-short h = rw (lt-leb (stackBytes n) (length s) h, and-false)
 
-  pub start-good : (e : List ℕ) → n ≤ mostBytes → stackBytes n ≤ length s → e ≡ putState s 0 0 → startLeft Started (firstRun n) e ≡ startCall n r s
+  pub start-good : (e : List ℕ) → n ≤ mostBytes → stackBytes n ≤ length s → e ≡ putState s 0 0 → runLeft Started (firstRun n) e ≡ startCall n (running r s)
   unfolding startCall goodStart
   start-good e h g q = rw (le-leb n mostBytes h, le-leb (stackBytes n) (length s) g, q)
 
@@ -44,60 +47,58 @@ pub ruleset starting = (needs, start-long, start-short, start-good)
 -- ---- a row that fits
 
 module _ (l1 l2 l3 : List ℕ) (states rules entries : ℕ) (row : List ℕ) (state : ℕ) (b : Best)
-    (is : b ≡ best (weight (contents stateFormat l1 states) (contents ruleFormat l2 rules) (contents entryFormat l3 entries) state row) rules) where
+    (is : b ≡ best (weight (lexerAt l1 l2 l3 states rules entries) state row) rules) where
   -- the winner is a rule
   pub rule-inside : (b .length ≡ 0 → ⊥) → b .rule < rules
   rule-inside h =
-      let f : ℕ → ℕ = weight (contents stateFormat l1 states) (contents ruleFormat l2 rules) (contents entryFormat l3 entries) state row in
+      let f : ℕ → ℕ = weight (lexerAt l1 l2 l3 states rules entries) state row in
       subst (λ (j : ℕ). j < rules) (sym (ap (λ (y : Best). y .rule) is)) (winner-inside f rules (λ e. h (ap (λ (y : Best). y .length) is ∙ e)))
 
   -- its length is at most the bytes left
-  pub bytes-low : (left : ℕ) → goodRow rules left row ≡ true → b .length ≤ left
+  pub bytes-low : (left : ℕ) → goodRow (λ l. leb l left) rules row ≡ true → b .length ≤ left
   bytes-low left e =
       subst (λ (j : ℕ). j ≤ left) (sym (ap (λ (y : Best). y .length) is))
-      (weights-low (contents stateFormat l1 states) (contents ruleFormat l2 rules) (contents entryFormat l3 entries) state row left rules (row-length rules left row e))
+      (weights-low (lexerAt l1 l2 l3 states rules entries) state row left rules
+      (λ k h. leb-true (entryAt row k) left (row-length (λ l. leb l left) rules row e k h)))
 
 module _ (l1 l2 l3 : List ℕ) (states rules entries : ℕ) (r : Run) (s row : List ℕ) (state : ℕ) (b : Best)
     (top : state ≡ entryAt s (r .depth - 1))
-    (is : b ≡ best (weight (contents stateFormat l1 states) (contents ruleFormat l2 rules) (contents entryFormat l3 entries) state row) rules) where
-  row-choice : choose (contents ruleFormat l2 rules) b r s ≡ stepRow (contents stateFormat l1 states) (contents ruleFormat l2 rules) (contents entryFormat l3 entries) r s row
+    (is : b ≡ best (weight (lexerAt l1 l2 l3 states rules entries) state row) rules) where
+  row-choice : choose (lexerAt l1 l2 l3 states rules entries) (running r s) b ≡ stepRow (lexerAt l1 l2 l3 states rules entries) (running r s) (input row)
   unfolding stepRow
   row-choice =
-      ap (λ (y : Best). choose (contents ruleFormat l2 rules) y r s)
+      ap (λ (y : Best). choose (lexerAt l1 l2 l3 states rules entries) (running r s) y)
       (is
-      ∙ ap (λ (z : ℕ). best (weight (contents stateFormat l1 states) (contents ruleFormat l2 rules) (contents entryFormat l3 entries) z row) rules) top
-      ∙ ap (best (weight (contents stateFormat l1 states) (contents ruleFormat l2 rules) (contents entryFormat l3 entries) (current r s) row)) (sym (contents-count ruleFormat l2 rules)))
+      ∙ ap (λ (z : ℕ). best (weight (lexerAt l1 l2 l3 states rules entries) z row) rules) top
+      ∙ ap (best (weight (lexerAt l1 l2 l3 states rules entries) (current (running r s)) row)) (sym (contents-count ruleFormat l2 rules)))
 
-  choose-stopped : b .length ≡ 0 → stepLeft Stopped r s ≡ choose (contents ruleFormat l2 rules) b r s
+  choose-stopped : b .length ≡ 0 → runLeft Stopped r s ≡ choose (lexerAt l1 l2 l3 states rules entries) (running r s) b
   unfolding choose
   choose-stopped h = rw (eq-eqb (b .length) 0 h)
 
-  choose-won : (b .length ≡ 0 → ⊥) → wonBy (nthRule (contents ruleFormat l2 rules) (b .rule)) (b .length) r s ≡ choose (contents ruleFormat l2 rules) b r s
+  choose-won : (b .length ≡ 0 → ⊥) → wonBy (running r s) (nthRule (contents ruleFormat l2 rules) (b .rule)) (b .length) ≡ choose (lexerAt l1 l2 l3 states rules entries) (running r s) b
   unfolding choose
   choose-won h = rw (ne-eqb (b .length) 0 h)
 
-  pub row-stopped : b .length ≡ 0 → stepLeft Stopped r s ≡ stepRow (contents stateFormat l1 states) (contents ruleFormat l2 rules) (contents entryFormat l3 entries) r s row
+  pub row-stopped : b .length ≡ 0 → runLeft Stopped r s ≡ stepRow (lexerAt l1 l2 l3 states rules entries) (running r s) (input row)
   row-stopped h = choose-stopped h ∙ row-choice
 
-  pub row-won : (x : Rule) (y : StepLeft) → (b .length ≡ 0 → ⊥) → x ≡ ruleAt l2 (b .rule) → y ≡ wonBy x (b .length) r s
-      → y ≡ stepRow (contents stateFormat l1 states) (contents ruleFormat l2 rules) (contents entryFormat l3 entries) r s row
+  pub row-won : (x : Rule) (y : RunLeft Step) → (b .length ≡ 0 → ⊥) → x ≡ ruleAt l2 (b .rule) → y ≡ wonBy (running r s) x (b .length)
+      → y ≡ stepRow (lexerAt l1 l2 l3 states rules entries) (running r s) (input row)
   row-won x y h e q =
       q
-      ∙ ap (λ (z : Rule). wonBy z (b .length) r s) (e ∙ sym (contents-read ruleFormat l2 rules (b .rule) (rule-inside l1 l2 l3 states rules entries row state b is h)))
+      ∙ ap (λ (z : Rule). wonBy (running r s) z (b .length)) (e ∙ sym (contents-read ruleFormat l2 rules (b .rule) (rule-inside l1 l2 l3 states rules entries row state b is h)))
       ∙ choose-won h
       ∙ row-choice
 
 -- a move by no more bytes than are left stays inside the entry, and its operation inside the stack
-pub record Inside (r : Run) (bytes space : ℕ) : Type 0 where
-  pub low-depth : r .depth ≤ mostBytes
-  pub room : r .depth * entryWidth + entryWidth ≤ space
-  pub position : r .position + bytes ≤ mostBytes
-  pub moves : r .moves ≤ mostBytes
-
 pub move-inside : (r : Run) (bytes space : ℕ) → GoodNumbers r space → r .position < r .n → bytes ≤ r .n - r .position → Inside r bytes space
 move-inside r bytes space g h l = record {
-  low-depth = omega (arith, g .small, g .low-depth, h);
-  room = omega (arith, g .low-depth, g .long, h);
+  stack = record {
+    some-depth = g .some-depth;
+    low-depth = omega (arith, g .small, g .low-depth, h);
+    room = omega (arith, g .low-depth, g .long, h);
+  };
   position = omega (arith, g .small, h, l);
   moves = omega (arith, g .small, g .inside, g .few-moves);
 }
@@ -105,44 +106,44 @@ move-inside r bytes space g h l = record {
 -- ---- a sheet that passed the check
 
 -- a run that fits and is not at the end is short of it
-pub short-of : (states : ℕ) (r : Run) (s : List ℕ) → goodRun states r s ≡ true → (r .position ≡ r .n → ⊥) → r .position < r .n
+pub short-of : (states : ℕ) (r : Run) (s : List ℕ) → goodRun states (running r s) ≡ true → (r .position ≡ r .n → ⊥) → r .position < r .n
 short-of states r s e h = omega (arith, run-is states r s e .inside, h)
 
-module _ (l1 l2 l3 : List ℕ) (states rules entries : ℕ) (r : Run) (s row : List ℕ) (t : Bool) (is : t ≡ goodRun states r s) where
-  ran : goodRun (length (contents stateFormat l1 states)) r s ≡ t
-  ran = ap (λ (m : ℕ). goodRun m r s) (contents-count stateFormat l1 states) ∙ sym is
+module _ (l1 l2 l3 : List ℕ) (states rules entries : ℕ) (r : Run) (s row : List ℕ) (t : Bool) (is : t ≡ goodRun states (running r s)) where
+  ran : goodRun (length (contents stateFormat l1 states)) (running r s) ≡ t
+  ran = ap (λ (m : ℕ). goodRun m (running r s)) (contents-count stateFormat l1 states) ∙ sym is
 
-  pub run-refused : t ≡ false → stepLeft BrokenRun r s ≡ stepRun (contents stateFormat l1 states) (contents ruleFormat l2 rules) (contents entryFormat l3 entries) r s row
+  pub run-refused : t ≡ false → runLeft BrokenRun r s ≡ stepRun (lexerAt l1 l2 l3 states rules entries) (running r s) (input row)
   unfolding stepRun
   run-refused e = rw (ran, e)
 
-  pub run-done : t ≡ true → r .position ≡ r .n → stepLeft Done r s ≡ stepRun (contents stateFormat l1 states) (contents ruleFormat l2 rules) (contents entryFormat l3 entries) r s row
+  pub run-done : t ≡ true → r .position ≡ r .n → runLeft Done r s ≡ stepRun (lexerAt l1 l2 l3 states rules entries) (running r s) (input row)
   unfolding stepRun
   run-done e h = rw (ran, e, eq-eqb (r .position) (r .n) h)
 
-  module _ (e : t ≡ true) (h : r .position ≡ r .n → ⊥) (u : Bool) (fits : u ≡ goodRow rules (r .n - r .position) row) where
-    rowed : goodRow (length (contents ruleFormat l2 rules)) (r .n - r .position) row ≡ u
-    rowed = ap (λ (m : ℕ). goodRow m (r .n - r .position) row) (contents-count ruleFormat l2 rules) ∙ sym fits
+  module _ (e : t ≡ true) (h : r .position ≡ r .n → ⊥) (u : Bool) (fits : u ≡ goodRow (fitsIn r) rules row) where
+    rowed : goodRow (fitsIn r) (length (contents ruleFormat l2 rules)) row ≡ u
+    rowed = ap (λ (m : ℕ). goodRow (fitsIn r) m row) (contents-count ruleFormat l2 rules) ∙ sym fits
 
-    pub run-ill : u ≡ false → stepLeft RowMismatch r s ≡ stepRun (contents stateFormat l1 states) (contents ruleFormat l2 rules) (contents entryFormat l3 entries) r s row
+    pub run-ill : u ≡ false → runLeft RowMismatch r s ≡ stepRun (lexerAt l1 l2 l3 states rules entries) (running r s) (input row)
     unfolding stepRun
     run-ill g = rw (ran, e, ne-eqb (r .position) (r .n) h, rowed, g)
 
-    pub run-row : (y : StepLeft) → u ≡ true → y ≡ stepRow (contents stateFormat l1 states) (contents ruleFormat l2 rules) (contents entryFormat l3 entries) r s row
-        → y ≡ stepRun (contents stateFormat l1 states) (contents ruleFormat l2 rules) (contents entryFormat l3 entries) r s row
+    pub run-row : (y : RunLeft Step) → u ≡ true → y ≡ stepRow (lexerAt l1 l2 l3 states rules entries) (running r s) (input row)
+        → y ≡ stepRun (lexerAt l1 l2 l3 states rules entries) (running r s) (input row)
     unfolding stepRun
     run-row y g q = rw (ran, e, ne-eqb (r .position) (r .n) h, rowed, g) q
 
 -- ---- the sheet
 
 module _ (b : SheetBytes) (r : Run) (s row : List ℕ) (t : Bool) (is : t ≡ sheetCheck b) where
-  pub sheet-refused : t ≡ false → stepLeft BrokenSheet r s ≡ stepCall b r s row
+  pub sheet-refused : t ≡ false → runLeft BrokenSheet r s ≡ stepCall b (running r s) (input row)
   unfolding stepCall
   sheet-refused e = rw (← is, e)
 
-  pub sheet-stepped : (y : StepLeft) → t ≡ true
-      → y ≡ stepRun (contents stateFormat (b .area1) (count b 1)) (contents ruleFormat (b .area2) (count b 2)) (contents entryFormat (b .area3) (count b 3)) r s row
-      → y ≡ stepCall b r s row
+  pub sheet-stepped : (y : RunLeft Step) → t ≡ true
+      → y ≡ stepRun (lexerAt (b .area1) (b .area2) (b .area3) (count b 1) (count b 2) (count b 3)) (running r s) (input row)
+      → y ≡ stepCall b (running r s) (input row)
   unfolding stepCall decoded
   sheet-stepped y e q = rw (← is, e) q
 

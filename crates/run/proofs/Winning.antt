@@ -20,59 +20,59 @@ use Rattle.area.specs.Records.{stateAt, ruleAt, entryAt, nthState, nthRule, nth
 use Rattle.area.specs.Contents.{contents, stateFormat, ruleFormat, entryFormat}
 use Rattle.sheet_check.proofs.Checked.{contents-read}
 use Rattle.run.specs.declared.Best.{Best}
-use Rattle.run.specs.Winner.{findState, listEnd, listed, live, lengthIn, weight, greatest, earliest, best, better}
-use Rattle.run.specs.Run.{Readable}
+use Rattle.run.specs.Winner.{Lexer, findInList, listEnd, inList, live, lengthIn, weight, greatest, earliest, best, better}
+use Rattle.run.specs.Contracts.{lexerAt, Readable}
 use Rattle.text.proofs.Firsts.{first-passes, first-before, first-low, first-only}
 
 -- ---- a state in a list
 
-module _ (l : List ℕ) (n from end state i : ℕ) (inside : end ≤ n) (before : findState (contents entryFormat l n) from end state ≡ findState (contents entryFormat l n) i end state) where
+module _ (l : List ℕ) (n from end state i : ℕ) (inside : end ≤ n) (before : findInList (contents entryFormat l n) from end state ≡ findInList (contents entryFormat l n) i end state) where
   entry-test : (x : ℕ) → x ≡ entryAt l i → i < end → eqb (nthEntry (contents entryFormat l n) i) state ≡ eqb x state
   entry-test x e h = ap (λ (y : ℕ). eqb y state) (contents-read entryFormat l n i (omega arith) ∙ sym e)
 
-  pub state-found : (x : ℕ) → x ≡ entryAt l i → x ≡ state → i < end → i ≡ findState (contents entryFormat l n) from end state
-  unfolding findState
+  pub state-found : (x : ℕ) → x ≡ entryAt l i → x ≡ state → i < end → i ≡ findInList (contents entryFormat l n) from end state
+  unfolding findInList
   state-found x e q h =
       first-found (λ j. eqb (nthEntry (contents entryFormat l n) j) state) from i end before h (entry-test x e h ∙ eq-eqb x state q)
 
   pub state-again : (x : ℕ) → x ≡ entryAt l i → (x ≡ state → ⊥) → i < end
-      → findState (contents entryFormat l n) from end state ≡ findState (contents entryFormat l n) (i + 1) end state
-  unfolding findState
+      → findInList (contents entryFormat l n) from end state ≡ findInList (contents entryFormat l n) (i + 1) end state
+  unfolding findInList
   state-again x e q h =
       first-again (λ j. eqb (nthEntry (contents entryFormat l n) j) state) from i end before h (entry-test x e h ∙ ne-eqb x state q)
 
-  pub state-ended : end ≤ i → i ≡ findState (contents entryFormat l n) from end state
-  unfolding findState
+  pub state-ended : end ≤ i → i ≡ findInList (contents entryFormat l n) from end state
+  unfolding findInList
   state-ended h = first-ended (λ j. eqb (nthEntry (contents entryFormat l n) j) state) from i end before h
 
 pub ruleset listing = (needs, state-found, state-again, state-ended)
 
 -- ---- a rule that is live
 
-module _ (l1 l3 : List ℕ) (states entries state : ℕ) (x : Rule) (i : ℕ) (is : i ≡ findState (contents entryFormat l3 entries) (x .«list_from») (listEnd x) state) where
-  pub live-listed : i < listEnd x → true ≡ live (contents stateFormat l1 states) (contents entryFormat l3 entries) state x
-  unfolding live listed
-  live-listed h =
-      let t : ltb (findState (contents entryFormat l3 entries) (x .«list_from») (listEnd x) state) (listEnd x) ≡ true =
+module _ (l1 l3 : List ℕ) (states entries state : ℕ) (x : Rule) (i : ℕ) (is : i ≡ findInList (contents entryFormat l3 entries) (x .«list_from») (listEnd x) state) where
+  pub live-in-list : i < listEnd x → true ≡ live (contents stateFormat l1 states) (contents entryFormat l3 entries) state x
+  unfolding live inList
+  live-in-list h =
+      let t : ltb (findInList (contents entryFormat l3 entries) (x .«list_from») (listEnd x) state) (listEnd x) ≡ true =
       ap (λ (j : ℕ). ltb j (listEnd x)) (sym is) ∙ lt-ltb i (listEnd x) h in
       rw t
 
-  unlisted : listEnd x ≤ i → listed (contents entryFormat l3 entries) state x ≡ false
-  unfolding listed
-  unlisted h = ap (λ (j : ℕ). ltb j (listEnd x)) (sym is) ∙ le-ltb i (listEnd x) h
+  not-in-list : listEnd x ≤ i → inList (contents entryFormat l3 entries) state x ≡ false
+  unfolding inList
+  not-in-list h = ap (λ (j : ℕ). ltb j (listEnd x)) (sym is) ∙ le-ltb i (listEnd x) h
 
   pub live-empty : listEnd x ≤ i → x .«list_count» ≡ 0 → state < states → (s : State) → s ≡ stateAt l1 state
       → eqb (s .exclusive) 0 ≡ live (contents stateFormat l1 states) (contents entryFormat l3 entries) state x
   unfolding live
   live-empty h z g s e =
       let q : s ≡ nthState (contents stateFormat l1 states) state = e ∙ sym (contents-read stateFormat l1 states state g) in
-      rw (unlisted h, eq-eqb (x .«list_count») 0 z) (ap (λ (y : State). eqb (y .exclusive) 0) q)
+      rw (not-in-list h, eq-eqb (x .«list_count») 0 z) (ap (λ (y : State). eqb (y .exclusive) 0) q)
 
   pub live-not : listEnd x ≤ i → (x .«list_count» ≡ 0 → ⊥) → false ≡ live (contents stateFormat l1 states) (contents entryFormat l3 entries) state x
   unfolding live
-  live-not h z = rw (unlisted h, ne-eqb (x .«list_count») 0 z)
+  live-not h z = rw (not-in-list h, ne-eqb (x .«list_count») 0 z)
 
-pub ruleset living = (needs, live-listed, live-empty, live-not)
+pub ruleset living = (needs, live-in-list, live-empty, live-not)
 
 -- ---- the better of two
 
@@ -209,35 +209,36 @@ module _ (f : ℕ → ℕ) where
 
 -- ---- a bound of the lengths is one of the greatest weight
 
-module _ (states : List State) (rules : List Rule) (lists : List ℕ) (state : ℕ) (row : List ℕ) where
-  weight-under : (t : Bool) (x q : ℕ) → x ≤ q → cond t x 0 ≤ q
-  weight-under true x q h = h
-  weight-under false x q h = omega arith
+module _ (x : Lexer) (state : ℕ) (row : List ℕ) where
+  weight-under : (t : Bool) (l q : ℕ) → l ≤ q → cond t l 0 ≤ q
+  weight-under true l q h = h
+  weight-under false l q h = omega arith
 
-  pub weights-low : (q n : ℕ) → ((k : ℕ) → k < n → lengthIn row k ≤ q) → greatest (weight states rules lists state row) n ≤ q
+  pub weights-low : (q n : ℕ) → ((k : ℕ) → k < n → lengthIn row k ≤ q) → greatest (weight x state row) n ≤ q
   unfolding weight
-  weights-low q n h = greatest-low (weight states rules lists state row) q n (λ k g. weight-under (live states lists state (nthRule rules k)) (lengthIn row k) q (h k g))
+  weights-low q n h =
+      greatest-low (weight x state row) q n (λ k g. weight-under (live (x .states) (x .lists) state (nthRule (x .rules) k)) (lengthIn row k) q (h k g))
 
 -- ---- the scan of the rules
 
 module _ (l1 l2 l3 : List ℕ) (states rules entries state : ℕ) (row : List ℕ) where
   pub scan-next : (k : ℕ) (b e : Best) (x : Rule) (bytes : ℕ) → k < rules
-      → b ≡ best (weight (contents stateFormat l1 states) (contents ruleFormat l2 rules) (contents entryFormat l3 entries) state row) k
+      → b ≡ best (weight (lexerAt l1 l2 l3 states rules entries) state row) k
       → x ≡ ruleAt l2 k → bytes ≡ entryAt row k
       → e ≡ better b k (cond (live (contents stateFormat l1 states) (contents entryFormat l3 entries) state x) bytes 0)
-      → e ≡ best (weight (contents stateFormat l1 states) (contents ruleFormat l2 rules) (contents entryFormat l3 entries) state row) (k + 1)
+      → e ≡ best (weight (lexerAt l1 l2 l3 states rules entries) state row) (k + 1)
   unfolding weight
   scan-next k b e x bytes h q ex eb ee =
-      let f : ℕ → ℕ = weight (contents stateFormat l1 states) (contents ruleFormat l2 rules) (contents entryFormat l3 entries) state row in
+      let f : ℕ → ℕ = weight (lexerAt l1 l2 l3 states rules entries) state row in
       let w : cond (live (contents stateFormat l1 states) (contents entryFormat l3 entries) state x) bytes 0 ≡ f k =
       ap₂ (λ (y : Rule) (n : ℕ). cond (live (contents stateFormat l1 states) (contents entryFormat l3 entries) state y) n 0) (ex ∙ sym (contents-read ruleFormat l2 rules k h)) eb in
       ee ∙ ap₂ (λ (y : Best) (n : ℕ). better y k n) q w ∙ best-next f k
 
   pub scan-ended : (k : ℕ) (b : Best) → k ≤ rules → rules ≤ k
-      → b ≡ best (weight (contents stateFormat l1 states) (contents ruleFormat l2 rules) (contents entryFormat l3 entries) state row) k
-      → b ≡ best (weight (contents stateFormat l1 states) (contents ruleFormat l2 rules) (contents entryFormat l3 entries) state row) rules
+      → b ≡ best (weight (lexerAt l1 l2 l3 states rules entries) state row) k
+      → b ≡ best (weight (lexerAt l1 l2 l3 states rules entries) state row) rules
   scan-ended k b h g q =
-      q ∙ ap (best (weight (contents stateFormat l1 states) (contents ruleFormat l2 rules) (contents entryFormat l3 entries) state row)) (omega arith)
+      q ∙ ap (best (weight (lexerAt l1 l2 l3 states rules entries) state row)) (omega arith)
 
 -- the list of a rule that was read lies inside the entries
 pub list-inside : {l1 l2 l3 : List ℕ} {states rules entries : ℕ} → Readable l1 l2 l3 states rules entries

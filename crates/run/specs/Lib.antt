@@ -1,2 +1,3 @@
 pub mod Winner
 pub mod Run
+pub mod Contracts

@@ -8,24 +8,36 @@ use Rattle.text.specs.Walk.{first}
 use Rattle.area.specs.declared.State.{State}
 use Rattle.area.specs.declared.Rule.{Rule}
 use Rattle.area.specs.Records.{entryAt, nthState, nthRule, nthEntry}
+use Rattle.parse.specs.Parse.{Contents}
 use Rattle.run.specs.declared.Best.{Best}
+
+-- ---- what a run reads of a sheet
+
+-- the states, the rules and the list entries (01, Areas, 1 to 3)
+pub record Lexer : Type 0 where
+  pub states : List State
+  pub rules : List Rule
+  pub lists : List ℕ
+
+abbrev pub lexerOf : Contents → Lexer
+lexerOf c = record { states = c .states; rules = c .rules; lists = c .lists }
 
 -- ---- a rule that is live
 
 -- where a state stands among the list entries from one place to before another; the end where it does not
-unfoldable pub findState : List ℕ → ℕ → ℕ → ℕ → ℕ
-findState lists from end state = first (λ i. eqb (nthEntry lists i) state) from end
+unfoldable pub findInList : List ℕ → ℕ → ℕ → ℕ → ℕ
+findInList lists from end state = first (λ i. eqb (nthEntry lists i) state) from end
 
 abbrev pub listEnd : Rule → ℕ
 listEnd x = x .«list_from» + x .«list_count»
 
 -- the list of a rule has a state
-unfoldable pub listed : List ℕ → ℕ → Rule → Bool
-listed lists state x = ltb (findState lists (x .«list_from») (listEnd x) state) (listEnd x)
+unfoldable pub inList : List ℕ → ℕ → Rule → Bool
+inList lists state x = ltb (findInList lists (x .«list_from») (listEnd x) state) (listEnd x)
 
 -- the list of the rule has the state, or is empty and the state is not exclusive
 unfoldable pub live : List State → List ℕ → ℕ → Rule → Bool
-live states lists state x = listed lists state x || (eqb (x .«list_count») 0 && eqb (nthState states state .exclusive) 0)
+live states lists state x = inList lists state x || (eqb (x .«list_count») 0 && eqb (nthState states state .exclusive) 0)
 
 -- ---- its length
 
@@ -34,8 +46,8 @@ abbrev pub lengthIn : List ℕ → ℕ → ℕ
 lengthIn row k = entryAt row k
 
 -- the same where the rule is live in the state, and otherwise 0
-unfoldable pub weight : List State → List Rule → List ℕ → ℕ → List ℕ → ℕ → ℕ
-weight states rules lists state row k = cond (live states lists state (nthRule rules k)) (lengthIn row k) 0
+unfoldable pub weight : Lexer → ℕ → List ℕ → ℕ → ℕ
+weight x state row k = cond (live (x .states) (x .lists) state (nthRule (x .rules) k)) (lengthIn row k) 0
 
 -- ---- the winner
 

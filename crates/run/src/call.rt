@@ -1,13 +1,12 @@
 // The start call and the step call (01, Numbers given at the counter, and The run).
 ghost use mathlib.Core.Path.{_≡_};
 ghost use mathlib.Core.Bool.{true};
-ghost use Prim.Native.Nat.{_-_, _<_};
-ghost use lib.ListN.{length};
-ghost use Rattle.area.specs.Contents.{contents, stateFormat, ruleFormat, entryFormat};
-ghost use Rattle.sheet_check.specs.SheetCheck.{sheetBytes};
-ghost use Rattle.run.specs.Run.{Readable, startLeft, startCall, goodRun, goodRow, stepLeft, stepRow, stepRun, stepCall};
+ghost use Prim.Native.Nat.{_<_};
+ghost use Rattle.run.specs.Run.{running, input, runLeft, startCall, goodRun, fitsIn, goodRow, stepRow, stepRun, stepCall};
+ghost use Rattle.run.specs.Contracts.{before, after, sheetIn, lexerIn, Readable};
 use crate::Begun;
 use crate::BegunRun;
+use crate::MOST_BYTES;
 use crate::Run;
 use crate::Step;
 use crate::Stepped;
@@ -21,11 +20,9 @@ use area::read_entry;
 use area::read_rule;
 use sheet_check::check::check;
 
-const MOST_BYTES: u64 = 4096;
-
 // Begins a run over an entry of n bytes, its numbers by value.
 pub fn start_entry(n: u64, r: Run, stack: &mut [u8]) -> BegunRun
-    ensures { λ q. ⌜ startLeft (q .answer) (q .run) (now (stack .exit)) ≡ startCall n r (now (stack .entry)) ⌝ }
+    ensures { λ q. ⌜ runLeft (q .answer) (q .run) (after stack) ≡ startCall n (running r (before stack)) ⌝ }
 {
     if n > MOST_BYTES {
         return BegunRun {
@@ -53,7 +50,7 @@ pub fn start_entry(n: u64, r: Run, stack: &mut [u8]) -> BegunRun
 
 // Begins a run over an entry of n bytes.
 pub fn start(n: u64, run: &mut Run, stack: &mut [u8]) -> Begun
-    ensures { λ a. ⌜ startLeft a (now (run .exit)) (now (stack .exit)) ≡ startCall n (now (run .entry)) (now (stack .entry)) ⌝ }
+    ensures { λ a. ⌜ runLeft a (now (run .exit)) (after stack) ≡ startCall n (running (now (run .entry)) (before stack)) ⌝ }
 {
     let begun = start_entry(n, *run, stack);
     *run = begun.run;
@@ -73,10 +70,13 @@ fn step_row(
     row: &[u8],
 ) -> Stepped
     requires { ⌜ Readable (now area1) (now area2) (now area3) states rules entries ⌝ }
-    requires { ⌜ goodRun states r (now stack) ≡ true ⌝ }
+    requires { ⌜ goodRun states (running r (now stack)) ≡ true ⌝ }
     requires { ⌜ r .position < r .n ⌝ }
-    requires { ⌜ goodRow rules (r .n - r .position) (now row) ≡ true ⌝ }
-    ensures { λ q. ⌜ stepLeft (q .answer) (q .run) (now (stack .exit)) ≡ stepRow (contents stateFormat (now (area1 .entry)) states) (contents ruleFormat (now (area2 .entry)) rules) (contents entryFormat (now (area3 .entry)) entries) r (now (stack .entry)) (now (row .entry)) ⌝ }
+    requires { ⌜ goodRow (fitsIn r) rules (now row) ≡ true ⌝ }
+    ensures { λ q. ⌜
+        runLeft (q .answer) (q .run) (after stack)
+        ≡ stepRow (lexerIn area1 area2 area3 states rules entries) (running r (before stack)) (input (before row))
+        ⌝ }
 {
     let state = read_entry(stack, r.depth as usize - 1);
     let b = longest(area1, area2, area3, states, rules, entries, state, row);
@@ -103,7 +103,10 @@ fn step_run(
     row: &[u8],
 ) -> Stepped
     requires { ⌜ Readable (now area1) (now area2) (now area3) states rules entries ⌝ }
-    ensures { λ q. ⌜ stepLeft (q .answer) (q .run) (now (stack .exit)) ≡ stepRun (contents stateFormat (now (area1 .entry)) states) (contents ruleFormat (now (area2 .entry)) rules) (contents entryFormat (now (area3 .entry)) entries) r (now (stack .entry)) (now (row .entry)) ⌝ }
+    ensures { λ q. ⌜
+        runLeft (q .answer) (q .run) (after stack)
+        ≡ stepRun (lexerIn area1 area2 area3 states rules entries) (running r (before stack)) (input (before row))
+        ⌝ }
 {
     if good_run(states, r, stack) {
         if r.position == r.n {
@@ -139,7 +142,10 @@ pub fn step_sheet(
     stack: &mut [u8],
     row: &[u8],
 ) -> Stepped
-    ensures { λ q. ⌜ stepLeft (q .answer) (q .run) (now (stack .exit)) ≡ stepCall (sheetBytes (now (src .entry)) (now (area1 .entry)) (now (area2 .entry)) (now (area3 .entry)) (now (area4 .entry)) (now (area5 .entry)) (now (counts .entry))) r (now (stack .entry)) (now (row .entry)) ⌝ }
+    ensures { λ q. ⌜
+        runLeft (q .answer) (q .run) (after stack)
+        ≡ stepCall (sheetIn src area1 area2 area3 area4 area5 counts) (running r (before stack)) (input (before row))
+        ⌝ }
 {
     if check(src, area1, area2, area3, area4, area5, counts) {
         return step_run(
@@ -173,7 +179,10 @@ pub fn step(
     stack: &mut [u8],
     row: &[u8],
 ) -> Step
-    ensures { λ a. ⌜ stepLeft a (now (run .exit)) (now (stack .exit)) ≡ stepCall (sheetBytes (now (src .entry)) (now (area1 .entry)) (now (area2 .entry)) (now (area3 .entry)) (now (area4 .entry)) (now (area5 .entry)) (now (counts .entry))) (now (run .entry)) (now (stack .entry)) (now (row .entry)) ⌝ }
+    ensures { λ a. ⌜
+        runLeft a (now (run .exit)) (after stack)
+        ≡ stepCall (sheetIn src area1 area2 area3 area4 area5 counts) (running (now (run .entry)) (before stack)) (input (before row))
+        ⌝ }
 {
     let stepped = step_sheet(
         src,

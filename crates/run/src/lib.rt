@@ -4,6 +4,9 @@ mod longest; // the rule that wins
 mod moves; // what the winner does
 pub mod call; // the calls
 
+// The most bytes of an entry.
+const MOST_BYTES: u64 = 4096;
+
 // A run's numbers: the bytes of the entry, those behind it, the entries of the stack in use, and the moves so far. For C they are four
 // two-byte numbers in this order.
 #[repr(C)]

@@ -4,9 +4,9 @@ ghost use mathlib.Core.Bool.{cond};
 ghost use Prim.Native.Nat.{_+_, _*_, _≤_, _<_};
 ghost use lib.ListN.{length};
 ghost use Rattle.area.specs.Records.{stateWidth, entryWidth};
-ghost use Rattle.area.specs.Contents.{contents, stateFormat, ruleFormat, entryFormat};
-ghost use Rattle.run.specs.Winner.{findState, live, weight, best, better};
-ghost use Rattle.run.specs.Run.{Readable};
+ghost use Rattle.area.specs.Contents.{contents, stateFormat, entryFormat};
+ghost use Rattle.run.specs.Winner.{findInList, live, weight, best, better};
+ghost use Rattle.run.specs.Contracts.{before, lexerIn, Readable};
 use crate::Best;
 use area::Rule;
 use area::read_entry;
@@ -14,9 +14,9 @@ use area::read_rule;
 use area::read_state;
 
 // Where a state stands among the list entries from one place to before another.
-fn find_state(area3: &[u8], entries: u16, from: usize, end: usize, state: u16) -> usize
+fn find_in_list(area3: &[u8], entries: u16, from: usize, end: usize, state: u16) -> usize
     requires { ⌜ (from ≤ end) × (end ≤ entries) × (entries * entryWidth ≤ length (now area3)) ⌝ }
-    ensures { λ r. ⌜ r ≡ findState (contents entryFormat (now (area3 .entry)) entries) from end state ⌝ }
+    ensures { λ r. ⌜ r ≡ findInList (contents entryFormat (before area3) entries) from end state ⌝ }
 {
     let mut i = from;
     while i < end {
@@ -32,11 +32,13 @@ fn is_live(area1: &[u8], area3: &[u8], states: u16, entries: u16, state: u16, x:
     requires { ⌜ x .«list_from» + x .«list_count» ≤ entries ⌝ }
     requires { ⌜ entries * entryWidth ≤ length (now area3) ⌝ }
     requires { ⌜ (state < states) × (states * stateWidth ≤ length (now area1)) ⌝ }
-    ensures { λ r. ⌜ r ≡ live (contents stateFormat (now (area1 .entry)) states) (contents entryFormat (now (area3 .entry)) entries) state x ⌝ }
+    ensures { λ r. ⌜
+        r ≡ live (contents stateFormat (before area1) states) (contents entryFormat (before area3) entries) state x
+        ⌝ }
 {
     let from = x.list_from as usize;
     let end = from + x.list_count as usize;
-    if find_state(area3, entries, from, end, state) < end {
+    if find_in_list(area3, entries, from, end, state) < end {
         return true;
     }
     if x.list_count == 0 {
@@ -61,7 +63,9 @@ fn better_of(
     requires { ⌜ x .«list_from» + x .«list_count» ≤ entries ⌝ }
     requires { ⌜ entries * entryWidth ≤ length (now area3) ⌝ }
     requires { ⌜ (state < states) × (states * stateWidth ≤ length (now area1)) ⌝ }
-    ensures { λ r. ⌜ r ≡ better b k (cond (live (contents stateFormat (now (area1 .entry)) states) (contents entryFormat (now (area3 .entry)) entries) state x) bytes 0) ⌝ }
+    ensures { λ r. ⌜
+        r ≡ better b k (cond (live (contents stateFormat (before area1) states) (contents entryFormat (before area3) entries) state x) bytes 0)
+        ⌝ }
 {
     if b.length < bytes {
         if is_live(area1, area3, states, entries, state, x) {
@@ -87,7 +91,9 @@ pub fn longest(
     requires { ⌜ Readable (now area1) (now area2) (now area3) states rules entries ⌝ }
     requires { ⌜ state < states ⌝ }
     requires { ⌜ rules * entryWidth ≤ length (now row) ⌝ }
-    ensures { λ r. ⌜ r ≡ best (weight (contents stateFormat (now (area1 .entry)) states) (contents ruleFormat (now (area2 .entry)) rules) (contents entryFormat (now (area3 .entry)) entries) state (now (row .entry))) rules ⌝ }
+    ensures { λ r. ⌜
+        r ≡ best (weight (lexerIn area1 area2 area3 states rules entries) state (before row)) rules
+        ⌝ }
 {
     let most = rules as usize;
     let mut b = Best { length: 0, rule: 0 };

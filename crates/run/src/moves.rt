@@ -3,7 +3,8 @@ ghost use mathlib.Core.Path.{_≡_};
 ghost use Prim.Native.Nat.{_+_, _*_, _≤_};
 ghost use lib.ListN.{length};
 ghost use Rattle.area.specs.Records.{entryWidth};
-ghost use Rattle.run.specs.Run.{putState, stacked, operated, moved, moveBy, stepLeft, wonBy};
+ghost use Rattle.run.specs.Run.{running, runLeft, putState, withDepth, operated, moveBy, wonBy};
+ghost use Rattle.run.specs.Contracts.{before, after, HasRoom, Inside};
 use crate::Run;
 use crate::Step;
 use crate::Stepped;
@@ -20,41 +21,40 @@ const POP: u16 = 3;
 
 pub fn put_state(stack: &mut [u8], k: u16, id: u16)
     requires { ⌜ k * entryWidth + entryWidth ≤ length (now stack) ⌝ }
-    ensures { λ _. ⌜ now (stack .exit) ≡ putState (now (stack .entry)) k id ⌝ }
+    ensures { λ _. ⌜ after stack ≡ putState (before stack) k id ⌝ }
 {
     write_field(stack, k as usize * ENTRY_WIDTH, id);
 }
 
 // Does the operation of a rule, and answers how many entries are in use then.
-fn operate(x: Rule, depth: u16, stack: &mut [u8]) -> u16
-    requires { ⌜ (1 ≤ depth) × (depth ≤ 4096) × (depth * entryWidth + entryWidth ≤ length (now stack)) ⌝ }
-    ensures { λ r. ⌜ stacked r (now (stack .exit)) ≡ operated x depth (now (stack .entry)) ⌝ }
+fn operate(x: Rule, r: Run, stack: &mut [u8]) -> u16
+    requires { ⌜ HasRoom r (length (now stack)) ⌝ }
+    ensures { λ d. ⌜ running (withDepth r d) (after stack) ≡ operated (running r (before stack)) x ⌝ }
 {
     if x.operation == REPLACE {
         put_state(stack, 0, x.target);
         return 1; // the target alone
     }
     if x.operation == PUSH {
-        put_state(stack, depth, x.target);
-        return depth + 1;
+        put_state(stack, r.depth, x.target);
+        return r.depth + 1;
     }
     if x.operation == POP {
-        if depth == 1 {
+        if r.depth == 1 {
             put_state(stack, 0, 0);
             return 1; // state 0 alone
         }
-        return depth - 1;
+        return r.depth - 1;
     }
-    depth
+    r.depth
 }
 
 // A move by the winner: the run's numbers after it.
 fn move_by(x: Rule, bytes: u16, r: Run, stack: &mut [u8]) -> Run
-    requires { ⌜ (1 ≤ r .depth) × (r .depth ≤ 4096) × (r .depth * entryWidth + entryWidth ≤ length (now stack)) ⌝ }
-    requires { ⌜ (r .position + bytes ≤ 4096) × (r .moves ≤ 4096) ⌝ }
-    ensures { λ q. ⌜ moved q (now (stack .exit)) ≡ moveBy x bytes r (now (stack .entry)) ⌝ }
+    requires { ⌜ Inside r bytes (length (now stack)) ⌝ }
+    ensures { λ q. ⌜ running q (after stack) ≡ moveBy (running r (before stack)) x bytes ⌝ }
 {
-    let depth = operate(x, r.depth, stack);
+    let depth = operate(x, r, stack);
     Run {
         n: r.n,
         position: r.position + bytes,
@@ -65,9 +65,8 @@ fn move_by(x: Rule, bytes: u16, r: Run, stack: &mut [u8]) -> Run
 
 // The winner, by so many bytes.
 pub fn won_by(x: Rule, bytes: u16, r: Run, stack: &mut [u8]) -> Stepped
-    requires { ⌜ (1 ≤ r .depth) × (r .depth ≤ 4096) × (r .depth * entryWidth + entryWidth ≤ length (now stack)) ⌝ }
-    requires { ⌜ (r .position + bytes ≤ 4096) × (r .moves ≤ 4096) ⌝ }
-    ensures { λ q. ⌜ stepLeft (q .answer) (q .run) (now (stack .exit)) ≡ wonBy x bytes r (now (stack .entry)) ⌝ }
+    requires { ⌜ Inside r bytes (length (now stack)) ⌝ }
+    ensures { λ q. ⌜ runLeft (q .answer) (q .run) (after stack) ≡ wonBy (running r (before stack)) x bytes ⌝ }
 {
     if x.named == 1 {
         if x.has_id == 1 {

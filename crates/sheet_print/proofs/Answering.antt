@@ -19,9 +19,10 @@ use Rattle.area.proofs.Fields.{bytes-length}
 use Rattle.parse.specs.declared.Answer.{Answer}
 use Rattle.parse.specs.declared.Answer.the-variants.{Accepted, LongFile, UnknownFlag, InvalidUtf8, AreaFull, FaultyFile}
 use Rattle.parse.specs.Parse.{Left, left, leaves, Outcome, Caps, caps, longFile, unknownFlag, invalidUtf8, areaFull, faulty, accepted, outcome, parseCall}
-use Rattle.sheet_print.specs.Output.{Appends, Written}
-use Rattle.sheet_print.specs.Lines.{joined, stateLine, ruleLine, faultLine, statesIn, rulesIn, faultsIn, sheetIn, refusedLine, fullLine, answerText, textOf, sheetText, lent}
-use Rattle.sheet_print.proofs.Appending.{appends-first}
+use Rattle.output.specs.Output.{Appends, Written, joined}
+use Rattle.output.proofs.Appending.{appends-first}
+use Rattle.sheet_lines.specs.Lines.{stateLine, ruleLine, faultLine, statesIn, rulesIn, faultsIn, sheetIn, refusedLine, fullLine}
+use Rattle.sheet_print.specs.Lines.{answerText, textOf, sheetText, lent}
 
 -- ---- the lines of an answer
 

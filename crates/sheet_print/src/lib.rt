@@ -1,54 +1,17 @@
 // What the parse call makes of a file, as lines of text (01, Files to try, the end).
-mod lines;
-pub mod output;
-
 ghost use Prim.Native.Nat.{_≤_};
 ghost use lib.ListN.{length, getD};
-ghost use Rattle.sheet_print.specs.Output.{Appends, Written, AllWritten};
-ghost use Rattle.sheet_print.specs.Lines.{refusedLine, fullLine, sheetIn, answerText, sheetText, sheetRoom};
-use lines::put_faults;
-use lines::put_rules;
-use lines::put_states;
-use output::put_field;
-use output::put_line_end;
-use output::put_text;
+ghost use Rattle.output.specs.Output.{Written, AllWritten};
+ghost use Rattle.sheet_print.specs.Lines.{answerText, sheetText, sheetRoom};
 use parse::Answer;
 use parse::call::parse;
+use sheet_lines::put_faults;
+use sheet_lines::put_full;
+use sheet_lines::put_refused;
+use sheet_lines::put_sheet;
 
 // The room that `sheet` asks for.
 pub const SHEET_ROOM: usize = 262527;
-
-fn put_refused(out: &mut [u8], n: usize, number: u16) -> usize
-    ensures { λ r. ⌜ Appends (refusedLine number) (now (out .entry)) n (now (out .exit)) r ⌝ }
-{
-    let n = put_text(out, n, b"refused");
-    let n = put_field(out, n, number);
-    put_line_end(out, n)
-}
-
-fn put_full(out: &mut [u8], n: usize, area: u16) -> usize
-    ensures { λ r. ⌜ Appends (fullLine area) (now (out .entry)) n (now (out .exit)) r ⌝ }
-{
-    let n = put_text(out, n, b"refused");
-    let n = put_field(out, n, 4);
-    let n = put_field(out, n, area);
-    put_line_end(out, n)
-}
-
-fn put_sheet(
-    out: &mut [u8],
-    n: usize,
-    src: &[u8],
-    states: u16,
-    area1: &[u8],
-    rules: u16,
-    area2: &[u8],
-) -> usize
-    ensures { λ r. ⌜ Appends (sheetIn (now (src .entry)) (now (area1 .entry)) states (now (area2 .entry)) rules) (now (out .entry)) n (now (out .exit)) r ⌝ }
-{
-    let n = put_states(out, n, src, area1, states);
-    put_rules(out, n, area2, rules)
-}
 
 // The lines that an answer and the areas come to.
 fn put_answer(

@@ -1,4 +1,1 @@
 pub mod Words
-pub mod PatternWords
-pub mod LinkingWords
-pub mod RunningWords

@@ -1,15 +1,25 @@
--- The word of an answer that has one value, and what the exported parse call leaves: the call's equation, with the word in place of the answer.
+-- What an exported call leaves: the call's equation, with the word in place of the answer.
 use mathlib.Core.Path.{_≡_, ap, _∙_}
 use mathlib.Core.List.{List}
-use Prim.Native.Nat.{ℕ, _+_, _*_}
-use native.Mathlib.Omega.{arith}
+use Prim.Native.Nat.{ℕ}
 use Rattle.parse.specs.declared.Answer.{Answer}
-use Rattle.answers.specs.Words.{fields, word}
 use Rattle.parse.specs.Parse.{Left, left, parseWord}
+use Rattle.link.specs.declared.LinkAnswer.{LinkAnswer}
+use Rattle.link.specs.Link.{LinkLeft, linkLeft, linkWord}
+use Rattle.run.specs.declared.Run.{Run}
+use Rattle.run.specs.Run.{RunLeft, runLeft, leaving}
 use Rattle.troymantle.specs.Words.{leftInWords, inWords}
+use Rattle.troymantle.specs.LinkWords.{linkInWords, inLinkWords}
 
-pub one-value : (number n : ℕ) → number + 65536 * n ≡ word (fields number n 0 0)
-one-value number n = omega arith
-
-pub word-left : (a : Answer) (r : ℕ) → r ≡ parseWord a → (n x1 x2 x3 x4 x5 x6 : List ℕ) (y : Left) → left a n x1 x2 x3 x4 x5 x6 ≡ y → leftInWords r n x1 x2 x3 x4 x5 x6 ≡ inWords y
+pub word-left : (a : Answer) (r : ℕ) → r ≡ parseWord a → (n x1 x2 x3 x4 x5 x6 : List ℕ) (y : Left)
+    → left a n x1 x2 x3 x4 x5 x6 ≡ y → leftInWords r n x1 x2 x3 x4 x5 x6 ≡ inWords y
 word-left a r w n x1 x2 x3 x4 x5 x6 y e = ap (λ (k : ℕ). leftInWords k n x1 x2 x3 x4 x5 x6) w ∙ ap inWords e
+
+pub word-link-left : (a : LinkAnswer) (r : ℕ) → r ≡ linkWord a → (x2 x7 x8 : List ℕ) (y : LinkLeft)
+    → linkLeft a x2 x7 x8 ≡ y → linkInWords r x2 x7 x8 ≡ inLinkWords y
+word-link-left a r w x2 x7 x8 y e = ap (λ (k : ℕ). linkInWords k x2 x7 x8) w ∙ ap inLinkWords e
+
+-- of the start call and of the step call
+pub word-run-left : {A : Type 0} (wordOf : A → ℕ) (a : A) (w : ℕ) → w ≡ wordOf a → (r : Run) (s : List ℕ) (y : RunLeft A)
+    → runLeft a r s ≡ y → runLeft w r s ≡ leaving (wordOf (y .answer)) (y .after)
+word-run-left {A} wordOf a w h r s y e = ap (λ (k : ℕ). runLeft k r s) h ∙ ap (λ (x : RunLeft A). leaving (wordOf (x .answer)) (x .after)) e

@@ -1,8 +1,9 @@
 // The calls of the host, as C functions (01, Numbers given at the counter). An answer is one word of four two-byte fields: its number, then its values.
 ghost use mathlib.Core.Path.{_≡_};
-ghost use lib.ListN.{length};
-ghost use Rattle.parse.specs.Parse.{caps, parseCall, parseWord};
-ghost use Rattle.troymantle.specs.Words.{inWords, leftInWords};
+ghost use Rattle.parse.specs.Parse.{parseCall, parseWord};
+ghost use Rattle.run.specs.Contracts.{before};
+ghost use Rattle.troymantle.specs.Words.{inWords};
+ghost use Rattle.troymantle.specs.Contracts.{roomIn, leftIn};
 use answers::ACCEPTED;
 use answers::AREA_FULL;
 use answers::FAULTY_FILE;
@@ -44,7 +45,10 @@ pub extern "C" fn troymantle_parse(
     area6: &mut [u8],
     counts: &mut [u16; 6],
 ) -> u64
-    ensures { λ r. ⌜ leftInWords r (now (counts .exit)) (now (area1 .exit)) (now (area2 .exit)) (now (area3 .exit)) (now (area4 .exit)) (now (area5 .exit)) (now (area6 .exit)) ≡ inWords (parseCall (now (src .entry)) flags (now (verdicts .entry)) (caps (length (now (area1 .entry))) (length (now (area2 .entry))) (length (now (area3 .entry))) (length (now (area4 .entry))) (length (now (area5 .entry))) (length (now (area6 .entry))))) ⌝ }
+    ensures { λ r. ⌜
+        leftIn r counts area1 area2 area3 area4 area5 area6
+        ≡ inWords (parseCall (before src) flags (before verdicts) (roomIn area1 area2 area3 area4 area5 area6))
+        ⌝ }
 {
     word_of(parse(
         src,

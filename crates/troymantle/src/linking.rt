@@ -1,7 +1,7 @@
 // The link call as a C function (01, Linking).
 ghost use mathlib.Core.Path.{_≡_};
-ghost use Rattle.sheet_check.specs.SheetCheck.{sheetBytes};
 ghost use Rattle.link.specs.Link.{linkCall, linkWord};
+ghost use Rattle.run.specs.Contracts.{before, after, sheetIn};
 ghost use Rattle.troymantle.specs.LinkWords.{inLinkWords, linkInWords};
 use answers::ACCEPTED;
 use answers::AREA_FULL;
@@ -37,7 +37,10 @@ pub extern "C" fn troymantle_link(
     area7: &mut [u8],
     area8: &mut [u8],
 ) -> u64
-    ensures { λ r. ⌜ linkInWords r (now (area2 .exit)) (now (area7 .exit)) (now (area8 .exit)) ≡ inLinkWords (linkCall (sheetBytes (now (src .entry)) (now (area1 .entry)) (now (area2 .entry)) (now (area3 .entry)) (now (area4 .entry)) (now (area5 .entry)) (now (counts .entry))) (now (names .entry)) (now (entries .entry)) (now (area7 .entry)) (now (area8 .entry))) ⌝ }
+    ensures { λ r. ⌜
+        linkInWords r (after area2) (after area7) (after area8)
+        ≡ inLinkWords (linkCall (sheetIn src area1 area2 area3 area4 area5 counts) (before names) (before entries) (before area7) (before area8))
+        ⌝ }
 {
     link_word(set_rule_ids_spanned(
         src,

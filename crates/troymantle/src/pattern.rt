@@ -1,7 +1,7 @@
 // The pattern of a rule, as numbers: no exported function may hand back a reference, so the host takes the part itself (01, Areas, 4).
 ghost use mathlib.Core.Path.{_≡_};
-ghost use Rattle.sheet_check.specs.SheetCheck.{sheetBytes};
 ghost use Rattle.sheet_check.specs.Pattern.{patternPart, numberOf, patternWord};
+ghost use Rattle.run.specs.Contracts.{sheetIn};
 use answers::ACCEPTED;
 use answers::BROKEN_SHEET;
 use answers::word;
@@ -30,7 +30,7 @@ pub extern "C" fn troymantle_pattern(
     counts: &[u16; 6],
     rule: u64,
 ) -> u64
-    ensures { λ r. ⌜ r ≡ patternWord (patternPart (sheetBytes (now (src .entry)) (now (area1 .entry)) (now (area2 .entry)) (now (area3 .entry)) (now (area4 .entry)) (now (area5 .entry)) (now (counts .entry))) rule) ⌝ }
+    ensures { λ r. ⌜ r ≡ patternWord (patternPart (sheetIn src area1 area2 area3 area4 area5 counts) rule) ⌝ }
 {
     located_word(locate(src, area1, area2, area3, area4, area5, counts, rule))
 }
@@ -47,7 +47,7 @@ pub extern "C" fn troymantle_pattern_test(
     counts: &[u16; 6],
     rule: u64,
 ) -> u64
-    ensures { λ r. ⌜ r ≡ numberOf (patternPart (sheetBytes (now (src .entry)) (now (area1 .entry)) (now (area2 .entry)) (now (area3 .entry)) (now (area4 .entry)) (now (area5 .entry)) (now (counts .entry))) rule) ⌝ }
+    ensures { λ r. ⌜ r ≡ numberOf (patternPart (sheetIn src area1 area2 area3 area4 area5 counts) rule) ⌝ }
 {
     pattern_test(src, area1, area2, area3, area4, area5, counts, rule)
 }

@@ -1,8 +1,8 @@
 // The start call and the step call as C functions (01, The run).
 ghost use mathlib.Core.Path.{_≡_};
-ghost use Rattle.sheet_check.specs.SheetCheck.{sheetBytes};
-ghost use Rattle.run.specs.Run.{startCall, startWord, stepCall, stepWord};
-ghost use Rattle.troymantle.specs.RunWords.{runInWords, startInWords, stepInWords};
+ghost use Rattle.run.specs.Run.{running, input, runLeft, startCall, startWord, stepCall, stepWord};
+ghost use Rattle.run.specs.Contracts.{before, after, sheetIn};
+ghost use Rattle.troymantle.specs.RunWords.{startInWords, stepInWords};
 use answers::ACCEPTED;
 use answers::BROKEN_RUN;
 use answers::BROKEN_SHEET;
@@ -47,7 +47,10 @@ fn step_word(answer: Step) -> u64
 // Begins a run over an entry of n bytes. A refusal changes nothing.
 #[no_mangle]
 pub extern "C" fn troymantle_start(n: u64, run: &mut Run, stack: &mut [u8]) -> u64
-    ensures { λ r. ⌜ runInWords r (now (run .exit)) (now (stack .exit)) ≡ startInWords (startCall n (now (run .entry)) (now (stack .entry))) ⌝ }
+    ensures { λ r. ⌜
+        runLeft r (now (run .exit)) (after stack)
+        ≡ startInWords (startCall n (running (now (run .entry)) (before stack)))
+        ⌝ }
 {
     start_word(start(n, run, stack))
 }
@@ -66,7 +69,10 @@ pub extern "C" fn troymantle_step(
     stack: &mut [u8],
     row: &[u8],
 ) -> u64
-    ensures { λ r. ⌜ runInWords r (now (run .exit)) (now (stack .exit)) ≡ stepInWords (stepCall (sheetBytes (now (src .entry)) (now (area1 .entry)) (now (area2 .entry)) (now (area3 .entry)) (now (area4 .entry)) (now (area5 .entry)) (now (counts .entry))) (now (run .entry)) (now (stack .entry)) (now (row .entry))) ⌝ }
+    ensures { λ r. ⌜
+        runLeft r (now (run .exit)) (after stack)
+        ≡ stepInWords (stepCall (sheetIn src area1 area2 area3 area4 area5 counts) (running (now (run .entry)) (before stack)) (input (before row)))
+        ⌝ }
 {
     step_word(step(
         src,

@@ -1,5 +1,5 @@
 -- `file_cases::show` meets its contract: the bytes that are lent lie within the buffer.
-use Rattle.sheet_print.proofs.Counting.{counting}
+use Rattle.output.proofs.Counting.{counting}
 use Rattle.file_cases.proofs.show.Statement.{statement}
 use Rattle.file_cases.proofs.show.Tie as tie
 

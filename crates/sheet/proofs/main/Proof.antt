@@ -1,5 +1,5 @@
 -- `sheet::main` meets its contract: the bytes that are lent lie within their buffers.
-use Rattle.sheet_print.proofs.Counting.{counting}
+use Rattle.output.proofs.Counting.{counting}
 use Rattle.sheet.proofs.main.Statement.{statement}
 use Rattle.sheet.proofs.main.Tie as tie
 

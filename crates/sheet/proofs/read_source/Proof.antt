@@ -2,7 +2,7 @@
 use mathlib.Core.Path.{_≡_}
 use Prim.Native.Nat.{_-_, _≤_}
 use lib.ListN.{length}
-use Rattle.sheet_print.proofs.Counting.{counting}
+use Rattle.output.proofs.Counting.{counting}
 use Rattle.sheet.proofs.read_source.Statement.{statement}
 use Rattle.sheet.proofs.read_source.Tie as tie
 

@@ -2,7 +2,6 @@
 use mathlib.Core.Path.{sym, ap, _∙_}
 use borrow.Author.Needs.{needs}
 use Rattle.parse.specs.Parse.{parseWord, parseFields}
-use Rattle.troymantle.proofs.Words.{one-value}
 use Rattle.troymantle.proofs.word_of.Statement.{statement}
 use Rattle.troymantle.proofs.word_of.Tie as tie
 
@@ -12,20 +11,20 @@ word-of-spec =
     tie.close
     (tie.spec
     (λ c. search needs)
+    (λ c κs. search needs)
     (λ c. search needs)
+    (λ c κs. search needs)
     (λ c. search needs)
+    (λ c κs. search needs)
     (λ c. search needs)
+    (λ c κs. search needs)
     (λ c. search needs)
+    (λ c κs. search needs)
     (λ c. search needs)
-    (λ c. search needs)
-    (λ c. search needs)
-    (λ c. search needs)
-    (λ c. search needs)
-    (λ c. search needs)
-    (λ c. search needs)
-    (λ c. ap parseWord (sym (c .enum-told .given .1)))
-    (λ c. ap parseWord (sym (c .enum-told2 .given .1)))
-    (λ c. ap parseWord (sym (c .enum-told3 .given .1)))
-    (λ c. ap parseWord (sym (c .enum-told4 .given .1)))
-    (λ c. one-value 4 _ ∙ ap parseWord (sym (c .before .answer .given .1)))
-    (λ c. one-value 5 _ ∙ ap parseWord (sym (c .before .answer2 .given .1))))
+    (λ c κs. search needs)
+    (λ c. c .word .ensures ∙ ap parseWord (sym (c .before .enum-told .given .1)))
+    (λ c. c .word2 .ensures ∙ ap parseWord (sym (c .before .enum-told2 .given .1)))
+    (λ c. c .word3 .ensures ∙ ap parseWord (sym (c .before .enum-told3 .given .1)))
+    (λ c. c .word4 .ensures ∙ ap parseWord (sym (c .before .enum-told4 .given .1)))
+    (λ c. c .word5 .ensures ∙ ap parseWord (sym (c .before .before .answer .given .1)))
+    (λ c. c .word6 .ensures ∙ ap parseWord (sym (c .before .before .answer2 .given .1))))

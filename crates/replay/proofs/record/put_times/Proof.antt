@@ -1,7 +1,7 @@
 -- `replay::record::put_times` meets its contract: the text is appended i times.
 use Prim.Native.Nat.{_-_, _≤_}
 use Rattle.text.specs.Range.{part}
-use Rattle.sheet_print.specs.Output.{Appends}
+use Rattle.output.specs.Output.{Appends}
 use Rattle.replay.specs.Records.{repeated}
 use Rattle.replay.proofs.Pieces.{repeating}
 use Rattle.replay.proofs.record.put_times.Statement.{statement}

@@ -36,7 +36,6 @@ use denote.Triple.Spec.{tripleOf}
 use denote.Triple.Statement.{Contract, Triple}
 use denote.Triple.Table.{entered, cited}
 use denote.Triple.Walked.{says, Stays, walkOf, ends-at}
-use Rattle.run.specs.Run.{startLeft, startCall}
 use Rattle.run.specs.declared.Run.{Run}
 use Rattle.borrow_proofs.proofs.Walking.{parts, tokens, nothings, all, have-nothings, allocated, param, arg, release, called}
 use Rattle.borrow_proofs.proofs.Lending.{lfts-but, shares-but, but, with, taken-out, put-in, lent-opened, lent-closed}
@@ -131,7 +130,7 @@ module _ {M : Type 1} (𝓤 : URA M) (H : Heap 𝓤) (A : Atoms 𝓤) (W : Given
         called ! fm start-entry.ended (start-entry.clauses 𝓤 H A mem run) known to (arg ! 17 refl (arg ! 9 refl (arg ! 5 refl (no-more !))))
         (λ w out ws. let zs = ws .1 .1 .0 in
         facts ! OutType.the-row (Is OutType.the-row) (shows 𝓤 H A OutType.the-row) out (w ∷ []) (λ is. let new = StructLaws.owed OutType.the-type OutLaws.the-laws out _ is in
-        move ! (2 ∷ []) $ heard ! (startLeft (out .answer) (out .run) zs ≡ startCall n (lent .now) (stack .now)) (λ said.
+        move ! (2 ∷ []) $ heard ! _ (λ said.
         use1 W (‵ (all (but 0 ts))) (id⊢ 𝓤 _) $ move ! (1 ∷ []) $ taken-out ! 2 (lasting zs) $ fsplit ! $ move ! (1 ∷ []) $ feqL ! (λ long. move ! (1 ∷ []) $ drop ! $
         -- [the stack's last list; the other tokens; the run's cell; the open borrow; its two names; _7; …]: the run is stored, the answer returned
         land ! (from ! (stop !)) (init ! 12 refl (StructLaws.lawful OutType.the-type OutLaws.the-laws 𝓤 H A W .typed out _ is .0)) $

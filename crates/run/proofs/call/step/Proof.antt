@@ -37,7 +37,6 @@ use denote.Triple.Statement.{Contract, Triple}
 use denote.Triple.Table.{entered, cited}
 use denote.Triple.Walked.{says, Stays, walkOf, ends-at}
 use Rattle.sheet_check.specs.SheetCheck.{sheetBytes}
-use Rattle.run.specs.Run.{stepLeft, stepCall}
 use Rattle.run.specs.declared.Run.{Run}
 use Rattle.borrow_proofs.proofs.Walking.{parts, tokens, nothings, all, have-nothings, allocated, param, arg, release, called}
 use Rattle.borrow_proofs.proofs.Lending.{lfts-but, shares-but, but, with, taken-out, put-in, lent-opened, lent-closed}
@@ -135,7 +134,7 @@ module _ {M : Type 1} (𝓤 : URA M) (H : Heap 𝓤) (A : Atoms 𝓤) (W : Given
         called ! fm step-sheet.ended (step-sheet.clauses 𝓤 H A mem run) known to (arg ! 31 refl (arg ! 29 refl (arg ! 27 refl (arg ! 25 refl (arg ! 23 refl (arg ! 21 refl (arg ! 19 refl (arg ! 9 refl (arg ! 5 refl (arg ! 13 refl (no-more !)))))))))))
         (λ w out ws. let zs = ws .1 .1 .1 .1 .1 .1 .1 .1 .0 in
         facts ! OutType.the-row (Is OutType.the-row) (shows 𝓤 H A OutType.the-row) out (w ∷ []) (λ is. let new = StructLaws.owed OutType.the-type OutLaws.the-laws out _ is in
-        move ! (2 ∷ []) $ heard ! (stepLeft (out .answer) (out .run) zs ≡ stepCall (sheetBytes (src .now) (area1 .now) (area2 .now) (area3 .now) (area4 .now) (area5 .now) (counts .now)) (lent .now) (stack .now) (row .now)) (λ said.
+        move ! (2 ∷ []) $ heard ! _ (λ said.
         use1 W (‵ (all (but 7 ts))) (id⊢ 𝓤 _) $ move ! (1 ∷ []) $ taken-out ! 8 (lasting zs) $ fsplit ! $ move ! (1 ∷ []) $ feqL ! (λ long. move ! (1 ∷ []) $ drop ! $
         -- [the stack's last list; the other tokens; the run's cell; the open borrow; its two names; _14; …]: the run is stored, the answer returned
         land ! (from ! (stop !)) (init ! 12 refl (StructLaws.lawful OutType.the-type OutLaws.the-laws 𝓤 H A W .typed out _ is .0)) $

@@ -32,8 +32,7 @@ won-by-requires c κs =
     let given = c .before .before .before .before .before .before .before .before .before .before .before .before .before .pre in
     let bytes = bytes-low _ _ _ _ _ _ _ _ _ (c .before .before .before .before .longest .ensures) _ (given .1 .1 .1) in
     let g = run-is _ _ _ (given .1 .0) in
-    let i = move-inside _ _ _ g (given .1 .1 .0) bytes in
-    ((g .some-depth, i .low-depth, i .room), (i .position, i .moves))
+    move-inside _ _ _ g (given .1 .1 .0) bytes
 
 returns-2 : tie.Need-returns-2
 returns-2 c =

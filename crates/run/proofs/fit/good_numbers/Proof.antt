@@ -18,4 +18,5 @@ good-numbers-spec =
     (λ c. search needs)
     (λ c. search needs)
     (λ c. search needs)
+    (λ c. search needs)
     returns)

@@ -3,15 +3,15 @@ use mathlib.Core.Path.{_≡_}
 use Prim.Native.Nat.{_≤_, _-_}
 use native.Mathlib.Omega.{arith}
 use borrow.Author.Needs.{needs}
-use Rattle.area.specs.Contents.{contents, stateFormat, ruleFormat, entryFormat}
 use Rattle.run.specs.Winner.{weight, best}
+use Rattle.run.specs.Contracts.{lexerAt}
 use Rattle.run.proofs.Winning.{best-none, scan-next, scan-ended, list-inside}
 use Rattle.run.proofs.longest.longest.Statement.{statement}
 use Rattle.run.proofs.longest.longest.Tie as tie
 
 abbrev Inv-loop : tie.InvT-loop
 Inv-loop area1 area2 area3 states rules entries state row most b₀ k₀ b k =
-    (k ≤ rules) × (b ≡ best (weight (contents stateFormat area1 states) (contents ruleFormat area2 rules) (contents entryFormat area3 entries) state row) k)
+    (k ≤ rules) × (b ≡ best (weight (lexerAt area1 area2 area3 states rules entries) state row) k)
 
 abbrev μ-loop : tie.MeasureT-loop
 μ-loop area1 area2 area3 states rules entries state row most b₀ k₀ b k = rules - k

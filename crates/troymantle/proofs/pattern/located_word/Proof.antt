@@ -1,21 +1,18 @@
--- `troymantle::pattern::located_word` meets its contract: each answer has its word.
-use Rattle.troymantle.proofs.PatternWords.{pattern-words}
+-- `troymantle::pattern::located_word` meets its contract: each return is the word of the answer that the branch is taken for.
+use mathlib.Core.Path.{sym, ap, _∙_}
+use borrow.Author.Needs.{needs}
+use Rattle.sheet_check.specs.Pattern.{patternWord, patternFields}
 use Rattle.troymantle.proofs.pattern.located_word.Statement.{statement}
 use Rattle.troymantle.proofs.pattern.located_word.Tie as tie
 
 pub located-word-spec : {M : Type 1} → statement M
+unfolding patternFields
 located-word-spec =
     tie.close
     (tie.spec
-    (λ c. search pattern-words)
-    (λ c. search pattern-words)
-    (λ c. search pattern-words)
-    (λ c. search pattern-words)
-    (λ c. search pattern-words)
-    (λ c. search pattern-words)
-    (λ c. search pattern-words)
-    (λ c. search pattern-words)
-    (λ c. search pattern-words)
-    (λ c. search pattern-words)
-    (λ c. search pattern-words)
-    (λ c. search pattern-words))
+    (λ c. search needs)
+    (λ c κs. search needs)
+    (λ c. search needs)
+    (λ c κs. search needs)
+    (λ c. c .word .ensures ∙ ap patternWord (sym (c .before .before .part .given .1)))
+    (λ c. c .word2 .ensures ∙ ap patternWord (sym (c .before .enum-told .given .1))))

@@ -1,7 +1,7 @@
--- `troymantle::running::start_word` meets its contract: each answer has its word.
-use mathlib.Core.Path.{sym, ap}
+-- `troymantle::running::start_word` meets its contract: each return is the word of the answer that the branch is taken for.
+use mathlib.Core.Path.{sym, ap, _∙_}
 use borrow.Author.Needs.{needs}
-use Rattle.run.specs.Run.{startFields, startWord}
+use Rattle.run.specs.Run.{startWord, startFields}
 use Rattle.troymantle.proofs.running.start_word.Statement.{statement}
 use Rattle.troymantle.proofs.running.start_word.Tie as tie
 
@@ -11,6 +11,8 @@ start-word-spec =
     tie.close
     (tie.spec
     (λ c. search needs)
+    (λ c κs. search needs)
     (λ c. search needs)
-    (λ c. ap startWord (sym (c .enum-told .given .1)))
-    (λ c. ap startWord (sym (c .enum-told2 .given .1))))
+    (λ c κs. search needs)
+    (λ c. c .word .ensures ∙ ap startWord (sym (c .before .enum-told .given .1)))
+    (λ c. c .word2 .ensures ∙ ap startWord (sym (c .before .enum-told2 .given .1))))

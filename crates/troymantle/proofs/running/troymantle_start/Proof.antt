@@ -34,7 +34,7 @@ use denote.Triple.Spec.{tripleOf}
 use denote.Triple.Statement.{Contract, Triple}
 use denote.Triple.Table.{entered, cited}
 use denote.Triple.Walked.{says, Stays, walkOf, ends-at}
-use Rattle.run.specs.Run.{startLeft, startCall, startWord}
+use Rattle.run.specs.Run.{startWord}
 use Rattle.run.specs.declared.Run.{Run}
 use Rattle.run.specs.declared.Begun.{Begun}
 use Rattle.borrow_proofs.proofs.Walking.{parts, tokens, nothings, all, allocated, param, arg, release, called}
@@ -47,7 +47,7 @@ use Rattle.run.proofs.call.start as start
 use Rattle.run.proofs.call.start.Symbol as start-def
 use Rattle.run.proofs.call.start.Symbol.{name as #start}
 use Rattle.run.proofs.call.start.Met as start-thm
-use Rattle.troymantle.proofs.RunningWords.{word-start-left}
+use Rattle.troymantle.proofs.Words.{word-run-left}
 use Rattle.troymantle.proofs.running.start_word as start-word
 use Rattle.troymantle.proofs.running.start_word.Symbol as start-word-def
 use Rattle.troymantle.proofs.running.start_word.Symbol.{name as #start-word}
@@ -119,18 +119,18 @@ module _ {M : Type 1} (𝓤 : URA M) (H : Heap 𝓤) (A : Atoms 𝓤) (W : Given
         move ! (16 ∷ 17 ∷ []) $ use2 W (raw (Inner 𝓤 H A mem run .pre y)) (qed W (‵ (all ts) ∷ ‵ (all ps) ∷ []) ∵ join ! $ frame ! $ done !) $
         called ! fm start.ended (start.clauses 𝓤 H A mem run) known y (arg ! 13 refl (arg ! 5 refl (arg ! 1 refl (no-more !))))
         (λ v r ws. let h = ws .1 .0 in let zs = ws .1 .1 .0 in
-        move ! (3 ∷ []) $ heard ! (startLeft r h zs ≡ startCall n (lent .now) (stack .now)) (λ said.
+        move ! (3 ∷ []) $ heard ! _ (λ said.
         move ! (2 ∷ []) $ taken-out ! 2 (lasting h zs) $ fsplit ! $ move ! (1 ∷ []) $ feqL ! (λ long. put-in ! 2 (finally u8 (stack .name) zs) (but 2 (lasting h zs)) $ move ! (1 ∷ []) $
         peeks ! AnswerType.the-row (Is AnswerType.the-row) (shows 𝓤 H A AnswerType.the-row) r (v ∷ []) (λ is.
         -- [what the answer owns; what is said of last values; the tokens; _7; …]: its word
         land ! (from ! (stop !)) (init ! 9 refl (EnumLaws.lawful AnswerType.the-type AnswerLaws.the-laws 𝓤 H A W tt .typed r _ is .0)) $ use1 W (raw (Word 𝓤 H A mem run .pre (to-word r v))) (asked-word r v) $
         called ! fm start-word.ended (start-word.clauses 𝓤 H A mem run) known-word (to-word r v) (arg ! 9 refl (no-more !)) (λ v′ w ws′.
-        move ! (3 ∷ []) $ heard ! (w ≡ startWord r) (λ worded. move ! (1 ∷ []) $ drop ! $ move ! (1 ∷ []) $ drop ! $ peeks ! u64 (Is u64) (shows 𝓤 H A u64) w (v′ ∷ []) (λ is′.
+        move ! (3 ∷ []) $ heard ! _ (λ worded. move ! (1 ∷ []) $ drop ! $ move ! (1 ∷ []) $ drop ! $ peeks ! u64 (Is u64) (shows 𝓤 H A u64) w (v′ ∷ []) (λ is′.
         -- [what the word owns; what is said of last values; the tokens; _7; …]: the locals are let go
         land ! (from ! (stop !)) (init ! 17 refl (uint-lawful 𝓤 H A W w64 .typed w _ is′ .0)) $ returns ! (look ! 17 refl) $
         release ! 17 refl refl $ release ! 15 refl refl $ release ! 13 refl refl $ release ! 11 refl refl $ release ! 9 refl refl $ release ! 7 refl refl $
         release ! 5 refl refl $ release ! 3 refl refl $ free0 ! $
-        suffices ! _ (ends-at 𝓤 H A troymantle-start.ended stayed (troymantle-start.clauses 𝓤 H A mem run) W y v′ w (tt, (h, (zs, tt))) (tt, (tt, (long, tt)))) $ says ! (word-start-left w h zs r worded _ said) $
+        suffices ! _ (ends-at 𝓤 H A troymantle-start.ended stayed (troymantle-start.clauses 𝓤 H A mem run) W y v′ w (tt, (h, (zs, tt))) (tt, (tt, (long, tt)))) $ says ! (word-run-left startWord r w worded h zs _ said) $
         move ! (2 ∷ 1 ∷ []) $ frame ! $ frame ! $ keep ! (0 ∷ []) $ done !))))))))
 
 pub troymantle-start-spec : {M : Type 1} → stated.statement M

@@ -35,8 +35,7 @@ use denote.Triple.Spec.{tripleOf}
 use denote.Triple.Statement.{Contract, Triple}
 use denote.Triple.Table.{entered, cited}
 use denote.Triple.Walked.{says, Stays, walkOf, ends-at}
-use Rattle.sheet_check.specs.SheetCheck.{sheetBytes}
-use Rattle.run.specs.Run.{stepLeft, stepCall, stepWord}
+use Rattle.run.specs.Run.{stepWord}
 use Rattle.run.specs.declared.Run.{Run}
 use Rattle.run.specs.declared.Step.{Step}
 use Rattle.borrow_proofs.proofs.Walking.{parts, tokens, nothings, all, allocated, param, arg, release, called}
@@ -49,7 +48,7 @@ use Rattle.run.proofs.call.step as step
 use Rattle.run.proofs.call.step.Symbol as step-def
 use Rattle.run.proofs.call.step.Symbol.{name as #step}
 use Rattle.run.proofs.call.step.Met as step-thm
-use Rattle.troymantle.proofs.RunningWords.{word-step-left}
+use Rattle.troymantle.proofs.Words.{word-run-left}
 use Rattle.troymantle.proofs.running.step_word as step-word
 use Rattle.troymantle.proofs.running.step_word.Symbol as step-word-def
 use Rattle.troymantle.proofs.running.step_word.Symbol.{name as #step-word}
@@ -124,19 +123,19 @@ module _ {M : Type 1} (𝓤 : URA M) (H : Heap 𝓤) (A : Atoms 𝓤) (W : Given
         move ! (30 ∷ 31 ∷ []) $ use2 W (raw (Inner 𝓤 H A mem run .pre y)) (qed W (‵ (all ts) ∷ ‵ (all ps) ∷ []) ∵ join ! $ frame ! $ done !) $
         called ! fm step.ended (step.clauses 𝓤 H A mem run) known y (arg ! 27 refl (arg ! 25 refl (arg ! 23 refl (arg ! 21 refl (arg ! 19 refl (arg ! 17 refl (arg ! 15 refl (arg ! 5 refl (arg ! 1 refl (arg ! 9 refl (no-more !)))))))))))
         (λ v r ws. let h = ws .1 .1 .1 .1 .1 .1 .1 .0 in let zs = ws .1 .1 .1 .1 .1 .1 .1 .1 .0 in
-        move ! (3 ∷ []) $ heard ! (stepLeft r h zs ≡ stepCall (sheetBytes (src .now) (area1 .now) (area2 .now) (area3 .now) (area4 .now) (area5 .now) (counts .now)) (lent .now) (stack .now) (row .now)) (λ said.
+        move ! (3 ∷ []) $ heard ! _ (λ said.
         move ! (2 ∷ []) $ taken-out ! 8 (lasting h zs) $ fsplit ! $ move ! (1 ∷ []) $ feqL ! (λ long. put-in ! 8 (finally u8 (stack .name) zs) (but 8 (lasting h zs)) $ move ! (1 ∷ []) $
         peeks ! AnswerType.the-row (Is AnswerType.the-row) (shows 𝓤 H A AnswerType.the-row) r (v ∷ []) (λ is.
         -- [what the answer owns; what is said of last values; the tokens; _14; …]: its word
         land ! (from ! (stop !)) (init ! 9 refl (EnumLaws.lawful AnswerType.the-type AnswerLaws.the-laws 𝓤 H A W tt .typed r _ is .0)) $ use1 W (raw (Word 𝓤 H A mem run .pre (to-word r v))) (asked-word r v) $
         called ! fm step-word.ended (step-word.clauses 𝓤 H A mem run) known-word (to-word r v) (arg ! 9 refl (no-more !)) (λ v′ w ws′.
-        move ! (3 ∷ []) $ heard ! (w ≡ stepWord r) (λ worded. move ! (1 ∷ []) $ drop ! $ move ! (1 ∷ []) $ drop ! $ peeks ! u64 (Is u64) (shows 𝓤 H A u64) w (v′ ∷ []) (λ is′.
+        move ! (3 ∷ []) $ heard ! _ (λ worded. move ! (1 ∷ []) $ drop ! $ move ! (1 ∷ []) $ drop ! $ peeks ! u64 (Is u64) (shows 𝓤 H A u64) w (v′ ∷ []) (λ is′.
         -- [what the word owns; what is said of last values; the tokens; _14; …]: the locals are let go
         land ! (from ! (stop !)) (init ! 31 refl (uint-lawful 𝓤 H A W w64 .typed w _ is′ .0)) $ returns ! (look ! 31 refl) $
         release ! 31 refl refl $ release ! 29 refl refl $ release ! 27 refl refl $ release ! 25 refl refl $ release ! 23 refl refl $ release ! 21 refl refl $
         release ! 19 refl refl $ release ! 17 refl refl $ release ! 15 refl refl $ release ! 13 refl refl $ release ! 11 refl refl $ release ! 9 refl refl $
         release ! 7 refl refl $ release ! 5 refl refl $ release ! 3 refl refl $ free0 ! $
-        suffices ! _ (ends-at 𝓤 H A troymantle-step.ended stayed (troymantle-step.clauses 𝓤 H A mem run) W y v′ w (tt, (tt, (tt, (tt, (tt, (tt, (tt, (h, (zs, (tt, tt)))))))))) (tt, (tt, (tt, (tt, (tt, (tt, (tt, (tt, (long, (tt, tt))))))))))) $ says ! (word-step-left w h zs r worded _ said) $
+        suffices ! _ (ends-at 𝓤 H A troymantle-step.ended stayed (troymantle-step.clauses 𝓤 H A mem run) W y v′ w (tt, (tt, (tt, (tt, (tt, (tt, (tt, (h, (zs, (tt, tt)))))))))) (tt, (tt, (tt, (tt, (tt, (tt, (tt, (tt, (long, (tt, tt))))))))))) $ says ! (word-run-left stepWord r w worded h zs _ said) $
         move ! (2 ∷ 1 ∷ []) $ frame ! $ frame ! $ keep ! (0 ∷ []) $ done !))))))))
 
 pub troymantle-step-spec : {M : Type 1} → stated.statement M

@@ -1,0 +1,4 @@
+pub mod Appending
+pub mod Numbers
+pub mod Counting
+pub mod Lengths

@@ -1,0 +1,60 @@
+-- What the contracts of the code speak of: parameters before the call and after it, the sheet and the lexer that are lent, and what a function may
+-- rely on.
+use Prim.Native.Nat.{ℕ, _+_, _*_, _≤_, _<_}
+use mathlib.Core.List.{List}
+use lib.ListN.{length}
+use denote.Ref.{RefT, now}
+use denote.Triple.Both.{Both}
+use Rattle.area.specs.Records.{stateWidth, ruleWidth, entryWidth, ruleAt}
+use Rattle.area.specs.Contents.{contents, stateFormat, ruleFormat, entryFormat}
+use Rattle.sheet_check.specs.SheetCheck.{SheetBytes, sheetBytes}
+use Rattle.run.specs.declared.Run.{Run}
+use Rattle.run.specs.Winner.{Lexer}
+use Rattle.run.specs.Run.{mostBytes, movesOf}
+
+-- ---- parameters
+
+-- a parameter that is a slice, or a reference to an array
+abbrev pub Bytes : Type 0
+Bytes = Both (RefT (List ℕ)) (RefT (List ℕ))
+
+abbrev pub before : Bytes → List ℕ
+before p = now (p .entry)
+
+abbrev pub after : Bytes → List ℕ
+after p = now (p .exit)
+
+-- the sheet, as it is lent
+abbrev pub sheetIn : Bytes → Bytes → Bytes → Bytes → Bytes → Bytes → Bytes → SheetBytes
+sheetIn src area1 area2 area3 area4 area5 counts =
+    sheetBytes (before src) (before area1) (before area2) (before area3) (before area4) (before area5) (before counts)
+
+-- what areas 1, 2 and 3 hold, with so many states, rules and list entries
+abbrev pub lexerAt : List ℕ → List ℕ → List ℕ → ℕ → ℕ → ℕ → Lexer
+lexerAt area1 area2 area3 states rules entries =
+    record { states = contents stateFormat area1 states; rules = contents ruleFormat area2 rules; lists = contents entryFormat area3 entries }
+
+-- the same, as they are lent
+abbrev pub lexerIn : Bytes → Bytes → Bytes → ℕ → ℕ → ℕ → Lexer
+lexerIn area1 area2 area3 = lexerAt (before area1) (before area2) (before area3)
+
+-- ---- what a function may rely on
+
+-- areas 1, 2 and 3 are long enough for so many states, rules and list entries, and the list of each rule lies inside the entries
+pub record Readable (area1 area2 area3 : List ℕ) (states rules entries : ℕ) : Type 0 where
+  pub long1 : states * stateWidth ≤ length area1
+  pub long2 : rules * ruleWidth ≤ length area2
+  pub long3 : entries * entryWidth ≤ length area3
+  pub lists : (k : ℕ) → k < rules → ruleAt area2 k .«list_from» + ruleAt area2 k .«list_count» ≤ entries
+
+-- a stack of so many bytes is not empty and has room for a push
+pub record HasRoom (r : Run) (space : ℕ) : Type 0 where
+  pub some-depth : 1 ≤ r .depth
+  pub low-depth : r .depth ≤ mostBytes
+  pub room : r .depth * entryWidth + entryWidth ≤ space
+
+-- a move by so many bytes stays inside the entry, and its operation inside the stack
+pub record Inside (r : Run) (bytes space : ℕ) : Type 0 where
+  pub stack : HasRoom r space
+  pub position : r .position + bytes ≤ mostBytes
+  pub moves : movesOf r ≤ mostBytes
