@@ -29,7 +29,7 @@ use Rattle.declarations.specs.Declarations.{declareState, stateNames, isQuoted,
 use Rattle.rules.specs.Heading.{operationOf, targetOf, isNoName, isName, labelBy, labelOf, headingOf, bodyOf, hasTarget, targetEnd, targetOperation, targetName, targetId, equalQuotes, ruleNamed, headingBehind, hasList, listEnd}
 use Rattle.rules.specs.Rules.{nextEntry, entries, refuses, recordRule, listedRule, rewrittenRule, pattern, ruleAs, rule, line, nextRule, rules, routines, rulesSection, entryEnd, entryId, withRule}
 use Rattle.parse.specs.Parse.{Caps, caps, closed, judge, rulesFrom, opening, file, outcome, leaves, parseCall, parseFields}
-use Rattle.sheet_check.specs.SheetCheck.{decoded, goodState, goodRule, goodExpected, goodContents, longEnough, sheetCheck}
+use Rattle.sheet_check.specs.SheetCheck.{decoded, longEnough, goodCounts, goodSizes, goodState, goodRule, goodExpected, goodRecords, sheetCheck}
 use Rattle.area.specs.Lists.{all, numbers, allBelow}
 use Rattle.parsed_sheet.specs.Accepted.{isByte}
 use Rattle.parsed_sheet.specs.Meaning.{meaning}
@@ -152,7 +152,7 @@ unfolding closed judge rulesFrom opening file outcome leaves parseCall
 parse-computes = tt
 
 unfoldable sheet-check-computes : Unit {0}
-unfolding decoded all goodState goodRule goodExpected goodContents longEnough sheetCheck
+unfolding decoded all longEnough goodCounts goodSizes goodState goodRule goodExpected goodRecords sheetCheck
 sheet-check-computes = tt
 
 unfoldable accepted-computes : Unit {0}
