@@ -7,19 +7,22 @@ use mathlib.Core.Option.{Option, none, some}
 use Prim.Native.Nat.{ℕ, _*_, _≤_, _<_}
 use native.Mathlib.Omega.{arith}
 use borrow.Author.Tests.{le-leb, lt-ltb}
-use lib.Dec.{eqb, leb}
+use lib.Dec.{leb}
 use lib.ListN.{length, drop, length-append, length-drop}
 use Rattle.text.proofs.Tests.{and-left, and-right}
+use Rattle.area.specs.declared.State.{State}
 use Rattle.area.specs.declared.Rule.{Rule}
+use Rattle.area.specs.declared.Expected.{Expected}
 use Rattle.area.specs.Bytes.{bytes}
-use Rattle.area.specs.Records.{ruleWidth, mostStates, mostRules, nthRule}
+use Rattle.area.specs.Records.{ruleWidth, nthRule}
 use Rattle.area.specs.Contents.{contents, stateFormat, ruleFormat, entryFormat, textFormat, expectedFormat, relaid}
 use Rattle.area.proofs.Fields.{bytes-length}
 use Rattle.area.proofs.Contents.{rule-sound}
 use Rattle.parse.specs.Parse.{Contents}
-use Rattle.sheet_check.specs.SheetCheck.{SheetBytes, sheetBytes, nameIn, count, decoded, mark, ordered, within, declared, goodRule, goodContents, longEnough, sheetCheck}
+use Rattle.sheet_check.specs.declared.Sizes.{Sizes}
+use Rattle.sheet_check.specs.SheetCheck.{SheetBytes, sheetBytes, nameIn, count, decoded, sizesOf, mark, ordered, within, declared, bytesAt, goodRule, goodRecords, sheetCheck}
 use Rattle.area.specs.Lists.{all}
-use Rattle.sheet_check.proofs.Checked.{good-rule, good-contents, checked-long, rules-count}
+use Rattle.sheet_check.proofs.Checked.{GoodRecords, good-rule, checked-sizes, checked-long, checked-records, rules-count}
 use Rattle.link.specs.declared.LinkAnswer.the-variants.{Linked, BrokenSheet, BrokenMap, AreaFull}
 use Rattle.link.specs.Map.{Entry, entriesOf, nth, idAt, idOf, distinct, mapCheck}
 use Rattle.link.specs.Link.{isNamed, withId, withFound, linkRule, linkRules, linkLeft, fits, unmapped, unused, linkAll, linkChecked, linkCall}
@@ -74,18 +77,18 @@ module _ (name : Rule → List ℕ) (es : List Entry) where
 abbrev pub withArea2 : SheetBytes → List ℕ → SheetBytes
 withArea2 b l = sheetBytes (b .source) (b .area1) l (b .area3) (b .area4) (b .area5) (b .counts)
 
-mark-good : (n states entries text has i : ℕ) (x : Rule) → mark has ≡ true → goodRule n states entries text x ≡ true → goodRule n states entries text (withId has i x) ≡ true
+mark-good : (z : Sizes) (has i : ℕ) (x : Rule) → mark has ≡ true → goodRule z x ≡ true → goodRule z (withId has i x) ≡ true
 unfolding goodRule withId
-mark-good n states entries text has i x m e = ap rest m ∙ ap rest (sym (le-leb (x .«has_id») 1 (good-rule n states entries text x e .has-id))) ∙ e
+mark-good z has i x m e = ap rest m ∙ ap rest (sym (le-leb (x .«has_id») 1 (good-rule z x e .has-id))) ∙ e
   where
     rest : Bool → Bool
     rest marked =
         marked && mark (x .named) && mark (x .place)
-        && ordered (x .«span_start») (x .«span_end») n
-        && within (x .«name_from») (x .«name_length») n
-        && within (x .«text_from») (x .«text_length») (cond (eqb (x .place) 1) text n)
-        && within (x .«list_from») (x .«list_count») entries
-        && leb (x .operation) 3 && declared states (x .target)
+        && ordered (x .«span_start») (x .«span_end») (z .source)
+        && within (x .«name_from») (x .«name_length») (z .source)
+        && within (x .«text_from») (x .«text_length») (bytesAt z (x .place))
+        && within (x .«list_from») (x .«list_count») (z .entries)
+        && leb (x .operation) 3 && declared (z .states) (x .target)
 
 all-map : {A : Type 0} (test : A → Bool) (g : A → A) → ((x : A) → test x ≡ true → test (g x) ≡ true) → (xs : List A) → all test xs ≡ true → all test (map g xs) ≡ true
 unfolding all
@@ -93,23 +96,19 @@ all-map test g f [] e = refl
 all-map test g f (x ∷ xs) e = rw (f x (and-left (test x) (all test xs) e)) (all-map test g f xs (and-right (test x) (all test xs) e))
 
 module _ (name : Rule → List ℕ) (es : List Entry) where
-  pub link-good : (n states entries text : ℕ) (x : Rule) → goodRule n states entries text x ≡ true → goodRule n states entries text (linkRule name es x) ≡ true
-  link-good n states entries text x e =
-      ap (goodRule n states entries text) (link-changes-ids name es x)
-      ∙ mark-good n states entries text (linkRule name es x .«has_id») (linkRule name es x .id) x
-      (link-mark name es x (le-leb (x .«has_id») 1 (good-rule n states entries text x e .has-id))) e
+  pub link-good : (z : Sizes) (x : Rule) → goodRule z x ≡ true → goodRule z (linkRule name es x) ≡ true
+  link-good z x e =
+      ap (goodRule z) (link-changes-ids name es x)
+      ∙ mark-good z (linkRule name es x .«has_id») (linkRule name es x .id) x (link-mark name es x (le-leb (x .«has_id») 1 (good-rule z x e .has-id))) e
+
+  records-good : (z : Sizes) (xs : List State) (rs : List Rule) (ids : List ℕ) (ns : List Expected)
+      → GoodRecords z xs rs ids ns → goodRecords z xs (linkRules name es rs) ids ns ≡ true
+  unfolding goodRecords linkRules
+  records-good z xs rs ids ns g = rw (g .states, all-map (goodRule z) (linkRule name es) (link-good z) rs (g .rules), g .lists, g .expected)
 
   -- contents whose rules are linked
   abbrev linkedContents : Contents → Contents
   linkedContents c = record { states = c .states; rules = linkRules name es (c .rules); lists = c .lists; text = c .text; expected = c .expected; faults = c .faults }
-
-  contents-good : (n : ℕ) (c : Contents) → goodContents n c ≡ true → goodContents n (linkedContents c) ≡ true
-  unfolding goodContents linkRules
-  contents-good n c e =
-      let g = good-contents n c e in
-      let rules : all (goodRule n (length (c .states)) (length (c .lists)) (length (c .text))) (linkRules name es (c .rules)) ≡ true =
-      all-map (goodRule n (length (c .states)) (length (c .lists)) (length (c .text))) (linkRule name es) (link-good n (length (c .states)) (length (c .lists)) (length (c .text))) (c .rules) (g .rules) in
-      rw (le-leb 1 (length (c .states)) (g .some-states), le-leb (length (c .states)) mostStates (g .few-states), link-count name es (c .rules), le-leb (length (c .rules)) mostRules (g .few-rules), g .states, rules, g .lists, g .expected)
 
   module _ (b : SheetBytes) (passed : sheetCheck b ≡ true) where
     -- area 2 with the linked rules
@@ -140,16 +139,14 @@ module _ (name : Rule → List ℕ) (es : List Entry) where
         let long : count b 2 * ruleWidth ≤ length (b .area2) = checked-long b passed .long2 in
         omega (arith, length-append (bytes (ruleFormat .write) ys) (drop (length ys * ruleWidth) (b .area2)), bytes-length (ruleFormat .write) ruleWidth (rule-sound .wide) ys, length-drop (length ys * ruleWidth) (b .area2), size, long)
 
-    linked-long : longEnough (withArea2 b linkedArea2) ≡ longEnough b
-    unfolding longEnough
-    linked-long = rw linked-length
+    linked-sizes : sizesOf (withArea2 b linkedArea2) ≡ sizesOf b
+    linked-sizes = rw linked-length
 
     pub linked-passes : sheetCheck (withArea2 b linkedArea2) ≡ true
     unfolding sheetCheck
     linked-passes =
-        let long : longEnough b ≡ true = and-left (longEnough b) (goodContents (length (b .source)) (decoded b)) passed in
-        let good : goodContents (length (b .source)) (decoded b) ≡ true = and-right (longEnough b) (goodContents (length (b .source)) (decoded b)) passed in
-        rw (linked-long, long, linked-contents) (contents-good (length (b .source)) (decoded b) good)
+        let c : Contents = decoded b in
+        rw (linked-sizes, checked-sizes b passed, linked-contents) (records-good (sizesOf b) (c .states) (c .rules) (c .lists) (c .expected) (checked-records b passed))
 
 -- ---- the call
 

@@ -24,7 +24,7 @@ use Rattle.sheet_check.specs.SheetCheck.{SheetBytes, nameIn, decoded, declared,
 use Rattle.area.specs.Lists.{all, numbers}
 use Rattle.sheet_check.specs.Pattern.{hasRule, partOf, patternPart, patternFields}
 use Rattle.sheet_check.proofs.Judging.{contents-count}
-use Rattle.sheet_check.proofs.Checked.{contents-read, checked-contents}
+use Rattle.sheet_check.proofs.Checked.{contents-read, rules-count, checked-counts}
 use Rattle.link.specs.Map.{Entry, nth, mapWidth, mostEntries, mapFormat, entryCount, entriesOf, nameInside, distinct, mapCheck}
 use Rattle.link.specs.Link as L
 use Rattle.link.specs.Link.{isUnmapped, isUnused, unmapped, unused, LinkLeft, linkAll, linkChecked, linkCall, linkFields}
@@ -118,7 +118,7 @@ unfolding linkCall linkFields
 link-small b names entries x7 x8 =
     by-test LinkSmall (sheetCheck b) _ _
     (λ passed. by-test LinkSmall (mapCheck names entries) _ _
-    (λ good. checked-small (nameIn b) (decoded b .rules) (entriesOf names entries) (b .area2) x7 x8 (checked-contents b passed .few-rules) (few-mapped names entries good))
+    (λ good. checked-small (nameIn b) (decoded b .rules) (entriesOf names entries) (b .area2) x7 x8 (omega (arith, rules-count b, checked-counts b passed .2)) (few-mapped names entries good))
     (λ _. no-values 7 (omega arith)))
     (λ _. no-values 6 (omega arith))
 

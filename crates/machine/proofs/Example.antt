@@ -30,7 +30,7 @@ use Rattle.rules.specs.Heading.{operationOf, targetOf, isNoName, isName, labelB
 use Rattle.rules.specs.Rules.{nextEntry, entries, refuses, recordRule, entryEnd, entryId}
 use Rattle.rules_section.specs.RulesSection.{listedRule, rewrittenRule, pattern, ruleAs, rule, line, nextRule, rules, routines, rulesSection, withRule}
 use Rattle.parse.specs.Parse.{Caps, caps, closed, judge, rulesFrom, opening, file, outcome, leaves, parseCall, parseFields}
-use Rattle.sheet_check.specs.SheetCheck.{decoded, goodState, goodRule, goodExpected, goodContents, longEnough, sheetCheck}
+use Rattle.sheet_check.specs.SheetCheck.{decoded, longEnough, goodCounts, goodSizes, goodState, goodRule, goodExpected, goodRecords, sheetCheck}
 use Rattle.area.specs.Lists.{all, numbers, allBelow}
 use Rattle.parsed_sheet.specs.Accepted.{isByte}
 use Rattle.parsed_sheet.specs.Meaning.{meaning}
@@ -153,7 +153,7 @@ unfolding closed judge rulesFrom opening file outcome leaves parseCall
 parse-computes = tt
 
 unfoldable sheet-check-computes : Unit {0}
-unfolding decoded all goodState goodRule goodExpected goodContents longEnough sheetCheck
+unfolding decoded all longEnough goodCounts goodSizes goodState goodRule goodExpected goodRecords sheetCheck
 sheet-check-computes = tt
 
 unfoldable accepted-computes : Unit {0}
