@@ -1,4 +1,4 @@
-// The start call and the step call (01, Numbers given at the counter, and The run).
+// The start call and the step call, on a run by value (01, Numbers given at the counter, and The run).
 ghost use mathlib.Core.Path.{_≡_};
 ghost use mathlib.Core.Bool.{true};
 ghost use Prim.Native.Nat.{_<_};
@@ -20,8 +20,8 @@ use area::read_entry;
 use area::read_rule;
 use sheet_check::check::check;
 
-// Begins a run over an entry of n bytes, its numbers by value.
-pub fn start_entry(n: u64, r: Run, stack: &mut [u8]) -> BegunRun
+// Begins a run over an entry of n bytes.
+pub fn start(n: u64, r: Run, stack: &mut [u8]) -> BegunRun
     ensures { λ q. ⌜ runLeft (q .answer) (q .run) (after stack) ≡ startCall n (running r (before stack)) ⌝ }
 {
     if n > MOST_BYTES {
@@ -46,15 +46,6 @@ pub fn start_entry(n: u64, r: Run, stack: &mut [u8]) -> BegunRun
             moves: 0,
         },
     }
-}
-
-// Begins a run over an entry of n bytes.
-pub fn start(n: u64, run: &mut Run, stack: &mut [u8]) -> Begun
-    ensures { λ a. ⌜ runLeft a (now (run .exit)) (after stack) ≡ startCall n (running (now (run .entry)) (before stack)) ⌝ }
-{
-    let begun = start_entry(n, *run, stack);
-    *run = begun.run;
-    begun.answer
 }
 
 // A row that fits: the winner, or that no live rule has a length.
@@ -129,8 +120,8 @@ fn step_run(
     }
 }
 
-// The step by value: the sheet is checked first of all.
-pub fn step_sheet(
+// Moves a run on by one row. The sheet is checked first of all.
+pub fn step(
     src: &[u8],
     area1: &[u8],
     area2: &[u8],
@@ -164,38 +155,4 @@ pub fn step_sheet(
         answer: Step::BrokenSheet,
         run: r,
     }
-}
-
-// Moves a run on by one row.
-pub fn step(
-    src: &[u8],
-    area1: &[u8],
-    area2: &[u8],
-    area3: &[u8],
-    area4: &[u8],
-    area5: &[u8],
-    counts: &[u16; 6],
-    run: &mut Run,
-    stack: &mut [u8],
-    row: &[u8],
-) -> Step
-    ensures { λ a. ⌜
-        runLeft a (now (run .exit)) (after stack)
-        ≡ stepCall (sheetIn src area1 area2 area3 area4 area5 counts) (running (now (run .entry)) (before stack)) (input (before row))
-        ⌝ }
-{
-    let stepped = step_sheet(
-        src,
-        area1,
-        area2,
-        area3,
-        area4,
-        area5,
-        counts,
-        *run,
-        stack,
-        row,
-    );
-    *run = stepped.run;
-    stepped.answer
 }

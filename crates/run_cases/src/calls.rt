@@ -14,8 +14,8 @@ use area::write_field;
 use link::call::set_rule_ids_spanned;
 use parse::call::parse;
 use run::Run;
-use run::call::start_entry;
-use run::call::step_sheet;
+use run::call::start;
+use run::call::step;
 use text::whitespace::byte_at;
 
 // No more than there is.
@@ -83,7 +83,7 @@ fn keep_run(run: &mut [u16; 4], r: Run) {
 fn start_run(run: &mut [u16; 4], stack: &mut [u8], values: &[u8]) {
     let bytes = at_most(number_at(values, 2), stack.len());
     let r = run_of(run);
-    let q = start_entry(number_at(values, 0) as u64, r, &mut stack[0..bytes]);
+    let q = start(number_at(values, 0) as u64, r, &mut stack[0..bytes]);
     keep_run(run, q.run);
     let answer = q.answer;
     say_start(answer);
@@ -133,7 +133,7 @@ fn step_row(
     row: &[u8],
 ) {
     let r = run_of(run);
-    let q = step_sheet(
+    let q = step(
         src,
         area1,
         area2,

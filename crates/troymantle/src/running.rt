@@ -20,6 +20,12 @@ use run::Step;
 use run::call::start;
 use run::call::step;
 
+// An answer's word, and the run's numbers after the call.
+pub struct Worded {
+    pub word: u64,
+    pub run: Run,
+}
+
 fn start_word(answer: Begun) -> u64
     ensures { λ r. ⌜ r ≡ startWord answer ⌝ }
 {
@@ -44,15 +50,65 @@ fn step_word(answer: Step) -> u64
     }
 }
 
+// The start call on a run by value.
+fn start_by_value(n: u64, r: Run, stack: &mut [u8]) -> Worded
+    ensures { λ q. ⌜ runLeft (q .word) (q .run) (after stack) ≡ startInWords (startCall n (running r (before stack))) ⌝ }
+{
+    let begun = start(n, r, stack);
+    let answer = begun.answer;
+    let run = begun.run;
+    Worded {
+        word: start_word(answer),
+        run,
+    }
+}
+
 // Begins a run over an entry of n bytes. A refusal changes nothing.
 #[no_mangle]
 pub extern "C" fn troymantle_start(n: u64, run: &mut Run, stack: &mut [u8]) -> u64
-    ensures { λ r. ⌜
-        runLeft r (now (run .exit)) (after stack)
-        ≡ startInWords (startCall n (running (now (run .entry)) (before stack)))
+    ensures { λ r. ⌜ runLeft r (now (run .exit)) (after stack) ≡ startInWords (startCall n (running (now (run .entry)) (before stack))) ⌝ }
+{
+    let worded = start_by_value(n, *run, stack);
+    *run = worded.run;
+    worded.word
+}
+
+// The step call on a run by value.
+fn step_by_value(
+    src: &[u8],
+    area1: &[u8],
+    area2: &[u8],
+    area3: &[u8],
+    area4: &[u8],
+    area5: &[u8],
+    counts: &[u16; 6],
+    r: Run,
+    stack: &mut [u8],
+    row: &[u8],
+) -> Worded
+    ensures { λ q. ⌜
+        runLeft (q .word) (q .run) (after stack)
+        ≡ stepInWords (stepCall (sheetIn src area1 area2 area3 area4 area5 counts) (running r (before stack)) (input (before row)))
         ⌝ }
 {
-    start_word(start(n, run, stack))
+    let stepped = step(
+        src,
+        area1,
+        area2,
+        area3,
+        area4,
+        area5,
+        counts,
+        r,
+        stack,
+        row,
+    );
+    let answer = stepped.answer;
+    let run = stepped.run;
+    Worded {
+        word: step_word(answer),
+        run,
+    }
 }
 
 // Moves a run on by a row, one length for each rule. A refusal changes nothing.
@@ -74,7 +130,7 @@ pub extern "C" fn troymantle_step(
         ≡ stepInWords (stepCall (sheetIn src area1 area2 area3 area4 area5 counts) (running (now (run .entry)) (before stack)) (input (before row)))
         ⌝ }
 {
-    step_word(step(
+    let worded = step_by_value(
         src,
         area1,
         area2,
@@ -82,8 +138,10 @@ pub extern "C" fn troymantle_step(
         area4,
         area5,
         counts,
-        run,
+        *run,
         stack,
         row,
-    ))
+    );
+    *run = worded.run;
+    worded.word
 }
