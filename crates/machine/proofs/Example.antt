@@ -39,9 +39,9 @@ use Rattle.link.specs.Link.{isNone, isUnmapped, hasThatName, isUnused, unmapped
 use Rattle.run.specs.declared.Run.{Run}
 use Rattle.run.specs.declared.Step.{Step}
 use Rattle.run.specs.declared.Step.the-variants.{RowMismatch, Done, Stopped, Skip, Token}
-use Rattle.run.specs.Run.{goodStart, startCall, startFields}
+use Rattle.run.specs.Run.{running, Input, input, goodStart, startCall, startFields}
 use Rattle.machine.specs.File.{FileRule, operationBy, nameFrom, mapOf, fileOf}
-use Rattle.machine.specs.Machine.{Given, Input, Machine, fresh, lengths, noneAbove, fits, has, isEmpty, isLive, before, winnerOf, idIn, operate, move, token, wins, chooses, step}
+use Rattle.machine.specs.Machine.{Given, Machine, fresh, lengths, fits, has, isEmpty, isLive, before, winnerOf, idIn, operate, move, token, wins, chooses, step}
 use Rattle.machine.specs.Means.{EntryOf}
 use Rattle.machine.specs.Demand.{Demand, Session, startLeftOf, sessionFile, sessionMap, given, MapHolds, Accepts, sessionCalls, DEMAND}
 use Rattle.machine.proofs.Options.{some-is, none-some}
@@ -64,7 +64,7 @@ abbrev pub entries-of-map : List ℕ
 entries-of-map = 0 ∷ 0 ∷ 1 ∷ 0 ∷ 44 ∷ 1 ∷ 1 ∷ 0 ∷ 1 ∷ 0 ∷ 45 ∷ 1 ∷ 2 ∷ 0 ∷ 1 ∷ 0 ∷ 46 ∷ 1 ∷ []
 
 abbrev pub row : ℕ → ℕ → ℕ → ℕ → ℕ → Input
-row a b c d e = record { row = a ∷ 0 ∷ b ∷ 0 ∷ c ∷ 0 ∷ d ∷ 0 ∷ e ∷ 0 ∷ [] }
+row a b c d e = input (a ∷ 0 ∷ b ∷ 0 ∷ c ∷ 0 ∷ d ∷ 0 ∷ e ∷ 0 ∷ [])
 
 abbrev pub entry-rows : List Input
 entry-rows =
@@ -77,7 +77,7 @@ entry-rows =
     ∷ row 1 1 0 0 1
     ∷ row 0 0 1 1 0
     ∷ row 0 0 0 0 1
-    ∷ record { row = [] }
+    ∷ input []
     ∷ []
 
 -- the file and the map, and the start of an entry of 8 bytes, over a stack of 18 bytes 7
@@ -92,8 +92,7 @@ session r = record {
   area7 = [];
   area8 = [];
   n = 8;
-  run = r;
-  stack = replicate 18 7;
+  running = running r (replicate 18 7);
 }
 
 -- the machine's answers
@@ -168,7 +167,7 @@ unfolding goodStart startCall
 run-computes = tt
 
 unfoldable machine-computes : Unit {0}
-unfolding operationBy nameFrom mapOf fileOf lengths noneAbove fits has isEmpty isLive before winnerOf idIn operate move token wins chooses step answers
+unfolding operationBy nameFrom mapOf fileOf lengths fits has isEmpty isLive before winnerOf idIn operate move token wins chooses step answers
 machine-computes = tt
 
 -- all of it
@@ -201,7 +200,7 @@ unfolding computing
 met-answers r = refl
 
 -- so demand 3 holds of the calls with these rows
-pub met-demand : (r : Run) → Demand (given (session r)) (session r .stack) (startLeftOf (session r)) entry-rows (sessionCalls (session r) entry-rows)
+pub met-demand : (r : Run) → Demand (given (session r)) (session r .running .stack) (startLeftOf (session r)) entry-rows (sessionCalls (session r) entry-rows)
 unfolding DEMAND
 met-demand r = demand (session r) (met r) entry-rows
 

@@ -7,7 +7,7 @@ use mathlib.Core.Option.{some}
 use Prim.Native.Nat.{ℕ, zero, suc, _+_, _*_, _-_, _≤_, _<_}
 use native.Mathlib.Omega.{arith}
 use borrow.Author.Tests.{eqb-true, ne-eqb, lt-ltb, le-ltb}
-use lib.Dec.{eqb, ltb, leb}
+use lib.Dec.{eqb, ltb}
 use lib.ListN.{length, getD, getElem?, take, drop, List·getD-map}
 use lib.Seq.{drop-cons}
 use Rattle.text.specs.Walk.{firstOf, first}
@@ -22,12 +22,11 @@ use Rattle.area.proofs.Contents.{listOf-is}
 use Rattle.area.specs.Lists.{all}
 use Rattle.parse.specs.Parse.{Contents}
 use Rattle.link.specs.Map.{Entry, nth, findEntry, idAt, idOf}
-use Rattle.run.specs.Winner.{findState, listed, live}
+use Rattle.run.specs.Winner.{findInList, inList, live}
 use Rattle.run.specs.Run.{goodRow}
 use Rattle.machine.specs.File.{FileState, fileState, fileRule}
-use Rattle.machine.specs.Machine.{lengths, noneAbove, fits, has, isEmpty, isExclusive, isLive, idIn}
+use Rattle.machine.specs.Machine.{lengths, fits, has, isEmpty, isExclusive, isLive, idIn}
 use Rattle.machine.specs.Means.{lengthAt}
-use Rattle.machine.proofs.Options.{some-is, none-some}
 use Rattle.machine.proofs.Meanings.{lengths-at, lengths-count}
 
 -- ---- live rules
@@ -82,7 +81,7 @@ module _ (c : Contents) (sound : Sound c) where
 
   pub live-same : (s : List ℕ) (state : ℕ) (x : Rule) → x .«list_from» + x .«list_count» ≤ length (c .lists)
       → isLive (map fileState (c .states)) state (fileRule s c x) ≡ live (c .states) (c .lists) state x
-  unfolding isLive live listed findState first
+  unfolding isLive live inList findInList first
   live-same s state x h =
       let q : x .«list_from» + x .«list_count» - x .«list_from» ≡ x .«list_count» = omega arith in
       rw (list-taken x, state-at state, marks (nthState (c .states) state .exclusive) (mark-low state), q, first-has (c .lists) state (x .«list_count») (x .«list_from») h, none-empty (c .lists) (x .«list_count») (x .«list_from») h) refl
@@ -95,22 +94,17 @@ entry-length row k =
     let z : k * entryWidth + 2 * 0 ≡ k * 2 = omega arith in
     ap₂ (λ (i j : ℕ). getD row i 0 + getD row j 0 * 256) z (ap (λ (i : ℕ). i + 1) z)
 
-all-none : (q : ℕ) (ls : List ℕ) → all (λ x. leb x q) ls ≡ noneAbove q ls
-unfolding all noneAbove
-all-none q [] = refl
-all-none q (l ∷ ls) = ap (λ (t : Bool). leb l q && t) (all-none q ls)
-
 row-lengths : (n : ℕ) (row : List ℕ) → length row ≡ n * 2 → contents entryFormat row n ≡ lengths row
 unfolding contents
 row-lengths n row h =
     listOf-is (entryAt row) 0 (lengths row) n (sym (lengths-count n row h)) (λ k l. entry-length row k ∙ sym (lengths-at row k (omega (arith, h, l))))
 
-pub row-same : (n left : ℕ) (row : List ℕ) → goodRow n left row ≡ fits n left row
+pub row-same : (test : ℕ → Bool) (n : ℕ) (row : List ℕ) → goodRow test n row ≡ fits test n row
 unfolding goodRow fits
-row-same n left row = go (eqb (length row) (n * 2)) refl
+row-same test n row = go (eqb (length row) (n * 2)) refl
   where
-    go : (t : Bool) → eqb (length row) (n * 2) ≡ t → t && all (λ x. leb x left) (contents entryFormat row n) ≡ t && noneAbove left (lengths row)
-    go true e = ap (all (λ x. leb x left)) (row-lengths n row (eqb-true (length row) (n * 2) e)) ∙ all-none left (lengths row)
+    go : (t : Bool) → eqb (length row) (n * 2) ≡ t → t && all test (contents entryFormat row n) ≡ t && all test (lengths row)
+    go true e = ap (all test) (row-lengths n row (eqb-true (length row) (n * 2) e))
     go false e = refl
 
 -- ---- ids
@@ -146,18 +140,11 @@ id-same es name =
     let z : length es - 0 ≡ length es = omega arith in
     ap (λ (n : ℕ). idAt es (firstOf (λ j. sameBytes (nth es j .name) name) 0 n)) z ∙ found-same es name
 
-pub fits-size : (n left : ℕ) (row : List ℕ) → fits n left row ≡ true → length row ≡ n * 2
+pub fits-size : (test : ℕ → Bool) (n : ℕ) (row : List ℕ) → fits test n row ≡ true → length row ≡ n * 2
 unfolding fits
-fits-size n left row e = eqb-true (length row) (n * 2) (and-left (eqb (length row) (n * 2)) _ e)
+fits-size test n row e = eqb-true (length row) (n * 2) (and-left (eqb (length row) (n * 2)) _ e)
 
 pub map-at : {A B : Type 0} (f : A → B) (xs : List A) (k : ℕ) (d : A) → k < length xs → getElem? (map f xs) k ≡ some (f (getD xs k d))
 map-at f [] k d h = absurd (omega arith)
 map-at f (x ∷ xs) zero d h = refl
 map-at f (x ∷ xs) (suc k) d h = map-at f xs k d (omega arith)
-
-pub map-is : {A B : Type 0} (f : A → B) (xs : List A) (k : ℕ) (d : A) (y : B) → getElem? (map f xs) k ≡ some y → (k < length xs) × (y ≡ f (getD xs k d))
-map-is f [] k d y e = absurd (none-some y e)
-map-is f (x ∷ xs) zero d y e = (omega arith, sym (some-is (f x) y e))
-map-is f (x ∷ xs) (suc k) d y e =
-    let r = map-is f xs k d y e in
-    (omega (arith, r .0), r .1)

@@ -8,8 +8,7 @@ use lib.ListN.{length, getD, take, drop, length-append, length-drop, take-append
 use lib.Seq.{sets-eq, take-at, take-take, length-take-le}
 use Rattle.area.specs.Bytes.{two, bytes, fieldAt, fieldFrom}
 use Rattle.area.specs.Records.{entryAt, entryWidth, entryBytes, entryFields, nthEntry}
-use Rattle.area.specs.Contents.{contents, entryFormat, relaid}
-use Rattle.area.proofs.Contents.{listOf-is}
+use Rattle.area.specs.Contents.{entryFormat, relaid}
 use Rattle.area.proofs.Fields.{bytes-append, bytes-single, bytes-length, bytes-at}
 use Rattle.area.proofs.Records.{entry-wide}
 use Rattle.run.specs.Run.{putState}
@@ -27,7 +26,7 @@ entry-bytes : (v : ℕ) → entryBytes v ≡ two v
 unfolding bytes entryFields
 entry-bytes v = append-nil (two v)
 
-pub front-read : (st t : List ℕ) (k : ℕ) → k < length st → entryAt (bytes entryBytes st ++ t) k ≡ nthEntry st k
+front-read : (st t : List ℕ) (k : ℕ) → k < length st → entryAt (bytes entryBytes st ++ t) k ≡ nthEntry st k
 unfolding entryAt fieldFrom fieldAt two
 front-read st t k h =
     let l : List ℕ = bytes entryBytes st ++ t in
@@ -37,7 +36,7 @@ front-read st t k h =
     ap₂ (λ (x y : ℕ). x + y * 256) low high ∙ omega arith
 
 -- its two bytes
-pub front-bytes : (st t : List ℕ) (k : ℕ) → k < length st
+front-bytes : (st t : List ℕ) (k : ℕ) → k < length st
     → (getD (bytes entryBytes st ++ t) (k * 2) 0 ≡ nthEntry st k % 256) × (getD (bytes entryBytes st ++ t) (k * 2 + 1) 0 ≡ nthEntry st k / 256)
 unfolding two
 front-bytes st t k h =
@@ -56,12 +55,8 @@ module _ (s st : List ℕ) where
   unfolding relaid
   laid-read k h = front-read st (drop (length st * entryWidth) s) k h
 
-  pub laid-contents : contents entryFormat (relaid entryFormat s st) (length st) ≡ st
-  unfolding contents
-  laid-contents = listOf-is (entryAt (relaid entryFormat s st)) 0 st (length st) refl (λ k h. laid-read k h)
-
   module _ (fits : length st * entryWidth ≤ length s) where
-    pub laid-length : length (relaid entryFormat s st) ≡ length s
+    laid-length : length (relaid entryFormat s st) ≡ length s
     unfolding relaid
     laid-length = length-append (bytes entryBytes st) _ ∙ omega (arith, front-length st, length-drop (length st * entryWidth) s)
 

@@ -10,7 +10,7 @@ use lib.ListN.{length, getD, getElem?, length-map}
 use Rattle.text.proofs.Tests.{le-or-lt}
 use Rattle.area.specs.Records.{nthRule}
 use Rattle.parse.specs.Parse.{Contents}
-use Rattle.run.specs.Winner.{live, lengthIn, weight, greatest, earliest}
+use Rattle.run.specs.Winner.{lexerOf, live, lengthIn, weight, greatest, earliest}
 use Rattle.run.proofs.Winning.{below-greatest, greatest-low, earliest-has, earliest-first}
 use Rattle.machine.specs.File.{FileRule, fileState, fileRule}
 use Rattle.machine.specs.Machine.{Machine, currentState, lengths, isLive, Winner}
@@ -20,7 +20,7 @@ use Rattle.machine.proofs.Reading.{Sound, live-same, entry-length, map-
 
 module _ (s : List ℕ) (c : Contents) (sound : Sound c) (m : Machine) (row : List ℕ) (size : length row ≡ length (c .rules) * 2) where
   abbrev pub f : ℕ → ℕ
-  f = weight (c .states) (c .rules) (c .lists) (currentState (m .stack)) row
+  f = weight (lexerOf c) (currentState (m .stack)) row
 
   abbrev pub rules : List FileRule
   rules = map (fileRule s c) (c .rules)
