@@ -1,8 +1,8 @@
 -- Demand 3 (S8). An accepted parse leaves a sheet that decodes to the file's contents and passes the check, and these are what the file means; a
 -- link keeps it so and gives each named rule the map's id; an accepted start leaves the machine's first run. So every call is a step of the
--- machine, and `Whole` has the rest.
+-- machine (`Whole`); what the calls cover and how many move is said of any sheet that passes the check (`always`).
 use mathlib.Core.Path.{_≡_, sym, ap, subst, subst⁻¹, _∙_}
-use mathlib.Core.List.{List, [], _∷_}
+use mathlib.Core.List.{List, []}
 use Prim.Native.Nat.{ℕ}
 use native.Mathlib.Omega.{arith}
 use lib.ListN.{length, length-map}
@@ -14,7 +14,7 @@ use Rattle.parsed_sheet.proofs.Growing.{accepted-meaning}
 use Rattle.link.specs.Map.{Entry, entriesOf}
 use Rattle.run.specs.declared.Begun.{Begun}
 use Rattle.run.specs.declared.Begun.the-variants.{Started}
-use Rattle.run.specs.Winner.{Lexer, lexerOf}
+use Rattle.run.specs.Winner.{Lexer}
 use Rattle.run.specs.Run.{Running, running, mostBytes, putState, Input, RunLeft, leaving, runLeft, firstRun, startCall}
 use Rattle.run_laws.specs.Calls.{calls, EachCall}
 use Rattle.run_laws.specs.Always.{SoundRun, SoundCall, ALWAYS}
@@ -22,17 +22,17 @@ use Rattle.run_laws.proofs.Started.{start-small, start-long, start-left}
 use Rattle.run_laws.proofs.Always.{always}
 use Rattle.machine.specs.File.{File, fileState, fileIn, fileBy, fileOf}
 use Rattle.machine.specs.Machine.{Given, fresh}
-use Rattle.machine.specs.Demand.{lastHeld, PlaceHolds, AsMachine, Follows, sheetParsed, linkLeftOf, linkedSheet, startLeftOf, sessionFile, sessionMap, DEMAND}
-use Rattle.machine.proofs.Laid.{runAs, stackAs, runningAs}
+use Rattle.machine.specs.Demand.{AsMachine, Follows, sheetParsed, linkLeftOf, linkedSheet, startLeftOf, sessionFile, sessionMap, DEMAND}
+use Rattle.machine.proofs.Laid.{stackAs, runningAs}
 use Rattle.machine.proofs.Stacks.{Begins, laid-bottom, laid-begins}
-use Rattle.machine.proofs.Relinking.{linked-decodes, linked-checks, linked-differ, linked-whole}
+use Rattle.machine.proofs.Relinking.{relink}
 use Rattle.machine.proofs.Mapping.{map-same}
 use Rattle.machine.proofs.Only.{Distinct}
-use Rattle.machine.proofs.Keeping.{Runs}
+use Rattle.machine.proofs.Keeping.{SoundAs, Runs}
 use Rattle.machine.proofs.Places.{place-next, place-first}
 use Rattle.machine.proofs.Operations.{linkedLexer}
 use Rattle.machine.proofs.Reading.{Sound}
-use Rattle.machine.proofs.Whole.{Sheet, as-machine, sheet-calls, follows}
+use Rattle.machine.proofs.Whole.{Sheet, as-machine, sheet-calls, AllSound, follows}
 
 -- ---- the start
 
@@ -48,39 +48,46 @@ module _ (n : ℕ) (x : Running) (started : startCall n x .answer ≡ Started) w
   start-begins : Begins (fresh .stack) (stackAs (x .stack) fresh)
   start-begins = laid-begins (x .stack) (fresh .stack) (omega (arith, start-long n x started))
 
+-- ---- the calls
+
+-- the calls on a sheet with the linked rules follow the machine, from an accepted start on
+module _ (s : List ℕ) (c : Contents) (es : List Entry) (limit : ℕ) (sound : Sound c) (differ : Distinct es) (b : SheetBytes) (sheet : Sheet s c es b)
+    (n : ℕ) (x : Running) (started : startCall n x .answer ≡ Started) (is : List Input) where
+  abbrev Followed : File → List Entry → RunLeft Begun → Type 0
+  Followed f map left =
+      let g : Given = record { file = f; map = map; limit = limit; n = n } in
+      AsMachine g fresh [] (x .stack) (left .after) × Follows g (x .stack) fresh [] is (calls b (left .after) is)
+
+  followed : Followed (fileIn s c) es (startCall n x)
+  unfolding ALWAYS
+  followed =
+      let g : Given = record { file = fileIn s c; map = es; limit = limit; n = n } in
+      let size : ℕ = length (x .stack) in
+      let first : List ℕ = stackAs (x .stack) fresh in
+      let states : length (decoded b .states) ≡ length (g .file .states) =
+      ap (λ (l : Lexer). length (l .states)) (sheet .reads) ∙ sym (length-map (c .states) fileState) in
+      let w = always b (sheet .checks) n x started is in
+      let sound-first = subst (λ (k : ℕ). SoundRun k n size (startCall n x .after)) states (w .first) in
+      let sound-each = subst (λ (k : ℕ). EachCall (SoundCall k n size) (calls b (startCall n x .after) is)) states (w .each) in
+      let left = start-as n x started in
+      let runs : Runs g size fresh first = record {
+        sound = subst (λ (z : RunLeft Begun). SoundAs g size (z .after)) left sound-first;
+        begins = start-begins n x started;
+      } in
+      let each = subst (λ (z : RunLeft Begun). AllSound g size (calls b (z .after) is)) left sound-each in
+      let places = place-next [] (fresh .stack) (x .stack) (x .stack) (place-first (x .stack)) in
+      subst⁻¹ (Followed (fileIn s c) es) left (
+        as-machine g fresh [] (x .stack) first runs places,
+        follows g differ b (sheet-calls s c es limit n sound b sheet) (x .stack) is fresh [] first runs places each,
+      )
+
 -- ---- the demand
 
 -- the file's meaning has these states and rules
-file-is : (s : List ℕ) (flags : ℕ) (verdicts : List ℕ) (k : Caps) (c : Contents) → outcome s flags verdicts k ≡ accepted c → fileOf s flags verdicts ≡ fileIn s c
+file-is : (s : List ℕ) (flags : ℕ) (verdicts : List ℕ) (k : Caps) (c : Contents) → outcome s flags verdicts k ≡ accepted c
+    → fileOf s flags verdicts ≡ fileIn s c
 unfolding fileOf
 file-is s flags verdicts k c e = ap (fileBy s) (accepted-meaning s flags verdicts k c e)
-
--- the calls on a sheet with the linked rules follow the machine, from an accepted start on
-module _ (s : List ℕ) (c : Contents) (es : List Entry) (limit n : ℕ) (sound : Sound c) (differ : Distinct es) (b : SheetBytes) (sheet : Sheet s c es b) (x : Running) (started : startCall n x .answer ≡ Started) (is : List Input) where
-  abbrev machine-given : Given
-  machine-given = record { file = fileIn s c; map = es; limit = limit; n = n }
-
-  abbrev Followed : Given → Running → Type 0
-  Followed g first = AsMachine g fresh [] (x .stack) first × Follows g (x .stack) fresh [] is (calls b first is)
-
-  followed : Followed machine-given (startCall n x .after)
-  unfolding ALWAYS
-  followed =
-      let g : Given = machine-given in
-      let size : ℕ = length (x .stack) in
-      let first : List ℕ = stackAs (x .stack) fresh in
-      let many : length (decoded b .states) ≡ length (g .file .states) = ap (λ (l : Lexer). length (l .states)) (sheet .reads) ∙ sym (length-map (c .states) fileState) in
-      let w = always b (sheet .checks) n x started is in
-      let each : EachCall (SoundCall (length (g .file .states)) n size) (calls b (running (runAs n fresh) first) is) =
-      subst (λ (z : RunLeft Begun). EachCall (SoundCall (length (g .file .states)) n size) (calls b (z .after) is)) (start-as n x started)
-      (subst (λ (k : ℕ). EachCall (SoundCall k n size) (calls b (startCall n x .after) is)) many (w .each)) in
-      let runs : Runs g size fresh first = record {
-        sound = subst (λ (z : RunLeft Begun). SoundRun (length (g .file .states)) n size (z .after)) (start-as n x started) (subst (λ (k : ℕ). SoundRun k n size (startCall n x .after)) many (w .first));
-        begins = start-begins n x started;
-      } in
-      let held : ((p : ℕ) → PlaceHolds (lastHeld p (fresh .stack ∷ [])) p (x .stack) first) = λ p. place-next [] (fresh .stack) (x .stack) (x .stack) p (place-first (x .stack) p) in
-      subst⁻¹ (λ (z : RunLeft Begun). Followed g (z .after)) (start-as n x started)
-      (as-machine g fresh [] (x .stack) first runs held, follows g differ b (sheet-calls s c es limit n sound b sheet) (x .stack) is fresh [] first runs held each)
 
 pub demand : DEMAND
 unfolding DEMAND ALWAYS
@@ -90,27 +97,26 @@ demand q ok is =
     let c : Contents = got .0 in
     let accepts : outcome s (q .flags) (q .verdicts) (q .capacities) ≡ accepted c = got .1 in
     let same : sessionFile q ≡ fileIn s c = file-is s (q .flags) (q .verdicts) (q .capacities) c accepts in
-    let sheet : SheetBytes = sheetParsed q in
-    let es : List Entry = entriesOf (q .names) (q .entries) in
-    let maps : es ≡ sessionMap q = map-same (q .names) (q .entries) (linked-whole sheet (q .names) (q .entries) (q .area7) (q .area8) (ok .unmapped) (ok .unused) (ok .linked)) in
-    let b : SheetBytes = linkedSheet sheet (linkLeftOf q) in
     let h = accepted-holds s (q .flags) (q .verdicts) (q .capacities) c accepts in
     let sound : Sound c = record { exclusive = λ j l. h .states .each .at j l .exclusive; lists = λ j l. h .rules .each .at j l .list } in
     let passed = accepted-checks s (q .flags) (q .verdicts) (q .capacities) c accepts in
-    let reads : Sheet s c es b = record {
-      checks = linked-checks sheet (q .names) (q .entries) (q .area7) (q .area8) (ok .unmapped) (ok .unused) (ok .linked) passed;
-      reads = ap lexerOf (linked-decodes sheet (q .names) (q .entries) (q .area7) (q .area8) (ok .unmapped) (ok .unused) (ok .linked) passed)
-          ∙ ap (linkedLexer s es) (accepted-decodes s (q .flags) (q .verdicts) (q .capacities) c accepts);
+    let link = relink (sheetParsed q) (q .names) (q .entries) (q .area7) (q .area8) (ok .unmapped) (ok .unused) (ok .linked) passed in
+    let es : List Entry = entriesOf (q .names) (q .entries) in
+    let maps : es ≡ sessionMap q = map-same (q .names) (q .entries) (link .whole) in
+    let b : SheetBytes = linkedSheet (sheetParsed q) (linkLeftOf q) in
+    let sheet : Sheet s c es b = record {
+      checks = link .checks;
+      reads = link .reads ∙ ap (linkedLexer s es) (accepted-decodes s (q .flags) (q .verdicts) (q .capacities) c accepts);
     } in
-    let differ : Distinct es = linked-differ sheet (q .names) (q .entries) (q .area7) (q .area8) (ok .unmapped) (ok .unused) (ok .linked) in
-    let f = followed s c es mostBytes (q .n) sound differ b reads (q .running) (ok .started) is in
-    let w = always b (reads .checks) (q .n) (q .running) (ok .started) is in
-    let Both : File → List Entry → Type 0 = λ file map. Followed s c es mostBytes (q .n) sound differ b reads (q .running) (ok .started) is (record { file = file; map = map; limit = mostBytes; n = q .n }) (startLeftOf q .after) in
-    let both : Both (sessionFile q) (sessionMap q) = subst (λ (z : List Entry). Both (sessionFile q) z) maps (subst⁻¹ (λ (z : File). Both z es) same f) in
+    let Met : File → List Entry → Type 0 =
+    λ f map. Followed s c es mostBytes sound (link .differ) b sheet (q .n) (q .running) (ok .started) is f map (startLeftOf q) in
+    let by-file : Met (fileIn s c) es = followed s c es mostBytes sound (link .differ) b sheet (q .n) (q .running) (ok .started) is in
+    let met : Met (sessionFile q) (sessionMap q) = subst (Met (sessionFile q)) maps (subst⁻¹ (λ (f : File). Met f es) same by-file) in
+    let w = always b (link .checks) (q .n) (q .running) (ok .started) is in
     record {
       small = start-small (q .n) (q .running) (ok .started);
-      first = both .0;
-      each = both .1;
+      first = met .0;
+      each = met .1;
       cover = w .cover;
       once = w .once;
       few = w .few;

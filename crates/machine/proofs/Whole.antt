@@ -16,12 +16,12 @@ use Rattle.run_laws.specs.Always.{SoundCall}
 use Rattle.machine.specs.File.{fileIn}
 use Rattle.machine.specs.Machine.{Given, Machine, step}
 use Rattle.machine.specs.Means.{Means}
-use Rattle.machine.specs.Demand.{lastHeld, PlaceHolds, AsMachine, MapHolds, Follows}
+use Rattle.machine.specs.Demand.{AsMachine, MapHolds, Follows}
 use Rattle.machine.proofs.Laid.{runAs, stackAs, leftAs}
 use Rattle.machine.proofs.Keeping.{Runs, current-as, next-runs}
 use Rattle.machine.proofs.Operations.{linkedLexer}
 use Rattle.machine.proofs.Stepping.{step-as}
-use Rattle.machine.proofs.Places.{place-next}
+use Rattle.machine.proofs.Places.{Places, place-next}
 use Rattle.machine.proofs.Meanings.{means}
 use Rattle.machine.proofs.Only.{Distinct, only}
 use Rattle.machine.proofs.Reading.{Sound}
@@ -35,16 +35,20 @@ pub record Sheet (s : List ℕ) (c : Contents) (es : List Entry) (b : SheetBytes
 
 -- calls that are the machine's steps wherever its run is as it has it
 pub record Calls (g : Given) (b : SheetBytes) : Type 0 where
-  pub called : (size : ℕ) (m : Machine) (l : List ℕ) (i : Input) → Runs g size m l → stepCall b (running (runAs (g .n) m) l) i ≡ leftAs (g .n) l (step g m i)
+  pub called : (size : ℕ) (m : Machine) (l : List ℕ) (i : Input) → Runs g size m l
+      → stepCall b (running (runAs (g .n) m) l) i ≡ leftAs (g .n) l (step g m i)
 
-pub sheet-calls : (s : List ℕ) (c : Contents) (es : List Entry) (limit n : ℕ) → Sound c → (b : SheetBytes) → Sheet s c es b → Calls (record { file = fileIn s c; map = es; limit = limit; n = n }) b
+pub sheet-calls : (s : List ℕ) (c : Contents) (es : List Entry) (limit n : ℕ) → Sound c → (b : SheetBytes) → Sheet s c es b
+    → Calls (record { file = fileIn s c; map = es; limit = limit; n = n }) b
 unfolding stepCall
 sheet-calls s c es limit n sound b sheet = record {
-  called = λ size m l i h. rw (sheet .checks) (ap (λ (x : Lexer). stepRun x (running (runAs n m) l) i) (sheet .reads) ∙ step-as s c es limit n sound size m l h i);
+  called = λ size m l i h.
+      rw (sheet .checks)
+      (ap (λ (x : Lexer). stepRun x (running (runAs n m) l) i) (sheet .reads) ∙ step-as s c es limit n sound size m l h i);
 }
 
 -- the run and the bytes are as the machine has them
-pub as-machine : (g : Given) (m : Machine) (held : List (List ℕ)) (s l : List ℕ) → Runs g (length s) m l → ((p : ℕ) → PlaceHolds (lastHeld p (m .stack ∷ held)) p s l)
+pub as-machine : (g : Given) (m : Machine) (held : List (List ℕ)) (s l : List ℕ) → Runs g (length s) m l → Places (m .stack ∷ held) s l
     → AsMachine g m held s (running (runAs (g .n) m) l)
 as-machine g m held s l h places = record {
   run = refl;
@@ -54,7 +58,8 @@ as-machine g m held s l h places = record {
 }
 
 -- where the map holds the name of each named rule, a named winner is a token
-linked-answer : (g : Given) (m : Machine) (i : Input) (a : Step) (next : Machine) → Means g m i a next → MapHolds (g .file) (g .map) → a ≡ Unlinked → ⊥
+linked-answer : (g : Given) (m : Machine) (i : Input) (a : Step) (next : Machine) → Means g m i a next
+    → MapHolds (g .file) (g .map) → a ≡ Unlinked → ⊥
 linked-answer g m i a next h held e = go (subst (λ (z : Step). Means g m i z next) e h)
   where
     go : Means g m i Unlinked next → ⊥
@@ -64,30 +69,32 @@ linked-answer g m i a next h held e = go (subst (λ (z : Step). Means g m i z ne
 
 -- ---- all calls
 
--- from the machine m on, which held these stacks before, over a stack whose bytes were s before the start call; each call is sound
+-- each of them is sound
+abbrev pub AllSound : Given → ℕ → List (RunLeft Step) → Type 0
+AllSound g size os = EachCall (SoundCall (length (g .file .states)) (g .n) size) os
+
+-- over a stack whose bytes were s before the start call
 module _ (g : Given) (differ : Distinct (g .map)) (b : SheetBytes) (by-machine : Calls g b) (s : List ℕ) where
-  pub follows : (is : List Input) (m : Machine) (held : List (List ℕ)) (l : List ℕ) → Runs g (length s) m l
-      → ((p : ℕ) → PlaceHolds (lastHeld p (m .stack ∷ held)) p s l)
-      → EachCall (SoundCall (length (g .file .states)) (g .n) (length s)) (calls b (running (runAs (g .n) m) l) is)
-      → Follows g s m held is (calls b (running (runAs (g .n) m) l) is)
+  -- from the machine m on, which held these stacks before
+  pub follows : (is : List Input) (m : Machine) (held : List (List ℕ)) (l : List ℕ) → Runs g (length s) m l → Places (m .stack ∷ held) s l
+      → AllSound g (length s) (calls b (running (runAs (g .n) m) l) is) → Follows g s m held is (calls b (running (runAs (g .n) m) l) is)
   unfolding calls EachCall Follows
   follows [] m held l h places sound = tt
   follows (i ∷ is) m held l h places sound =
       let next : Machine = step g m i .machine in
       let a : Step = step g m i .answer in
-      let l2 : List ℕ = stackAs l next in
       let meant = means g m i in
       let left = by-machine .called (length s) m l i h in
-      let each = subst (λ (o : RunLeft Step). SoundCall (length (g .file .states)) (g .n) (length s) o × EachCall (SoundCall (length (g .file .states)) (g .n) (length s)) (calls b (o .after) is)) left sound in
-      let runs : Runs g (length s) next l2 = next-runs g (length s) m l h next (each .0 .after) in
-      let stand : ((p : ℕ) → PlaceHolds (lastHeld p (next .stack ∷ m .stack ∷ held)) p s l2) = λ p. place-next (m .stack ∷ held) (next .stack) s l p (places p) in
+      let each = subst (λ (o : RunLeft Step). AllSound g (length s) (o ∷ calls b (o .after) is)) left sound in
+      let runs = next-runs g (length s) m l h next (each .0 .after) in
+      let stand = place-next (m .stack ∷ held) (next .stack) s l places in
       subst⁻¹ (λ (o : RunLeft Step). Follows g s m held (i ∷ is) (o ∷ calls b (o .after) is)) left (
         record {
           answer = refl;
           means = meant;
           only = λ x y q. only g m i differ x y a next q meant;
           allowed = record { not-6 = each .0 .not-6; not-9 = each .0 .not-9; not-unlinked = linked-answer g m i a next meant };
-          leaves = as-machine g next (m .stack ∷ held) s l2 runs stand;
+          leaves = as-machine g next (m .stack ∷ held) s (stackAs l next) runs stand;
         },
-        follows is next (m .stack ∷ held) l2 runs stand (each .1),
+        follows is next (m .stack ∷ held) (stackAs l next) runs stand (each .1),
       )

@@ -59,11 +59,12 @@ module _ (b : SheetBytes) (passed : sheetCheck b ≡ true) where
         let behind : List Piece = pieces (next .run .position) (calls b next is) in
         let s = sums is next (run-kept x i h) in
         record {
-          cover = adjoin-append here behind (x .run .position) (next .run .position) (lastPosition next (calls b next is)) (c .adjoins) (s .cover);
+          cover = adjoin-append here behind (x .run .position) (next .run .position) _ (c .adjoins) (s .cover);
           moves = omega (arith, c .moves, s .moves, length-append here behind);
         }
 
-  first-sound : (n : ℕ) (x : Running) → startCall n x .answer ≡ Started → SoundRun states n (length (x .stack)) (running (firstRun n) (putState (x .stack) 0 0))
+  first-sound : (n : ℕ) (x : Running) → startCall n x .answer ≡ Started
+      → SoundRun states n (length (x .stack)) (running (firstRun n) (putState (x .stack) 0 0))
   first-sound n x ok =
       let good = first-good n x ok states (checked-contents b passed .some-states) in
       record {
@@ -78,15 +79,17 @@ unfolding ALWAYS
 always b passed n x ok is =
     let first : Running = running (firstRun n) (putState (x .stack) 0 0) in
     let os : List (RunLeft Step) = calls b first is in
+    let states : ℕ = length (decoded b .states) in
     let bytes : ℕ = length (x .stack) in
     let h = first-sound b passed n x ok in
     let s = sums b passed n bytes is first h in
-    let end : SoundRun (length (decoded b .states)) n bytes (lastRunning first os) = calls-last b (SoundRun (length (decoded b .states)) n bytes) (run-kept b passed n bytes) is first h in
-    let g = run-is (length (decoded b .states)) (lastRunning first os .run) (lastRunning first os .stack) (end .good) in
+    let keeps = run-kept b passed n bytes in
+    let end : SoundRun states n bytes (lastRunning first os) = calls-last b (SoundRun states n bytes) keeps is first h in
+    let g = run-is states (lastRunning first os .run) (lastRunning first os .stack) (end .good) in
     subst⁻¹ (λ (f : RunLeft Begun). Always b n (x .stack) (f .after) (calls b (f .after) is)) (start-left n x ok)
     (record {
       first = h;
-      each = calls-each b (SoundRun (length (decoded b .states)) n bytes) (run-kept b passed n bytes) (SoundCall (length (decoded b .states)) n bytes) (call-sound b passed n bytes) is first h;
+      each = calls-each b (SoundRun states n bytes) keeps (SoundCall states n bytes) (call-sound b passed n bytes) is first h;
       cover = s .cover;
       once = covered-once (pieces 0 os) (lastPosition first os) (s .cover);
       moves = omega (arith, s .moves);

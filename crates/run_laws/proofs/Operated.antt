@@ -25,7 +25,8 @@ use Rattle.run_laws.proofs.Stacks.{put-length, put-same, put-other}
 -- ---- a good run
 
 -- the records of an area pass a test where each does
-contents-pass : {A : Type 0} (F : Format A) (test : A → Bool) (l : List ℕ) (n : ℕ) → ((k : ℕ) → k < n → test (F .read l k) ≡ true) → all test (contents F l n) ≡ true
+contents-pass : {A : Type 0} (F : Format A) (test : A → Bool) (l : List ℕ) (n : ℕ) → ((k : ℕ) → k < n → test (F .read l k) ≡ true)
+    → all test (contents F l n) ≡ true
 contents-pass F test l zero h = sym (all-none F test l)
 contents-pass F test l (suc n) h =
     ap (λ (m : ℕ). all test (contents F l m)) (sym (add-one n))
@@ -41,15 +42,22 @@ module _ (states : ℕ) (x : Running) where
   ids-declared good k h =
       let d : ℕ = x .run .depth in
       let ids : List ℕ = contents entryFormat (x .stack) d in
+      let pass : all (declared states) ids ≡ true = and-right (goodNumbers x) (all (declared states) ids) good in
+      let inside : k < length ids = omega (arith, contents-count entryFormat (x .stack) d, h) in
       ltb-true (entryAt (x .stack) k) states
-      (ap (declared states) (sym (contents-read entryFormat (x .stack) d k h))
-      ∙ all-at (declared states) ids 0 k (and-right (goodNumbers x) (all (declared states) ids) good) (omega (arith, contents-count entryFormat (x .stack) d, h)))
+      (ap (declared states) (sym (contents-read entryFormat (x .stack) d k h)) ∙ all-at (declared states) ids 0 k pass inside)
 
   pub run-good : GoodNumbers (x .run) (length (x .stack)) → Declared states x → goodRun states x ≡ true
   unfolding goodRun goodNumbers
   run-good g ids =
       let r = x .run in
-      rw (le-leb (r .n) mostBytes (g .small), le-leb (r .position) (r .n) (g .inside), le-leb 1 (r .depth) (g .some-depth), le-leb (r .depth) (r .position + 1) (g .low-depth), le-leb (movesOf r) (r .position) (g .few-moves), le-leb (stackBytes (r .n)) (length (x .stack)) (g .long))
+      let small = le-leb (r .n) mostBytes (g .small) in
+      let inside = le-leb (r .position) (r .n) (g .inside) in
+      let some-depth = le-leb 1 (r .depth) (g .some-depth) in
+      let low-depth = le-leb (r .depth) (r .position + 1) (g .low-depth) in
+      let few-moves = le-leb (movesOf r) (r .position) (g .few-moves) in
+      let long = le-leb (stackBytes (r .n)) (length (x .stack)) (g .long) in
+      rw (small, inside, some-depth, low-depth, few-moves, long)
       (contents-pass entryFormat (declared states) (x .stack) (r .depth) (λ k h. lt-ltb (entryAt (x .stack) k) states (ids k h)))
 
 -- ---- an operation

@@ -29,7 +29,8 @@ module _ (s : List ℕ) (k id : ℕ) where
       let t : List ℕ = set s at (id % 256) in
       let low : getD (set t (suc at) (id / 256)) at 0 ≡ id % 256 =
       getD-set-other t (suc at) at (id / 256) 0 (λ e. omega (arith, e)) ∙ getD-set-same s at (id % 256) 0 (omega (arith, h)) in
-      let high : getD (set t (suc at) (id / 256)) (suc at) 0 ≡ id / 256 = getD-set-same t (suc at) (id / 256) 0 (omega (arith, h, length-set s at (id % 256))) in
+      let high : getD (set t (suc at) (id / 256)) (suc at) 0 ≡ id / 256 =
+      getD-set-same t (suc at) (id / 256) 0 (omega (arith, h, length-set s at (id % 256))) in
       entry-bytes _ k ∙ ap₂ (λ (x y : ℕ). x + y * 256) low high ∙ omega arith
 
   pub put-other : (j : ℕ) → (j ≡ k → ⊥) → entryAt (putState s k id) j ≡ entryAt s j
