@@ -52,7 +52,12 @@ zero-small = record { id = omega arith; place = omega arith; from = omega arith;
 
 read-small : (l : List ℕ) (k : ℕ) → AllBytes l → SmallRule (ruleAt l k)
 unfolding ruleAt ruleOf
-read-small l k h = record { id = field-small l (k * ruleWidth) 1 h; place = field-small l (k * ruleWidth) 7 h; from = field-small l (k * ruleWidth) 8 h; len = field-small l (k * ruleWidth) 9 h }
+read-small l k h = record {
+  id = field-small l (k * ruleWidth) 1 h;
+  place = field-small l (k * ruleWidth) 7 h;
+  from = field-small l (k * ruleWidth) 8 h;
+  len = field-small l (k * ruleWidth) 9 h;
+}
 
 -- rule k of an area of bytes; past the last all fields are 0
 pub small-rule : (l : List ℕ) (n k : ℕ) → AllBytes l → SmallRule (nthRule (contents ruleFormat l n) k)
@@ -119,7 +124,9 @@ unfolding linkCall linkFields
 link-small b names entries x7 x8 =
     by-test LinkSmall (sheetCheck b) _ _
     (λ passed. by-test LinkSmall (mapCheck names entries) _ _
-    (λ good. checked-small (b .source) (decoded b .rules) (entriesOf names entries) (b .area2) x7 x8 (checked-contents b passed .few-rules) (few-mapped names entries good))
+    (λ good.
+    let few = checked-contents b passed .few-rules in
+    checked-small (b .source) (decoded b .rules) (entriesOf names entries) (b .area2) x7 x8 few (few-mapped names entries good))
     (λ _. no-values 7 (omega arith)))
     (λ _. no-values 6 (omega arith))
 
@@ -137,7 +144,8 @@ module _ (x : Lexer) (small : (k : ℕ) → SmallRule (nthRule (x .rules) k)) (r
   unfolding wonBy view viewFields
   won-small k bytes h p =
       by-test Small (eqb (nthRule (x .rules) k .named) 1) _ _
-      (λ _. by-test Small (eqb (nthRule (x .rules) k .«has_id») 1) _ _ (λ _. two-bytes tokenNumber _ _ _ (omega arith) (small k .id) p h) (λ _. no-values unlinkedNumber (omega arith)))
+      (λ _. by-test Small (eqb (nthRule (x .rules) k .«has_id») 1) _ _
+      (λ _. two-bytes tokenNumber _ _ _ (omega arith) (small k .id) p h) (λ _. no-values unlinkedNumber (omega arith)))
       (λ _. no-values skipNumber (omega arith))
 
   run-small : Small (stepRun x run (input row))
@@ -155,7 +163,8 @@ module _ (x : Lexer) (small : (k : ℕ) → SmallRule (nthRule (x .rules) k)) (r
       (λ _. no-values rowMismatchNumber (omega arith))))
       (λ _. no-values brokenRunNumber (omega arith))
 
-pub step-small : (b : SheetBytes) (run : Running) (row : List ℕ) → AllBytes (b .area2) → AllBytes row → TwoBytes (stepFields (stepCall b run (input row) .answer))
+pub step-small : (b : SheetBytes) (run : Running) (row : List ℕ) → AllBytes (b .area2) → AllBytes row
+    → TwoBytes (stepFields (stepCall b run (input row) .answer))
 unfolding stepCall view viewFields decoded
 step-small b run row rules-bytes row-bytes =
     by-test Small (sheetCheck b) _ _ (λ _. run-small (lexerOf (decoded b)) (λ k. small-rule (b .area2) (getD (b .counts) 1 0) k rules-bytes) run row row-bytes)

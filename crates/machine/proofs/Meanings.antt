@@ -105,11 +105,13 @@ module _ (g : Given) (m : Machine) (i : Input) (off : m .position ≡ g .n → �
   row-fitting e =
       let row : List ℕ = i .row in
       let size : length row ≡ n * 2 = eqb-true (length row) (n * 2) (and-left (eqb (length row) (n * 2)) _ e) in
+      let pass : all (notAbove left) (lengths row) ≡ true = and-right (eqb (length row) (n * 2)) _ e in
       record {
         before = off;
         size = size;
-        low = λ k h. rw (← lengths-at row k (omega (arith, size, h)))
-            (leb-true (getD (lengths row) k 0) left (all-at (notAbove left) (lengths row) 0 k (and-right (eqb (length row) (n * 2)) _ e) (omega (arith, lengths-count n row size, h))));
+        low = λ k h.
+            let here : k < length (lengths row) = omega (arith, lengths-count n row size, h) in
+            rw (← lengths-at row k (omega (arith, size, h))) (leb-true (getD (lengths row) k 0) left (all-at (notAbove left) (lengths row) 0 k pass here));
       }
 
   pub misfits : fits (notAbove (g .n - m .position)) (length (g .file .rules)) (i .row) ≡ false → Misfit g m i
@@ -183,7 +185,8 @@ module _ (live : FileRule → Bool) (x : FileRule) (xs : List FileRule) (l : ℕ
       by-test (Picks live (x ∷ xs) (l ∷ ls)) (ltb l (w .bytes)) (some w) (some (winner x l)) (λ q. later-found w (ltb-true l (w .bytes) q) p)
       (λ q. first-found e (λ k y r t. omega (arith, p .greatest k y r t, ltb-false l (w .bytes) q)))
 
-pub picked : (states : List FileState) (state : ℕ) (xs : List FileRule) (ls : List ℕ) → length ls ≡ length xs → Picks (isLive states state) xs ls (winnerOf states state xs ls)
+pub picked : (states : List FileState) (state : ℕ) (xs : List FileRule) (ls : List ℕ) → length ls ≡ length xs
+    → Picks (isLive states state) xs ls (winnerOf states state xs ls)
 unfolding winnerOf
 picked states state [] ls h = λ k x e t. none-some x e
 picked states state (x ∷ xs) [] h = absurd (omega arith)
@@ -210,7 +213,9 @@ id-given (e ∷ es) name =
     later t none p = λ id h. by id (h .0) (h .1) (h .2) (h .3) (h .4)
       where
         by : (id j : ℕ) (f : Entry) → getElem? (e ∷ es) j ≡ some f → f .name ≡ name → f .id ≡ id → ⊥
-        by id zero f q r u = true≢false (sym (same-self name) ∙ ap (λ (z : List ℕ). sameBytes z name) (sym (ap (λ (y : Entry). y .name) (some-is e f q) ∙ r)) ∙ t)
+        by id zero f q r u =
+            let same : e .name ≡ name = ap (λ (y : Entry). y .name) (some-is e f q) ∙ r in
+            true≢false (sym (same-self name) ∙ ap (λ (z : List ℕ). sameBytes z name) (sym same) ∙ t)
         by id (suc j) f q r u = p id (j, f, q, r, u)
 
 -- ---- a step
@@ -266,5 +271,6 @@ module _ (g : Given) (m : Machine) (i : Input) where
       (λ e. by-test Meant (fits (notAbove (g .n - m .position)) (length (g .file .rules)) (i .row)) _ (answered RowMismatch m)
       (λ f.
       let fitting : Fitting g m i = row-fitting g m i (eqb-false (m .position) (g .n) e) f in
-      chooses-means fitting _ (picked (g .file .states) (currentState (m .stack)) (g .file .rules) ls (lengths-count (length (g .file .rules)) (i .row) (fitting .size))))
+      let count = lengths-count (length (g .file .rules)) (i .row) (fitting .size) in
+      chooses-means fitting _ (picked (g .file .states) (currentState (m .stack)) (g .file .rules) ls count))
       (λ f. (eqb-false (m .position) (g .n) e, misfits g m i (eqb-false (m .position) (g .n) e) f, refl)))

@@ -3,7 +3,7 @@ use mathlib.Core.Path.{_≡_, sym, ap, _∙_}
 use mathlib.Core.List.{List}
 use mathlib.Core.Logic.{_⊎_, inl, inr, ⊎-elim}
 use mathlib.Core.Option.{none, some}
-use Prim.Native.Nat.{ℕ, _-_}
+use Prim.Native.Nat.{ℕ, _-_, _<_}
 use native.Mathlib.Omega.{arith}
 use lib.ListN.{getElem?}
 use Rattle.text.proofs.Tests.{le-or-lt}
@@ -28,11 +28,16 @@ module _ (g : Given) (m : Machine) (i : Input) where
   won-not w h z = omega (arith, z (h .place) (w .rule) (h .rule) (h .live), h .has, h .some-bytes)
 
   -- one winner
+  not-before : (v w : Winner) (p : Won g m i v) (q : Won g m i w) → p .place < q .place → ⊥
+  not-before v w p q h =
+      let less = q .earliest (p .place) (v .rule) h (p .rule) (p .live) in
+      let most = p .greatest (q .place) (w .rule) (q .rule) (q .live) in
+      omega (arith, less, most, p .has, q .has)
+
   same-place : (v w : Winner) (p : Won g m i v) (q : Won g m i w) → p .place ≡ q .place
   same-place v w p q =
-      ⊎-elim
-      (λ h. ⊎-elim (λ k. omega arith) (λ k. absurd (omega (arith, p .earliest (q .place) (w .rule) k (q .rule) (q .live), q .has, q .greatest (p .place) (v .rule) (p .rule) (p .live), p .has))) (le-or-lt (p .place) (q .place)))
-      (λ h. absurd (omega (arith, q .earliest (p .place) (v .rule) h (p .rule) (p .live), p .has, p .greatest (q .place) (w .rule) (q .rule) (q .live), q .has)))
+      ⊎-elim (λ h. ⊎-elim (λ k. omega arith) (λ k. absurd (not-before w v q p k)) (le-or-lt (p .place) (q .place)))
+      (λ h. absurd (not-before v w p q h))
       (le-or-lt (q .place) (p .place))
 
   same-winner : (v w : Winner) → Won g m i v → Won g m i w → v ≡ w

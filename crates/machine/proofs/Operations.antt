@@ -46,7 +46,8 @@ module _ (n position moves : ℕ) where
   kept : (st b : List ℕ) → Begins st b → stacked (length st) b ≡ stackedAs b st
   kept st b h = ap (stacked (length st)) (laid-again st b h)
 
-  pop-as : (st b : List ℕ) → Begins st b → 1 ≤ length st → entryWidth ≤ length b → popped (stacked (length st) b) ≡ stackedAs b (orInitial (take (length st - 1) st))
+  pop-as : (st b : List ℕ) → Begins st b → 1 ≤ length st → entryWidth ≤ length b
+      → popped (stacked (length st) b) ≡ stackedAs b (orInitial (take (length st - 1) st))
   unfolding popped
   pop-as [] b h l w = absurd (omega arith)
   pop-as (x ∷ []) b h l w = ap (stacked 1) (laid-bottom b 0 w)
@@ -66,7 +67,8 @@ module _ (n position moves : ℕ) where
       t = x .target
 
       go : (p q r : Bool)
-          → cond p (stacked 1 (putState b 0 t)) (cond q (stacked (length st + 1) (putState b (length st) t)) (cond r (popped (stacked (length st) b)) (stacked (length st) b)))
+          → cond p (stacked 1 (putState b 0 t))
+          (cond q (stacked (length st + 1) (putState b (length st) t)) (cond r (popped (stacked (length st) b)) (stacked (length st) b)))
           ≡ stackedAs b (operate (cond p (replace t) (cond q (push t) (cond r pop keep))) st)
       go true q r = ap (stacked 1) (laid-bottom b t (omega arith))
       go false true r = ap₂ stacked (sym (length-append st (t ∷ []))) (laid-push st b h t w)
@@ -87,7 +89,10 @@ module _ (s : List ℕ) (es : List Entry) where
   pub linked-weight : (c : Contents) (state : ℕ) (row : List ℕ) → weight (linkedLexer c) state row ≡ weight (lexerOf c) state row
   unfolding weight
   linked-weight c state row =
-      λ i k. cond ((ap (live (c .states) (c .lists) state) (link-at s es (c .rules) k) ∙ linked-live (c .states) (c .lists) state (nthRule (c .rules) k)) i) (lengthIn row k) 0
+      let alive : Rule → Bool = live (c .states) (c .lists) state in
+      let same : (k : ℕ) → alive (nthRule (linkRules s es (c .rules)) k) ≡ alive (nthRule (c .rules) k) =
+      λ k. ap alive (link-at s es (c .rules) k) ∙ linked-live (c .states) (c .lists) state (nthRule (c .rules) k) in
+      λ i k. cond (same k i) (lengthIn row k) 0
 
 -- ---- a call that does not move, and a winner
 
@@ -95,22 +100,27 @@ pub still-as : (n : ℕ) (m : Machine) (b : List ℕ) → Begins (m .stack) b �
 still-as n m b h a = ap (runLeft a (runAs n m)) (laid-again (m .stack) b h)
 
 -- the bytes b begin with the stack, with room for one id more; s is the source, and c what stands in the areas
-module _ (n : ℕ) (m : Machine) (b : List ℕ) (begins : Begins (m .stack) b) (some-id : 1 ≤ length (m .stack)) (room : length (m .stack) * entryWidth + entryWidth ≤ length b) (s : List ℕ) (c : Contents) where
-  move-as : (a : Step) (x : Rule) (bytes : ℕ) → leaving a (moveBy (running (runAs n m) b) x bytes) ≡ leftAs n b (answered a (move (winner (fileRule s c x) bytes) m))
+module _ (n : ℕ) (m : Machine) (b : List ℕ) (begins : Begins (m .stack) b) (some-id : 1 ≤ length (m .stack))
+    (room : length (m .stack) * entryWidth + entryWidth ≤ length b) (s : List ℕ) (c : Contents) where
+  move-as : (a : Step) (x : Rule) (bytes : ℕ) → leaving a (moveBy (running (runAs n m) b) x bytes)
+      ≡ leftAs n b (answered a (move (winner (fileRule s c x) bytes) m))
   unfolding moveBy move
   move-as a x bytes =
       ap (λ (z : Running). runLeft a (advanced (z .run) bytes) (z .stack)) (operated-as n (m .position) (m .moves) x (m .stack) b begins some-id room)
 
   -- the id of a named winner is the map's
-  named-as : (g : Given) (x : Rule) (w : Winner) → cond (isNamed x) (token (idOf (g .map) (nameOf s x)) w m) (answered Skip (move w m)) ≡ wins g (nameFrom s x) w m
+  named-as : (g : Given) (x : Rule) (w : Winner) → cond (isNamed x) (token (idOf (g .map) (nameOf s x)) w m) (answered Skip (move w m))
+      ≡ wins g (nameFrom s x) w m
   unfolding wins nameFrom nameOf
   named-as g x w = go (isNamed x)
     where
-      go : (t : Bool) → cond t (token (idOf (g .map) (nameOf s x)) w m) (answered Skip (move w m)) ≡ wins g (cond t (some (part s (x .«name_from») (x .«name_from» + x .«name_length»))) none) w m
+      go : (t : Bool) → cond t (token (idOf (g .map) (nameOf s x)) w m) (answered Skip (move w m))
+          ≡ wins g (cond t (some (part s (x .«name_from») (x .«name_from» + x .«name_length»))) none) w m
       go true = ap (λ (o : Option ℕ). token o w m) (id-same (g .map) (nameOf s x))
       go false = refl
 
-  pub won-as : (g : Given) (x : Rule) (bytes : ℕ) → wonBy (running (runAs n m) b) (linkRule s (g .map) x) bytes ≡ leftAs n b (wins g (nameFrom s x) (winner (fileRule s c x) bytes) m)
+  pub won-as : (g : Given) (x : Rule) (bytes : ℕ) → wonBy (running (runAs n m) b) (linkRule s (g .map) x) bytes
+      ≡ leftAs n b (wins g (nameFrom s x) (winner (fileRule s c x) bytes) m)
   unfolding wonBy linkRule withFound withId token moveBy operated
   won-as g x bytes = go (isNamed x) refl (idOf (g .map) (nameOf s x)) ∙ ap (leftAs n b) (named-as g x (winner (fileRule s c x) bytes))
     where

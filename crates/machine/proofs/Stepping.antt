@@ -56,30 +56,52 @@ module _ (s : List ℕ) (c : Contents) (es : List Entry) (limit n : ℕ) (sound 
           (won-as n m b (h .begins) (q .some-depth) (omega (arith, q .low-depth, q .long, before)) s c g (nthRule (c .rules) k) (w .bytes)
           ∙ ap (λ (x : FileRule). leftAs n b (wins g (x .name) (winner x (w .bytes)) m)) (sym e))
 
+      -- the weight of each rule, and the greatest
+      abbrev weigh : ℕ → ℕ
+      weigh = f s c sound m row fit
+
+      abbrev top-weight : ℕ
+      top-weight = greatest weigh (length (c .rules))
+
       chooses-as : (o : Option Winner) → Picks (alive s c sound m row fit) (rules s c sound m row fit) (lengths row) o
-          → choose (linkedLexer s es c) (running (runAs n m) b) (best (f s c sound m row fit) (length (c .rules))) ≡ leftAs n b (chooses g o m)
+          → choose (linkedLexer s es c) (running (runAs n m) b) (best weigh (length (c .rules))) ≡ leftAs n b (chooses g o m)
       unfolding choose chooses
       chooses-as none p =
-          let low : greatest (f s c sound m row fit) (length (c .rules)) ≤ 0 = greatest-low (f s c sound m row fit) 0 (length (c .rules)) (weights-under s c sound m row fit 0 (λ k x e l. absurd (p k x e l))) in
-          rw (eq-eqb (greatest (f s c sound m row fit) (length (c .rules))) 0 (omega arith)) (still-as n m b (h .begins) Stopped)
+          let under = weights-under s c sound m row fit 0 (λ k x e l. absurd (p k x e l)) in
+          let low : top-weight ≤ 0 = greatest-low weigh 0 (length (c .rules)) under in
+          rw (eq-eqb top-weight 0 (omega arith)) (still-as n m b (h .begins) Stopped)
       chooses-as (some w) p =
-          ap (λ (v : ℕ). cond (eqb v 0) (runLeft Stopped (runAs n m) b) (wonBy (running (runAs n m) b) (nthRule (linkRules s es (c .rules)) (earliest (f s c sound m row fit) (length (c .rules)))) v)) (top s c sound m row fit w p)
+          let wonBy-rule : ℕ → ℕ → RunLeft Step = λ k bytes. wonBy (running (runAs n m) b) (nthRule (linkRules s es (c .rules)) k) bytes in
+          let first : ℕ = earliest weigh (length (c .rules)) in
+          ap (λ (v : ℕ). cond (eqb v 0) (runLeft Stopped (runAs n m) b) (wonBy-rule first v)) (top s c sound m row fit w p)
           ∙ by-same-test n b (eqb (w .bytes) 0) _ _ _ _ (λ _. still-as n m b (h .begins) Stopped)
-          (λ e. ap (λ (k : ℕ). wonBy (running (runAs n m) b) (nthRule (linkRules s es (c .rules)) k) (w .bytes)) (place-same s c sound m row fit w p (omega (arith, eqb-false (w .bytes) 0 e)))
-          ∙ won w (p .place) (is-rule s c sound m row fit w p))
+          (λ e.
+          let same : first ≡ p .place = place-same s c sound m row fit w p (omega (arith, eqb-false (w .bytes) 0 e)) in
+          ap (λ (k : ℕ). wonBy-rule k (w .bytes)) same ∙ won w (p .place) (is-rule s c sound m row fit w p))
+
+    -- the test of a length, how many rules there are, and the current state
+    abbrev test : ℕ → Bool
+    test = notAbove (n - m .position)
+
+    abbrev count : ℕ
+    count = length (c .rules)
+
+    abbrev state : ℕ
+    state = currentState (m .stack)
+
+    chosen : (i : Input) → eqb (m .position) n ≡ false → fits test count (i .row) ≡ true
+        → choose (linkedLexer s es c) (running (runAs n m) b) (best (weight (lexerOf c) state (i .row)) count)
+        ≡ leftAs n b (chooses g (winnerOf (map fileState (c .states)) state (map (fileRule s c) (c .rules)) (lengths (i .row))) m)
+    chosen i e d =
+        let fit : length (i .row) ≡ count * 2 = fits-size test count (i .row) d in
+        let same : length (lengths (i .row)) ≡ length (map (fileRule s c) (c .rules)) =
+        lengths-count count (i .row) fit ∙ sym (length-map (c .rules) (fileRule s c)) in
+        chooses-as (i .row) fit (omega (arith, eqb-false (m .position) n e, numbers g size m b h .inside)) _
+        (picked (map fileState (c .states)) state (map (fileRule s c) (c .rules)) (lengths (i .row)) same)
 
     pub step-as : (i : Input) → stepRun (linkedLexer s es c) (running (runAs n m) b) i ≡ leftAs n b (step g m i)
     unfolding stepRun step stepRow
     step-as i =
-        rw (run-good, length-map (c .rules) (fileRule s c), link-count s es (c .rules), row-same (notAbove (n - m .position)) (length (c .rules)) (i .row), weights-as (i .row))
+        rw (run-good, length-map (c .rules) (fileRule s c), link-count s es (c .rules), row-same test count (i .row), weights-as (i .row))
         (by-same-test n b (eqb (m .position) n) _ _ _ _ (λ _. still-as n m b (h .begins) Done)
-        (λ e. by-same-test n b (fits (notAbove (n - m .position)) (length (c .rules)) (i .row)) _ _ _ _ (chosen e) (λ _. still-as n m b (h .begins) RowMismatch)))
-      where
-        chosen : eqb (m .position) n ≡ false → fits (notAbove (n - m .position)) (length (c .rules)) (i .row) ≡ true
-            → choose (linkedLexer s es c) (running (runAs n m) b) (best (weight (lexerOf c) (currentState (m .stack)) (i .row)) (length (c .rules)))
-            ≡ leftAs n b (chooses g (winnerOf (map fileState (c .states)) (currentState (m .stack)) (map (fileRule s c) (c .rules)) (lengths (i .row))) m)
-        chosen e d =
-            let fit : length (i .row) ≡ length (c .rules) * 2 = fits-size (notAbove (n - m .position)) (length (c .rules)) (i .row) d in
-            let count : length (lengths (i .row)) ≡ length (map (fileRule s c) (c .rules)) = lengths-count (length (c .rules)) (i .row) fit ∙ sym (length-map (c .rules) (fileRule s c)) in
-            chooses-as (i .row) fit (omega (arith, eqb-false (m .position) n e, numbers g size m b h .inside)) _
-            (picked (map fileState (c .states)) (currentState (m .stack)) (map (fileRule s c) (c .rules)) (lengths (i .row)) count)
+        (λ e. by-same-test n b (fits test count (i .row)) _ _ _ _ (chosen i e) (λ _. still-as n m b (h .begins) RowMismatch)))

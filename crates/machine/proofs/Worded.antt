@@ -94,10 +94,12 @@ means-small g m i Unlinked next h l e = no-values unlinkedNumber (omega arith)
 means-small g m i Skip next h l e = no-values skipNumber (omega arith)
 means-small g m i (Token id start bytes) next h l (w, won, name, named, (j, x, at, same, is), from, long, _) =
     let low = won .fitting .low (won .place) (place-inside (g .file .rules) (won .place) (w .rule) (won .rule)) in
-    two-bytes tokenNumber id start bytes (omega arith) (omega (arith, is, l j x at)) (omega (arith, from, low, won .has, won .some-bytes, h)) (omega (arith, long, low, won .has, h))
+    two-bytes tokenNumber id start bytes (omega arith) (omega (arith, is, l j x at))
+    (omega (arith, from, low, won .has, won .some-bytes, h)) (omega (arith, long, low, won .has, h))
 
 module _ (g : Given) (s : List ℕ) (b : SheetBytes) (small : g .n < 65536) (ids : LowIds (g .map)) where
-  in-words-follows : (is : List Input) (x : Running) (m : Machine) (held : List (List ℕ)) → Follows g s m held is (calls b x is) → FollowsInWords g s m held is (callsInWords b x is)
+  in-words-follows : (is : List Input) (x : Running) (m : Machine) (held : List (List ℕ)) → Follows g s m held is (calls b x is)
+      → FollowsInWords g s m held is (callsInWords b x is)
   unfolding Follows FollowsInWords calls callsInWords
   in-words-follows [] x m held f = tt
   in-words-follows (i ∷ is) x m held f =
@@ -119,8 +121,9 @@ unfolding IN-WORDS DEMAND
 in-words q bytes h is =
     let d = demand q (accepts q h) is in
     let b : SheetBytes = linkedSheet (sheetParsed q) (linkLeftOf q) in
+    let ids = ids-low (q .names) (q .entries) bytes in
     record {
       same = same-words b is (startLeftOf q .after);
       demand = d;
-      each = in-words-follows (given q) (q .running .stack) b (omega (arith, d .small)) (ids-low (q .names) (q .entries) bytes) is (startLeftOf q .after) fresh [] (d .each);
+      each = in-words-follows (given q) (q .running .stack) b (omega (arith, d .small)) ids is (startLeftOf q .after) fresh [] (d .each);
     }
