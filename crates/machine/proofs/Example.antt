@@ -40,9 +40,9 @@ use Rattle.link.specs.Link.{isNone, isUnmapped, hasThatName, isUnused, unmapped
 use Rattle.run.specs.declared.Run.{Run}
 use Rattle.run.specs.declared.Step.{Step}
 use Rattle.run.specs.declared.Step.the-variants.{RowMismatch, Done, Stopped, Skip, Token}
-use Rattle.run.specs.Run.{goodStart, startCall, startFields}
+use Rattle.run.specs.Run.{running, Input, input, goodStart, startCall, startFields}
 use Rattle.machine.specs.File.{FileRule, operationBy, nameAt, nameFrom, mapOf, fileOf}
-use Rattle.machine.specs.Machine.{Given, Input, Machine, fresh, lengths, noneAbove, fits, has, isEmpty, isLive, before, winnerOf, idIn, operate, move, token, wins, chooses, step}
+use Rattle.machine.specs.Machine.{Given, Machine, fresh, lengths, fits, has, isEmpty, isLive, before, winnerOf, idIn, operate, move, token, wins, chooses, step}
 use Rattle.machine.specs.Means.{EntryOf}
 use Rattle.machine.specs.Demand.{Demand, Session, startLeftOf, sessionFile, sessionMap, given, MapHolds, Accepts, sessionCalls, DEMAND}
 use Rattle.machine.proofs.Options.{some-is, none-some}
@@ -52,7 +52,15 @@ use Rattle.machine.proofs.Worded.{in-words}
 
 -- `%x S⏎%%⏎a 'A'⏎b <+S>;⏎<S>c <-S>'C'⏎<S>d <S>;⏎e <-S>'E'⏎`
 abbrev pub lexFile : List ℕ
-lexFile = 0x25 ∷ 0x78 ∷ 0x20 ∷ 0x53 ∷ 0x0a ∷ 0x25 ∷ 0x25 ∷ 0x0a ∷ 0x61 ∷ 0x20 ∷ 0x27 ∷ 0x41 ∷ 0x27 ∷ 0x0a ∷ 0x62 ∷ 0x20 ∷ 0x3c ∷ 0x2b ∷ 0x53 ∷ 0x3e ∷ 0x3b ∷ 0x0a ∷ 0x3c ∷ 0x53 ∷ 0x3e ∷ 0x63 ∷ 0x20 ∷ 0x3c ∷ 0x2d ∷ 0x53 ∷ 0x3e ∷ 0x27 ∷ 0x43 ∷ 0x27 ∷ 0x0a ∷ 0x3c ∷ 0x53 ∷ 0x3e ∷ 0x64 ∷ 0x20 ∷ 0x3c ∷ 0x53 ∷ 0x3e ∷ 0x3b ∷ 0x0a ∷ 0x65 ∷ 0x20 ∷ 0x3c ∷ 0x2d ∷ 0x53 ∷ 0x3e ∷ 0x27 ∷ 0x45 ∷ 0x27 ∷ 0x0a ∷ []
+lexFile =
+    0x25 ∷ 0x78 ∷ 0x20 ∷ 0x53 ∷ 0x0a
+    ∷ 0x25 ∷ 0x25 ∷ 0x0a
+    ∷ 0x61 ∷ 0x20 ∷ 0x27 ∷ 0x41 ∷ 0x27 ∷ 0x0a
+    ∷ 0x62 ∷ 0x20 ∷ 0x3c ∷ 0x2b ∷ 0x53 ∷ 0x3e ∷ 0x3b ∷ 0x0a
+    ∷ 0x3c ∷ 0x53 ∷ 0x3e ∷ 0x63 ∷ 0x20 ∷ 0x3c ∷ 0x2d ∷ 0x53 ∷ 0x3e ∷ 0x27 ∷ 0x43 ∷ 0x27 ∷ 0x0a
+    ∷ 0x3c ∷ 0x53 ∷ 0x3e ∷ 0x64 ∷ 0x20 ∷ 0x3c ∷ 0x53 ∷ 0x3e ∷ 0x3b ∷ 0x0a
+    ∷ 0x65 ∷ 0x20 ∷ 0x3c ∷ 0x2d ∷ 0x53 ∷ 0x3e ∷ 0x27 ∷ 0x45 ∷ 0x27 ∷ 0x0a
+    ∷ []
 
 abbrev pub capacities : Caps
 capacities = caps 12 140 4 0 0 0
@@ -65,7 +73,7 @@ abbrev pub entries-of-map : List ℕ
 entries-of-map = 0 ∷ 0 ∷ 1 ∷ 0 ∷ 44 ∷ 1 ∷ 1 ∷ 0 ∷ 1 ∷ 0 ∷ 45 ∷ 1 ∷ 2 ∷ 0 ∷ 1 ∷ 0 ∷ 46 ∷ 1 ∷ []
 
 abbrev pub row : ℕ → ℕ → ℕ → ℕ → ℕ → Input
-row a b c d e = record { row = a ∷ 0 ∷ b ∷ 0 ∷ c ∷ 0 ∷ d ∷ 0 ∷ e ∷ 0 ∷ [] }
+row a b c d e = input (a ∷ 0 ∷ b ∷ 0 ∷ c ∷ 0 ∷ d ∷ 0 ∷ e ∷ 0 ∷ [])
 
 abbrev pub entry-rows : List Input
 entry-rows =
@@ -78,7 +86,7 @@ entry-rows =
     ∷ row 1 1 0 0 1
     ∷ row 0 0 1 1 0
     ∷ row 0 0 0 0 1
-    ∷ record { row = [] }
+    ∷ input []
     ∷ []
 
 -- the file and the map, and the start of an entry of 8 bytes, over a stack of 18 bytes 7
@@ -93,8 +101,7 @@ session r = record {
   area7 = [];
   area8 = [];
   n = 8;
-  run = r;
-  stack = replicate 18 7;
+  running = running r (replicate 18 7);
 }
 
 -- the machine's answers
@@ -169,7 +176,7 @@ unfolding goodStart startCall
 run-computes = tt
 
 unfoldable machine-computes : Unit {0}
-unfolding operationBy nameAt nameFrom mapOf fileOf lengths noneAbove fits has isEmpty isLive before winnerOf idIn operate move token wins chooses step answers
+unfolding operationBy nameAt nameFrom mapOf fileOf lengths fits has isEmpty isLive before winnerOf idIn operate move token wins chooses step answers
 machine-computes = tt
 
 -- all of it
@@ -182,7 +189,8 @@ pub met-names : (r : Run) → MapHolds (sessionFile (session r)) (sessionMap (se
 unfolding computing
 met-names r = record { holds = by }
   where
-    by : (k : ℕ) (x : FileRule) (name : List ℕ) → getElem? (sessionFile (session r) .rules) k ≡ some x → x .name ≡ some name → (id : ℕ) × EntryOf (sessionMap (session r)) name id
+    by : (k : ℕ) (x : FileRule) (name : List ℕ) → getElem? (sessionFile (session r) .rules) k ≡ some x → x .name ≡ some name
+        → (id : ℕ) × EntryOf (sessionMap (session r)) name id
     by zero x name e q = (300, (0, _, refl, some-is _ name (ap (λ (y : FileRule). y .name) (some-is _ x e) ∙ q), refl))
     by (suc zero) x name e q = absurd (none-some name (ap (λ (y : FileRule). y .name) (some-is _ x e) ∙ q))
     by (suc (suc zero)) x name e q = (301, (1, _, refl, some-is _ name (ap (λ (y : FileRule). y .name) (some-is _ x e) ∙ q), refl))
@@ -202,7 +210,7 @@ unfolding computing
 met-answers r = refl
 
 -- so demand 3 holds of the calls with these rows
-pub met-demand : (r : Run) → Demand (given (session r)) (session r .stack) (startLeftOf (session r)) entry-rows (sessionCalls (session r) entry-rows)
+pub met-demand : (r : Run) → Demand (given (session r)) (session r .running .stack) (startLeftOf (session r)) entry-rows (sessionCalls (session r) entry-rows)
 unfolding DEMAND
 met-demand r = demand (session r) (met r) entry-rows
 

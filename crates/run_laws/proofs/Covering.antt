@@ -1,14 +1,19 @@
--- Pieces that adjoin cover each byte between their two ends once, and no other.
-use mathlib.Core.Path.{_≡_, refl, sym, ap, ap₂, _∙_}
+-- Pieces that adjoin, and others behind them, adjoin; and they cover each byte between their two ends once, and no other.
+use mathlib.Core.Path.{_≡_, refl, sym, ap, ap₂, subst⁻¹, _∙_}
 use mathlib.Core.Bool.{cond}
-use mathlib.Core.List.{List, [], _∷_}
+use mathlib.Core.List.{List, [], _∷_, _++_}
 use mathlib.Core.Logic.{⊎-elim}
 use Prim.Native.Nat.{ℕ, _+_, _-_, _≤_}
 use native.Mathlib.Omega.{arith}
 use borrow.Author.Tests.{le-leb, lt-leb, lt-ltb, le-ltb}
 use lib.Dec.{leb, ltb}
 use Rattle.text.proofs.Tests.{le-or-lt, and-false}
-use Rattle.machine.specs.Demand.{Piece, Adjoin, among, covered}
+use Rattle.run_laws.specs.Pieces.{Piece, Adjoin, among, covered}
+
+pub adjoin-append : (xs ys : List Piece) (p q e : ℕ) → Adjoin p xs q → Adjoin q ys e → Adjoin p (xs ++ ys) e
+unfolding Adjoin
+adjoin-append [] ys p q e h k = subst⁻¹ (λ (j : ℕ). Adjoin j ys e) h k
+adjoin-append (x ∷ xs) ys p q e h k = (h .0, adjoin-append xs ys (p + x .bytes) q e (h .1) k)
 
 among-none : (x p : ℕ) → among x p 0 ≡ 0
 unfolding among
