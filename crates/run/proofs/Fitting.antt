@@ -104,7 +104,9 @@ module _ (states : ℕ) (r : Run) (s : List ℕ) (fits : goodRun states (running
   current-declared =
       let d : ℕ = r .depth in
       let h : d - 1 < d = omega (arith, run-is .some-depth) in
-      let a : all (declared states) (contents entryFormat s d) ≡ true = and-right (goodNumbers (running r s)) (all (declared states) (contents entryFormat s d)) fits in
+      let a : all (declared states) (contents entryFormat s d) ≡ true =
+      and-right (goodNumbers (running r s)) (all (declared states) (contents entryFormat s d)) fits in
       let m : d - 1 < length (contents entryFormat s d) = omega (arith, contents-count entryFormat s d, h) in
-      let b : declared states (entryAt s (d - 1)) ≡ true = ap (declared states) (sym (contents-read entryFormat s d (d - 1) h)) ∙ all-at (declared states) (contents entryFormat s d) 0 (d - 1) a m in
+      let b : declared states (entryAt s (d - 1)) ≡ true =
+      ap (declared states) (sym (contents-read entryFormat s d (d - 1) h)) ∙ all-at (declared states) (contents entryFormat s d) 0 (d - 1) a m in
       ltb-true (entryAt s (d - 1)) states b

@@ -21,8 +21,9 @@ use Rattle.run.specs.declared.Best.{Best}
 use Rattle.run.specs.declared.Begun.the-variants.{Started, StartRefused}
 use Rattle.run.specs.declared.Step.{Step}
 use Rattle.run.specs.declared.Step.the-variants.{BrokenSheet, BrokenRun, RowMismatch, Done, Stopped}
-use Rattle.run.specs.Winner.{weight, best}
-use Rattle.run.specs.Run.{mostBytes, stackBytes, running, input, current, putState, RunLeft, runLeft, firstRun, startCall, goodStart, goodRun, fitsIn, goodRow, wonBy, choose, stepRow, stepRun, stepCall}
+use Rattle.run.specs.Winner.{Lexer, weight, best}
+use Rattle.run.specs.Run.{mostBytes, stackBytes, Running, running, input, current, putState, RunLeft, leaving, runLeft, firstRun, startCall, goodStart}
+use Rattle.run.specs.Run.{goodRun, fitsIn, goodRow, wonBy, choose, stepRow, stepRun, stepCall}
 use Rattle.run.specs.Contracts.{lexerAt, Readable, Inside}
 use Rattle.run.proofs.Fitting.{GoodNumbers, run-is, row-length}
 use Rattle.run.proofs.Winning.{winner-inside, weights-low}
@@ -46,50 +47,50 @@ pub ruleset starting = (needs, start-long, start-short, start-good)
 
 -- ---- a row that fits
 
-module _ (l1 l2 l3 : List ℕ) (states rules entries : ℕ) (row : List ℕ) (state : ℕ) (b : Best)
-    (is : b ≡ best (weight (lexerAt l1 l2 l3 states rules entries) state row) rules) where
+module _ (lexer : Lexer) (rules : ℕ) (row : List ℕ) (state : ℕ) (b : Best) (is : b ≡ best (weight lexer state row) rules) where
   -- the winner is a rule
   pub rule-inside : (b .length ≡ 0 → ⊥) → b .rule < rules
   rule-inside h =
-      let f : ℕ → ℕ = weight (lexerAt l1 l2 l3 states rules entries) state row in
-      subst (λ (j : ℕ). j < rules) (sym (ap (λ (y : Best). y .rule) is)) (winner-inside f rules (λ e. h (ap (λ (y : Best). y .length) is ∙ e)))
+      subst (λ (j : ℕ). j < rules) (sym (ap (λ (y : Best). y .rule) is))
+      (winner-inside (weight lexer state row) rules (λ e. h (ap (λ (y : Best). y .length) is ∙ e)))
 
   -- its length is at most the bytes left
   pub bytes-low : (left : ℕ) → goodRow (λ l. leb l left) rules row ≡ true → b .length ≤ left
   bytes-low left e =
       subst (λ (j : ℕ). j ≤ left) (sym (ap (λ (y : Best). y .length) is))
-      (weights-low (lexerAt l1 l2 l3 states rules entries) state row left rules
-      (λ k h. leb-true (entryAt row k) left (row-length (λ l. leb l left) rules row e k h)))
+      (weights-low lexer state row left rules (λ k h. leb-true (entryAt row k) left (row-length (λ l. leb l left) rules row e k h)))
 
 module _ (l1 l2 l3 : List ℕ) (states rules entries : ℕ) (r : Run) (s row : List ℕ) (state : ℕ) (b : Best)
-    (top : state ≡ entryAt s (r .depth - 1))
-    (is : b ≡ best (weight (lexerAt l1 l2 l3 states rules entries) state row) rules) where
-  row-choice : choose (lexerAt l1 l2 l3 states rules entries) (running r s) b ≡ stepRow (lexerAt l1 l2 l3 states rules entries) (running r s) (input row)
+    (top : state ≡ entryAt s (r .depth - 1)) (is : b ≡ best (weight (lexerAt l1 l2 l3 states rules entries) state row) rules) where
+  abbrev lexer : Lexer
+  lexer = lexerAt l1 l2 l3 states rules entries
+
+  abbrev g : Running
+  g = running r s
+
+  row-choice : choose lexer g b ≡ stepRow lexer g (input row)
   unfolding stepRow
   row-choice =
-      ap (λ (y : Best). choose (lexerAt l1 l2 l3 states rules entries) (running r s) y)
+      ap (choose lexer g)
       (is
-      ∙ ap (λ (z : ℕ). best (weight (lexerAt l1 l2 l3 states rules entries) z row) rules) top
-      ∙ ap (best (weight (lexerAt l1 l2 l3 states rules entries) (current (running r s)) row)) (sym (contents-count ruleFormat l2 rules)))
+      ∙ ap (λ (z : ℕ). best (weight lexer z row) rules) top
+      ∙ ap (best (weight lexer (current g) row)) (sym (contents-count ruleFormat l2 rules)))
 
-  choose-stopped : b .length ≡ 0 → runLeft Stopped r s ≡ choose (lexerAt l1 l2 l3 states rules entries) (running r s) b
+  choose-stopped : b .length ≡ 0 → leaving Stopped g ≡ choose lexer g b
   unfolding choose
   choose-stopped h = rw (eq-eqb (b .length) 0 h)
 
-  choose-won : (b .length ≡ 0 → ⊥) → wonBy (running r s) (nthRule (contents ruleFormat l2 rules) (b .rule)) (b .length) ≡ choose (lexerAt l1 l2 l3 states rules entries) (running r s) b
+  choose-won : (b .length ≡ 0 → ⊥) → wonBy g (nthRule (lexer .rules) (b .rule)) (b .length) ≡ choose lexer g b
   unfolding choose
   choose-won h = rw (ne-eqb (b .length) 0 h)
 
-  pub row-stopped : b .length ≡ 0 → runLeft Stopped r s ≡ stepRow (lexerAt l1 l2 l3 states rules entries) (running r s) (input row)
+  pub row-stopped : b .length ≡ 0 → leaving Stopped g ≡ stepRow lexer g (input row)
   row-stopped h = choose-stopped h ∙ row-choice
 
-  pub row-won : (x : Rule) (y : RunLeft Step) → (b .length ≡ 0 → ⊥) → x ≡ ruleAt l2 (b .rule) → y ≡ wonBy (running r s) x (b .length)
-      → y ≡ stepRow (lexerAt l1 l2 l3 states rules entries) (running r s) (input row)
+  pub row-won : (x : Rule) (y : RunLeft Step) → (b .length ≡ 0 → ⊥) → x ≡ ruleAt l2 (b .rule) → y ≡ wonBy g x (b .length) → y ≡ stepRow lexer g (input row)
   row-won x y h e q =
-      q
-      ∙ ap (λ (z : Rule). wonBy (running r s) z (b .length)) (e ∙ sym (contents-read ruleFormat l2 rules (b .rule) (rule-inside l1 l2 l3 states rules entries row state b is h)))
-      ∙ choose-won h
-      ∙ row-choice
+      let read = contents-read ruleFormat l2 rules (b .rule) (rule-inside lexer rules row state b is h) in
+      q ∙ ap (λ (z : Rule). wonBy g z (b .length)) (e ∙ sym read) ∙ choose-won h ∙ row-choice
 
 -- a move by no more bytes than are left stays inside the entry, and its operation inside the stack
 pub move-inside : (r : Run) (bytes space : ℕ) → GoodNumbers r space → r .position < r .n → bytes ≤ r .n - r .position → Inside r bytes space
@@ -110,14 +111,17 @@ pub short-of : (states : ℕ) (r : Run) (s : List ℕ) → goodRun states (runni
 short-of states r s e h = omega (arith, run-is states r s e .inside, h)
 
 module _ (l1 l2 l3 : List ℕ) (states rules entries : ℕ) (r : Run) (s row : List ℕ) (t : Bool) (is : t ≡ goodRun states (running r s)) where
+  abbrev after-check : RunLeft Step
+  after-check = stepRun (lexerAt l1 l2 l3 states rules entries) (running r s) (input row)
+
   ran : goodRun (length (contents stateFormat l1 states)) (running r s) ≡ t
   ran = ap (λ (m : ℕ). goodRun m (running r s)) (contents-count stateFormat l1 states) ∙ sym is
 
-  pub run-refused : t ≡ false → runLeft BrokenRun r s ≡ stepRun (lexerAt l1 l2 l3 states rules entries) (running r s) (input row)
+  pub run-refused : t ≡ false → runLeft BrokenRun r s ≡ after-check
   unfolding stepRun
   run-refused e = rw (ran, e)
 
-  pub run-done : t ≡ true → r .position ≡ r .n → runLeft Done r s ≡ stepRun (lexerAt l1 l2 l3 states rules entries) (running r s) (input row)
+  pub run-done : t ≡ true → r .position ≡ r .n → runLeft Done r s ≡ after-check
   unfolding stepRun
   run-done e h = rw (ran, e, eq-eqb (r .position) (r .n) h)
 
@@ -125,12 +129,11 @@ module _ (l1 l2 l3 : List ℕ) (states rules entries : ℕ) (r : Run) (s row : L
     rowed : goodRow (fitsIn r) (length (contents ruleFormat l2 rules)) row ≡ u
     rowed = ap (λ (m : ℕ). goodRow (fitsIn r) m row) (contents-count ruleFormat l2 rules) ∙ sym fits
 
-    pub run-ill : u ≡ false → runLeft RowMismatch r s ≡ stepRun (lexerAt l1 l2 l3 states rules entries) (running r s) (input row)
+    pub run-ill : u ≡ false → runLeft RowMismatch r s ≡ after-check
     unfolding stepRun
     run-ill g = rw (ran, e, ne-eqb (r .position) (r .n) h, rowed, g)
 
-    pub run-row : (y : RunLeft Step) → u ≡ true → y ≡ stepRow (lexerAt l1 l2 l3 states rules entries) (running r s) (input row)
-        → y ≡ stepRun (lexerAt l1 l2 l3 states rules entries) (running r s) (input row)
+    pub run-row : (y : RunLeft Step) → u ≡ true → y ≡ stepRow (lexerAt l1 l2 l3 states rules entries) (running r s) (input row) → y ≡ after-check
     unfolding stepRun
     run-row y g q = rw (ran, e, ne-eqb (r .position) (r .n) h, rowed, g) q
 

@@ -26,7 +26,8 @@ use Rattle.text.proofs.Firsts.{first-passes, first-before, first-low, first-onl
 
 -- ---- a state in a list
 
-module _ (l : List ℕ) (n from end state i : ℕ) (inside : end ≤ n) (before : findInList (contents entryFormat l n) from end state ≡ findInList (contents entryFormat l n) i end state) where
+module _ (l : List ℕ) (n from end state i : ℕ) (inside : end ≤ n)
+    (before : findInList (contents entryFormat l n) from end state ≡ findInList (contents entryFormat l n) i end state) where
   entry-test : (x : ℕ) → x ≡ entryAt l i → i < end → eqb (nthEntry (contents entryFormat l n) i) state ≡ eqb x state
   entry-test x e h = ap (λ (y : ℕ). eqb y state) (contents-read entryFormat l n i (omega arith) ∙ sym e)
 
@@ -49,7 +50,8 @@ pub ruleset listing = (needs, state-found, state-again, state-ended)
 
 -- ---- a rule that is live
 
-module _ (l1 l3 : List ℕ) (states entries state : ℕ) (x : Rule) (i : ℕ) (is : i ≡ findInList (contents entryFormat l3 entries) (x .«list_from») (listEnd x) state) where
+module _ (l1 l3 : List ℕ) (states entries state : ℕ) (x : Rule) (i : ℕ)
+    (is : i ≡ findInList (contents entryFormat l3 entries) (x .«list_from») (listEnd x) state) where
   pub live-in-list : i < listEnd x → true ≡ live (contents stateFormat l1 states) (contents entryFormat l3 entries) state x
   unfolding live inList
   live-in-list h =
@@ -141,7 +143,8 @@ module _ (f : ℕ → ℕ) where
   unfolding earliest
   earliest-inside n h =
       let a = attained n h in
-      omega (arith, first-low (λ k. eqb (f k) (greatest f n)) 0 n (omega arith) (a .place) (omega arith) (eq-eqb (f (a .place)) (greatest f n) (a .has)), a .inside)
+      let low = first-low (λ k. eqb (f k) (greatest f n)) 0 n (omega arith) (a .place) (omega arith) (eq-eqb (f (a .place)) (greatest f n) (a .has)) in
+      omega (arith, low, a .inside)
 
   pub earliest-has : (n : ℕ) → 0 < n → f (earliest f n) ≡ greatest f n
   unfolding earliest
@@ -231,7 +234,8 @@ module _ (l1 l2 l3 : List ℕ) (states rules entries state : ℕ) (row : List �
   scan-next k b e x bytes h q ex eb ee =
       let f : ℕ → ℕ = weight (lexerAt l1 l2 l3 states rules entries) state row in
       let w : cond (live (contents stateFormat l1 states) (contents entryFormat l3 entries) state x) bytes 0 ≡ f k =
-      ap₂ (λ (y : Rule) (n : ℕ). cond (live (contents stateFormat l1 states) (contents entryFormat l3 entries) state y) n 0) (ex ∙ sym (contents-read ruleFormat l2 rules k h)) eb in
+      ap₂ (λ (y : Rule) (n : ℕ). cond (live (contents stateFormat l1 states) (contents entryFormat l3 entries) state y) n 0)
+      (ex ∙ sym (contents-read ruleFormat l2 rules k h)) eb in
       ee ∙ ap₂ (λ (y : Best) (n : ℕ). better y k n) q w ∙ best-next f k
 
   pub scan-ended : (k : ℕ) (b : Best) → k ≤ rules → rules ≤ k

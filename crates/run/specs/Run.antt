@@ -10,7 +10,8 @@ use Rattle.area.specs.Bytes.{two}
 use Rattle.area.specs.Lists.{all}
 use Rattle.area.specs.Records.{entryAt, nthRule, entryWidth}
 use Rattle.area.specs.Contents.{contents, entryFormat}
-use Rattle.answers.specs.Numbers.{acceptedNumber, startRefusedNumber, brokenSheetNumber, brokenRunNumber, rowMismatchNumber, doneNumber, stoppedNumber, unlinkedNumber, skipNumber, tokenNumber}
+use Rattle.answers.specs.Numbers.{acceptedNumber, startRefusedNumber, brokenSheetNumber, brokenRunNumber, rowMismatchNumber}
+use Rattle.answers.specs.Numbers.{doneNumber, stoppedNumber, unlinkedNumber, skipNumber, tokenNumber}
 use Rattle.answers.specs.Words.{Fields, fields, word}
 use Rattle.sheet_check.specs.SheetCheck.{SheetBytes, decoded, sheetCheck, declared}
 use Rattle.run.specs.declared.Run.{Run}

@@ -44,7 +44,7 @@ use Rattle.section.specs.Reader.{readerAt, moved, movedBy, NextLine}
 use Rattle.section.specs.declared.reader.Reader.{Reader}
 use Rattle.section.specs.declared.reader.Line.{Line}
 use Rattle.section.proofs.Lines.{first-between}
-use Rattle.borrow_proofs.proofs.Walking.{parts, tokens, all, have-nothings, allocated, param, arg, release, called}
+use Rattle.borrow_proofs.proofs.Walking.{parts, tokens, together, have-nothings, allocated, param, arg, release, called}
 use Rattle.borrow_proofs.proofs.Parameters.{Params, number, slice, stays, machine, meets-by}
 use Rattle.section.proofs.Reading.{held, flagged-mover, moves-flagged, Inside}
 use Rattle.section.proofs.reader.Reader as ReaderType
@@ -154,24 +154,24 @@ module _ {M : Type 1} (𝓤 : URA M) (H : Heap 𝓤) (A : Atoms 𝓤) (W : Given
         (makes : Triple 𝓤 (C #reader-at) Makes) (moves : Triple 𝓤 (C g) Moves) (ends : Triple 𝓤 (C #to-end) Ends) where
       walk : i ≤ length (now src) → Typed (mirs Ts) (flat Ts vals) → ent 𝓤 (onEntry 𝓤 H A (finder .signature) κs qs a vals) (WpFn 𝓤 H C Λ (finds-fn g) (flat Ts vals) (walkOf 𝓤 H A finder stayed finds .post y))
       walk asked t =
-          qed W (‵ (all (tokens 1 κs qs)) ∷ ‵ (all (parts Ts a vals)) ∷ []) ∵ enter ! C Λ (finds-fn g) (flat Ts vals) _ $
+          qed W (‵ (together (tokens 1 κs qs)) ∷ ‵ (together (parts Ts a vals)) ∷ []) ∵ enter ! C Λ (finds-fn g) (flat Ts vals) _ $
           allocated ! (finds-fn g .locals) (λ l0 l1 l2 l3 l4 l5 l6 l7 l8 l9. params1 ! $ param ! 16 refl (t .0) $ param ! 14 refl (t .1 .0) $ param ! 12 refl (t .1 .1 .0) $ pass0 ! $
           -- [_9; …; to _0; …; the token; what the parameters own]: what the flags own is taken out
           move ! (21 ∷ []) $ fsplit ! $ move ! (1 ∷ []) $ fsplit ! $ move ! (2 ∷ 1 ∷ []) $ fjoin ! $
           -- [what the source and the offset own; what the flags own; _9; …]: `reader_at`
-          move ! (22 ∷ 0 ∷ []) $ use2 W (raw (Makes .pre ((κs, qs, tt, b, us), tt))) (qed W (‵ (all (tokens 1 κs qs)) ∷ ‵ (all (parts Made b us)) ∷ []) ∵ join ! $ frame ! $ done !) $
+          move ! (22 ∷ 0 ∷ []) $ use2 W (raw (Makes .pre ((κs, qs, tt, b, us), tt))) (qed W (‵ (together (tokens 1 κs qs)) ∷ ‵ (together (parts Made b us)) ∷ []) ∵ join ! $ frame ! $ done !) $
           called ! fm reader-at.ended (reader-at.clauses 𝓤 H A mem run) makes ((κs, qs, tt, b, us), tt) (arg ! 18 refl (arg ! 14 refl (no-more !))) (λ w₀ r₀ _.
           move ! (3 ∷ []) $ heard ! (r₀ ≡ readerAt src i) (λ e₀. peeks ! (held κs) (Is (held κs)) (shows 𝓤 H A (held κs)) r₀ (w₀ ∷ []) (λ is₀.
           -- [what the reader owns; the token; …; what the flags own; _9; …]: to the line's start
           land ! (from ! (stop !)) (init ! 10 refl (StructLaws.lawful (ReaderType.the-type α) L 𝓤 H A W .typed r₀ _ is₀ .0)) $
-          move ! (1 ∷ 0 ∷ 3 ∷ []) $ use3 W (raw (Moves .pre (to-start r₀ w₀))) (qed W (‵ (all (tokens 1 κs qs)) ∷ ‵ (held κs .own r₀ (w₀ ∷ [])) ∷ ‵ (u64 .own flags (uint-vals w64 flags)) ∷ []) ∵
+          move ! (1 ∷ 0 ∷ 3 ∷ []) $ use3 W (raw (Moves .pre (to-start r₀ w₀))) (qed W (‵ (together (tokens 1 κs qs)) ∷ ‵ (held κs .own r₀ (w₀ ∷ [])) ∷ ‵ (u64 .own flags (uint-vals w64 flags)) ∷ []) ∵
           says ! (subst Inside (sym e₀) asked) $ frame ! $ have-nothings ! 0 $ move ! (2 ∷ 0 ∷ []) $ fjoin ! $ move ! (1 ∷ 0 ∷ []) $ fjoin ! $ done !) $
           called ! fm flagged-mover (moves-flagged 𝓤 scan) moves (to-start r₀ w₀) (arg ! 8 refl (arg ! 16 refl (no-more !))) (λ w₁ r₁ _.
           move ! (3 ∷ []) $ heard ! (r₁ ≡ movedBy scan flags r₀) (λ e₁. let f₁ = e₁ ∙ ap (movedBy scan flags) e₀ in peeks ! (held κs) (Is (held κs)) (shows 𝓤 H A (held κs)) r₁ (w₁ ∷ []) (λ is₁.
           -- [what the reader owns; the token; …; …; _9; …]: on to its end
           land ! (from ! (stop !)) (init ! 14 refl (StructLaws.lawful (ReaderType.the-type α) L 𝓤 H A W .typed r₁ _ is₁ .0)) $
           assigns ! (of-opd ! (load ! (from ! (stop !)) (look ! 14 refl))) (from ! (stop !)) (init ! 8 refl (StructLaws.lawful (ReaderType.the-type α) L 𝓤 H A W .typed r₁ _ is₁ .0)) $
-          move ! (1 ∷ 0 ∷ []) $ use2 W (raw (Ends .pre (to r₁ w₁))) (qed W (‵ (all (tokens 1 κs qs)) ∷ ‵ (held κs .own r₁ (w₁ ∷ [])) ∷ []) ∵
+          move ! (1 ∷ 0 ∷ []) $ use2 W (raw (Ends .pre (to r₁ w₁))) (qed W (‵ (together (tokens 1 κs qs)) ∷ ‵ (held κs .own r₁ (w₁ ∷ [])) ∷ []) ∵
           says ! (subst Inside (sym f₁) (bounded (now src) flags i asked .to)) $ frame ! $ have-nothings ! 0 $ move ! (1 ∷ 0 ∷ []) $ fjoin ! $ done !) $
           called ! fm to-end.ended (to-end.clauses 𝓤 H A mem run) ends (to r₁ w₁) (arg ! 7 refl (no-more !)) (λ w₂ r₂ _.
           facts ! (held κs) (Is (held κs)) (shows 𝓤 H A (held κs)) r₂ (w₂ ∷ []) (λ is₂. move ! (2 ∷ []) $ heard ! (r₂ ≡ moved lineEnd r₁) (λ e₂.

@@ -41,7 +41,7 @@ use denote.Exit.{yes}
 use Rattle.text.specs.Walk.{Between}
 use Rattle.section.specs.Reader.{readerAt, moved, movedBy}
 use Rattle.section.specs.declared.reader.Reader.{Reader}
-use Rattle.borrow_proofs.proofs.Walking.{parts, tokens, all, have-nothings, allocated, param, arg, release, called}
+use Rattle.borrow_proofs.proofs.Walking.{parts, tokens, together, have-nothings, allocated, param, arg, release, called}
 use Rattle.borrow_proofs.proofs.Parameters.{Param, Params, number, stays, machine, meets-by}
 use Rattle.section.proofs.reader.Reader as ReaderType
 use Rattle.section.proofs.reader.Reader.Laws as ReaderLaws
@@ -56,7 +56,7 @@ reader = record {
   stay = stay-dropped (plain held) yes;
   goes = λ 𝓤 H A W. goes-dropped 𝓤 H A W 1 (plain held) yes (λ κs x f. refl);
   vals = λ κs. StructLaws.vals (ReaderType.the-type (namedLft 1 0 tt κs)) (ReaderLaws.the-laws (namedLft 1 0 tt κs));
-  tells = λ κs. StructLaws.tells (ReaderType.the-type (namedLft 1 0 tt κs)) (ReaderLaws.the-laws (namedLft 1 0 tt κs));
+  only-vals = λ κs. StructLaws.tells (ReaderType.the-type (namedLft 1 0 tt κs)) (ReaderLaws.the-laws (namedLft 1 0 tt κs));
   lawful = λ 𝓤 H A W κs. StructLaws.lawful (ReaderType.the-type (namedLft 1 0 tt κs)) (ReaderLaws.the-laws (namedLft 1 0 tt κs)) 𝓤 H A W;
 }
 
@@ -210,14 +210,14 @@ module _ {M : Type 1} (𝓤 : URA M) (H : Heap 𝓤) (A : Atoms 𝓤) (W : Given
     module _ (C : Calls 𝓤 H) (Λ : Loops 𝓤 H) (fm : FmC 𝓤 H (W .laws) C) (g : Name) (known : Triple 𝓤 (C g) (Scans 𝓤 H A scan)) where
       walk : Inside d → Typed (mirs Ts) (flat Ts vals) → ent 𝓤 (onEntry 𝓤 H A (mover .signature) κs qs (d, tt) vals) (WpFn 𝓤 H C Λ (moves-fn g) (flat Ts vals) (walkOf 𝓤 H A mover stayed (moves 𝓤 scan) .post y))
       walk asked t =
-          qed W (‵ (all (tokens 1 κs qs)) ∷ ‵ (all (parts Ts (d, tt) vals)) ∷ []) ∵ enter ! C Λ (moves-fn g) (flat Ts vals) _ $
+          qed W (‵ (together (tokens 1 κs qs)) ∷ ‵ (together (parts Ts (d, tt) vals)) ∷ []) ∵ enter ! C Λ (moves-fn g) (flat Ts vals) _ $
           allocated ! (moves-fn g .locals) (λ l0 l1 l2 l3 l4. params1 ! $ param ! 6 refl (t .0) $ pass0 ! $
           -- [_4; …; to _0; …; the token; what the struct owns]
           assigns ! (of-opd ! (load ! (from ! (fld ! refl (stop !))) (look-in ! 6 (sub ! 0 refl (whole !))))) (from ! (stop !)) (init ! 2 refl (tt, t .0 .1 .0)) $
           assigns ! (of-opd ! (load ! (from ! (fld ! refl (stop !))) (look-in ! 6 (sub ! 1 refl (whole !))))) (from ! (stop !)) (init ! 0 refl (tt, t .0 .1 .1 .0)) $
           move ! (11 ∷ []) $ fsplit ! $ opened ! $
           -- [what the fields own; what the struct owns; nothing; _4; …]: the call
-          move ! (13 ∷ 0 ∷ []) $ use2 W (raw (Scans 𝓤 H A scan .pre to)) (qed W (‵ (all (tokens 1 κs qs)) ∷ ‵ (all-own (D .parts) L fields) ∷ []) ∵ says ! asked $ frame ! $ done !) $
+          move ! (13 ∷ 0 ∷ []) $ use2 W (raw (Scans 𝓤 H A scan .pre to)) (qed W (‵ (together (tokens 1 κs qs)) ∷ ‵ (all-own (D .parts) L fields) ∷ []) ∵ says ! asked $ frame ! $ done !) $
           called ! fm scanner (scans 𝓤 scan) known to (arg ! 5 refl (arg ! 3 refl (no-more !))) (λ w n ws.
           facts ! usize (Is usize) (shows 𝓤 H A usize) n (w ∷ []) (λ is. move ! (2 ∷ []) $ heard ! (Between (d .offset) (length (now (d .source))) (scan (now (d .source)) (d .offset)) n) (λ said.
           -- [the token; last values; what the struct owns; nothing; _4; …]: the offset is stored, and the struct returned
@@ -260,7 +260,7 @@ module _ {M : Type 1} (𝓤 : URA M) (H : Heap 𝓤) (A : Atoms 𝓤) (W : Given
       flagged-walk : Inside d → Typed (mirs Ts-flagged) (flat Ts-flagged vals-flagged)
           → ent 𝓤 (onEntry 𝓤 H A (flagged-mover .signature) κs qs a-flagged vals-flagged) (WpFn 𝓤 H C Λ (flagged-fn g) (flat Ts-flagged vals-flagged) (walkOf 𝓤 H A flagged-mover flagged-stayed (moves-flagged 𝓤 scan) .post y-flagged))
       flagged-walk asked t =
-          qed W (‵ (all (tokens 1 κs qs)) ∷ ‵ (all (parts Ts-flagged a-flagged vals-flagged)) ∷ []) ∵ enter ! C Λ (flagged-fn g) (flat Ts-flagged vals-flagged) _ $
+          qed W (‵ (together (tokens 1 κs qs)) ∷ ‵ (together (parts Ts-flagged a-flagged vals-flagged)) ∷ []) ∵ enter ! C Λ (flagged-fn g) (flat Ts-flagged vals-flagged) _ $
           allocated ! (flagged-fn g .locals) (λ l0 l1 l2 l3 l4 l5. params1 ! $ param ! 8 refl (t .0) $ param ! 6 refl (t .1 .0) $ pass0 ! $
           -- [_5; …; to _0; …; the token; what the struct and the flags own]
           assigns ! (of-opd ! (load ! (from ! (fld ! refl (stop !))) (look-in ! 8 (sub ! 0 refl (whole !))))) (from ! (stop !)) (init ! 2 refl (tt, t .0 .1 .0)) $
@@ -269,7 +269,7 @@ module _ {M : Type 1} (𝓤 : URA M) (H : Heap 𝓤) (A : Atoms 𝓤) (W : Given
           -- [what the fields own; what the struct owns; what the flags own; _5; …]: the flags go between the fields
           fsplit ! $ move ! (3 ∷ []) $ fsplit ! $ move ! (0 ∷ 3 ∷ []) $ fjoin ! $ move ! (2 ∷ 0 ∷ []) $ fjoin ! $
           -- [what the arguments own; nothing; what the struct owns; _5; …]: the call
-          move ! (15 ∷ 0 ∷ []) $ use2 W (raw (ScansFlagged 𝓤 H A scan .pre to-flagged)) (qed W (‵ (all (tokens 1 κs qs)) ∷ ‵ (all (parts Scanned b-flagged us-flagged)) ∷ []) ∵ says ! asked $ frame ! $ done !) $
+          move ! (15 ∷ 0 ∷ []) $ use2 W (raw (ScansFlagged 𝓤 H A scan .pre to-flagged)) (qed W (‵ (together (tokens 1 κs qs)) ∷ ‵ (together (parts Scanned b-flagged us-flagged)) ∷ []) ∵ says ! asked $ frame ! $ done !) $
           called ! fm flagged-scanner (scans-flagged 𝓤 scan) known to-flagged (arg ! 5 refl (arg ! 9 refl (arg ! 3 refl (no-more !)))) (λ w n ws.
           facts ! usize (Is usize) (shows 𝓤 H A usize) n (w ∷ []) (λ is. move ! (2 ∷ []) $ heard ! (Between (d .offset) (length (now (d .source))) (scan (now (d .source)) flags (d .offset)) n) (λ said.
           -- [the token; last values; nothing; what the struct owns; _5; …]: the offset is stored, and the struct returned

@@ -1,4 +1,5 @@
--- `run::call::step_row` meets its contract: the winner is a rule, its move stays inside the entry and the stack, and each branch is one of the definition.
+-- `run::call::step_row` meets its contract: the winner is a rule, its move stays inside the entry and the stack, and each branch is one of the
+-- definition.
 use native.Mathlib.Omega.{arith}
 use borrow.Author.Needs.{needs}
 use Rattle.run.proofs.Fitting.{depth-inside, run-is, current-declared, row-long}
@@ -6,37 +7,59 @@ use Rattle.run.proofs.Stepping.{row-stopped, row-won, rule-inside, byte
 use Rattle.run.proofs.call.step_row.Statement.{statement}
 use Rattle.run.proofs.call.step_row.Tie as tie
 
+-- places first of read-entry-requires: start
+module _ (c : tie.After-struct-known) where
+  abbrev first-start : tie.Start
+  first-start = c .before .before .before .before .before .before .before
+
+-- places won from Else1: longest read-entry start
+module _ (c : tie.Else1) where
+  abbrev won-longest : tie.After-longest
+  won-longest = c .before .before
+
+  abbrev won-read-entry : tie.After-read-entry
+  won-read-entry = won-longest .before
+
+  abbrev won-start : tie.Start
+  won-start = won-read-entry .before .before .before .before .before .before .before .before
+
 sub-read-entry : tie.Need-sub-read-entry
-sub-read-entry c = omega (arith, run-is _ _ _ (c .before .before .before .before .before .before .before .pre .1 .0) .some-depth)
+sub-read-entry c = omega (arith, run-is _ _ _ (first-start c .pre .1 .0) .some-depth)
 
 read-entry-requires : tie.Need-read-entry-requires
 read-entry-requires c κs =
-    let g = run-is _ _ _ (c .before .before .before .before .before .before .before .pre .1 .0) in
+    let g = run-is _ _ _ (first-start c .pre .1 .0) in
     omega (arith, g .some-depth, depth-inside _ _ g)
 
 longest-requires : tie.Need-longest-requires
 longest-requires c κs =
-    let given = c .before .before .before .before .before .before .before .before .pre in
+    let given = first-start (c .before) .pre in
     (given .0, (omega (arith, current-declared _ _ _ (given .1 .0), c .read-entry .ensures), omega (arith, row-long _ _ _ (given .1 .1 .1))))
 
 returns : tie.Need-returns
-returns c = row-stopped _ _ _ _ _ _ _ _ _ _ _ (c .before .before .before .read-entry .ensures) (c .before .before .longest .ensures) (c .if1 .taken)
+returns c =
+    let b = c .before .before in
+    row-stopped _ _ _ _ _ _ _ _ _ _ _ (b .before .read-entry .ensures) (b .longest .ensures) (c .if1 .taken)
 
 read-rule-requires : tie.Need-read-rule-requires
 read-rule-requires c κs =
-    let winner = rule-inside _ _ _ _ _ _ _ _ _ (c .before .before .longest .ensures) (c .if1 .left) in
-    omega (arith, winner, c .before .before .before .before .before .before .before .before .before .before .before .pre .0 .long2)
+    let winner = rule-inside _ _ _ _ _ (won-longest c .longest .ensures) (c .if1 .left) in
+    omega (arith, winner, won-start c .pre .0 .long2)
 
 won-by-requires : tie.Need-won-by-requires
 won-by-requires c κs =
-    let given = c .before .before .before .before .before .before .before .before .before .before .before .before .before .pre in
-    let bytes = bytes-low _ _ _ _ _ _ _ _ _ (c .before .before .before .before .longest .ensures) _ (given .1 .1 .1) in
-    let g = run-is _ _ _ (given .1 .0) in
-    move-inside _ _ _ g (given .1 .1 .0) bytes
+    let p = c .before .before in
+    let given = won-start p .pre in
+    let bytes = bytes-low _ _ _ _ _ (won-longest p .longest .ensures) _ (given .1 .1 .1) in
+    move-inside _ _ _ (run-is _ _ _ (given .1 .0)) (given .1 .1 .0) bytes
 
 returns-2 : tie.Need-returns-2
 returns-2 c =
-    row-won _ _ _ _ _ _ _ _ _ _ _ (c .before .before .before .before .before .before .before .before .read-entry .ensures) (c .before .before .before .before .before .before .before .longest .ensures) _ _ (c .before .before .before .before .before .if1 .left) (c .before .before .before .before .read-rule .ensures) (c .before .before .won-by .ensures)
+    let w = c .before .before in
+    let x = w .before .before in
+    let p = x .before in
+    row-won _ _ _ _ _ _ _ _ _ _ _ (won-read-entry p .read-entry .ensures) (won-longest p .longest .ensures)
+    _ _ (p .if1 .left) (x .read-rule .ensures) (w .won-by .ensures)
 
 pub step-row-spec : {M : Type 1} → statement M
 step-row-spec =

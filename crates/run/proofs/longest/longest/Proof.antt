@@ -29,7 +29,12 @@ better-of-requires c κs =
 
 loop-again : tie.Need-loop-again Inv-loop μ-loop
 loop-again c =
-    (search needs, scan-next _ _ _ _ _ _ _ _ _ _ _ _ _ (search needs) (c .before .before .before .before .loop .inv .1) (c .before .read-rule .ensures) (c .before .before .read-entry .ensures) (c .better-of .ensures))
+    let x = c .before in
+    let bytes = x .before in
+    let next =
+    scan-next _ _ _ _ _ _ _ _ _ _ _ _ _ (search needs) (bytes .before .before .loop .inv .1) (x .read-rule .ensures) (bytes .read-entry .ensures)
+    (c .better-of .ensures) in
+    (search needs, next)
 
 returns : tie.Need-returns Inv-loop μ-loop
 returns c = search scan-ended

@@ -41,7 +41,7 @@ use Rattle.text.specs.Scan.{skipBlanks}
 use Rattle.section.specs.Reader.{readerAt, moved}
 use Rattle.section.specs.declared.reader.Reader.{Reader}
 use Rattle.section.proofs.Lines.{first-between}
-use Rattle.borrow_proofs.proofs.Walking.{parts, tokens, all, have-nothings, allocated, param, arg, release, called}
+use Rattle.borrow_proofs.proofs.Walking.{parts, tokens, together, have-nothings, allocated, param, arg, release, called}
 use Rattle.borrow_proofs.proofs.Parameters.{Params, number, slice, stays, machine, meets-by}
 use Rattle.section.proofs.Reading.{held, Inside}
 use Rattle.section.proofs.reader.Reader as ReaderType
@@ -104,15 +104,15 @@ module _ {M : Type 1} (𝓤 : URA M) (H : Heap 𝓤) (A : Atoms 𝓤) (W : Given
       walk : i ≤ length (now src) → Typed (mirs Ts) (flat Ts vals)
           → ent 𝓤 (onEntry 𝓤 H A past-blanks.signature κs qs a vals) (WpFn 𝓤 H C Λ code.function (flat Ts vals) (walkOf 𝓤 H A past-blanks.ended stayed (past-blanks.clauses 𝓤 H A mem run) .post y))
       walk asked t =
-          qed W (‵ (all (tokens 1 κs qs)) ∷ ‵ (all (parts Ts a vals)) ∷ []) ∵ enter ! C Λ code.function (flat Ts vals) _ $
+          qed W (‵ (together (tokens 1 κs qs)) ∷ ‵ (together (parts Ts a vals)) ∷ []) ∵ enter ! C Λ code.function (flat Ts vals) _ $
           allocated ! (code.function .locals) (λ l0 l1 l2 l3 l4. params1 ! $ param ! 6 refl (t .0) $ param ! 4 refl (t .1 .0) $ pass0 ! $
           -- [_4; …; to _0; …; the token; what the parameters own]: `reader_at`
-          move ! (10 ∷ 11 ∷ []) $ use2 W (raw (Makes .pre ((κs, qs, tt, a, vals), tt))) (qed W (‵ (all (tokens 1 κs qs)) ∷ ‵ (all (parts Ts a vals)) ∷ []) ∵ join ! $ frame ! $ done !) $
+          move ! (10 ∷ 11 ∷ []) $ use2 W (raw (Makes .pre ((κs, qs, tt, a, vals), tt))) (qed W (‵ (together (tokens 1 κs qs)) ∷ ‵ (together (parts Ts a vals)) ∷ []) ∵ join ! $ frame ! $ done !) $
           called ! fm reader-at.ended (reader-at.clauses 𝓤 H A mem run) makes ((κs, qs, tt, a, vals), tt) (arg ! 7 refl (arg ! 5 refl (no-more !))) (λ w₀ r₀ _.
           move ! (3 ∷ []) $ heard ! (r₀ ≡ readerAt src i) (λ e₀. peeks ! (held κs) (Is (held κs)) (shows 𝓤 H A (held κs)) r₀ (w₀ ∷ []) (λ is₀.
           -- [what the reader owns; the token; …; _4; …]: past the blanks
           land ! (from ! (stop !)) (init ! 3 refl (StructLaws.lawful (ReaderType.the-type α) L 𝓤 H A W .typed r₀ _ is₀ .0)) $
-          move ! (1 ∷ 0 ∷ []) $ use2 W (raw (Moves .pre (to r₀ w₀))) (qed W (‵ (all (tokens 1 κs qs)) ∷ ‵ (held κs .own r₀ (w₀ ∷ [])) ∷ []) ∵
+          move ! (1 ∷ 0 ∷ []) $ use2 W (raw (Moves .pre (to r₀ w₀))) (qed W (‵ (together (tokens 1 κs qs)) ∷ ‵ (held κs .own r₀ (w₀ ∷ [])) ∷ []) ∵
           says ! (subst Inside (sym e₀) asked) $ frame ! $ have-nothings ! 0 $ move ! (1 ∷ 0 ∷ []) $ fjoin ! $ done !) $
           called ! fm move-past.ended (move-past.clauses 𝓤 H A mem run) moves (to r₀ w₀) (arg ! 2 refl (no-more !)) (λ w₁ r₁ _.
           facts ! (held κs) (Is (held κs)) (shows 𝓤 H A (held κs)) r₁ (w₁ ∷ []) (λ is₁. move ! (2 ∷ []) $ heard ! (r₁ ≡ moved skipBlanks r₀) (λ e₁.

@@ -24,7 +24,7 @@ use denote.Triple.Spec.{tripleOf}
 use denote.Triple.Table.{entered}
 use denote.Triple.Walked.{says, Stays, walkOf, ends-at}
 use Rattle.section.specs.Reader.{readerAt}
-use Rattle.borrow_proofs.proofs.Walking.{parts, tokens, all, have-nothings, allocated, param, release}
+use Rattle.borrow_proofs.proofs.Walking.{parts, tokens, together, have-nothings, allocated, param, release}
 use Rattle.borrow_proofs.proofs.Parameters.{Params, number, slice, stays, machine, meets-by}
 use Rattle.section.proofs.Reading.{held}
 use Rattle.section.proofs.reader.Reader as ReaderType
@@ -57,7 +57,7 @@ module _ {M : Type 1} (𝓤 : URA M) (H : Heap 𝓤) (A : Atoms 𝓤) (W : Given
   walk : (C : Calls 𝓤 H) (Λ : Loops 𝓤 H) → Typed (mirs Ts) (flat Ts vals)
       → ent 𝓤 (onEntry 𝓤 H A reader-at.signature κs qs a vals) (WpFn 𝓤 H C Λ code.function (flat Ts vals) (walkOf 𝓤 H A reader-at.ended stayed (reader-at.clauses 𝓤 H A mem run) .post y))
   walk C Λ t =
-      qed W (‵ (all (tokens 1 κs qs)) ∷ ‵ (all (parts Ts a vals)) ∷ []) ∵ enter ! C Λ code.function (flat Ts vals) _ $
+      qed W (‵ (together (tokens 1 κs qs)) ∷ ‵ (together (parts Ts a vals)) ∷ []) ∵ enter ! C Λ code.function (flat Ts vals) _ $
       allocated ! (code.function .locals) (λ l0 l1 l2. params1 ! $ param ! 2 refl (t .0) $ param ! 0 refl (t .1 .0) $ pass0 ! $
       assigns ! (agg ! (and-then ! (load ! (from ! (stop !)) (look ! 2 refl)) (and-then ! (load ! (from ! (stop !)) (look ! 0 refl)) (no-more !)))) (from ! (stop !))
       (init ! 4 refl (tt, (t .0 .1, (t .1 .0 .1, tt)))) $
