@@ -41,7 +41,10 @@ byte-in l n b h = record { long = length-set l n b; goes = by }
         let g : length (t ++ (b ∷ [])) ≤ n + 1 = omega (arith, length-append t (b ∷ [])) in
         record {
           count = omega (arith, length-append t (b ∷ []), length-set l n b);
-          is = ap (λ (k : ℕ). take k (set l n b)) (add-one n) ∙ take-suc-set l n b h ∙ ap (λ (u : List ℕ). u ++ (b ∷ [])) (q .is ∙ f) ∙ sym (take-all (n + 1) (t ++ (b ∷ [])) g);
+          is = ap (λ (k : ℕ). take k (set l n b)) (add-one n)
+              ∙ take-suc-set l n b h
+              ∙ ap (λ (u : List ℕ). u ++ (b ∷ [])) (q .is ∙ f)
+              ∙ sym (take-all (n + 1) (t ++ (b ∷ [])) g);
         }
 
 pub byte-out : (l : List ℕ) (n b : ℕ) → length l ≤ n → Appends (b ∷ []) l n l n
@@ -62,11 +65,13 @@ module _ (f : ℕ → List ℕ) {l : List ℕ} {n : ℕ} where
   unfolding joined
   joined-none = appends-none l n
 
-  pub joined-next : {k : ℕ} {a e : List ℕ} {m r : ℕ} → Appends (f k) a m e r → Appends (joined f k) l n a m → Appends (joined f (k + 1)) l n e r
+  pub joined-next : {k : ℕ} {a e : List ℕ} {m r : ℕ} → Appends (f k) a m e r
+      → Appends (joined f k) l n a m → Appends (joined f (k + 1)) l n e r
   unfolding joined
   joined-next {k} {a} {e} {m} {r} p q = subst (λ (j : ℕ). Appends (joined f j) l n e r) (sym (add-one k)) (appends-then p q)
 
-  pub joined-all : {k count : ℕ} {a : List ℕ} {m : ℕ} → k ≤ count → count ≤ k → Appends (joined f k) l n a m → Appends (joined f count) l n a m
+  pub joined-all : {k count : ℕ} {a : List ℕ} {m : ℕ} → k ≤ count → count ≤ k
+      → Appends (joined f k) l n a m → Appends (joined f count) l n a m
   joined-all {k} {count} {a} {m} g h p =
       let z : k ≡ count = omega arith in
       subst (λ (j : ℕ). Appends (joined f j) l n a m) z p
@@ -106,14 +111,16 @@ module _ (s : List ℕ) (from : ℕ) where
     pub part-start : Appends (part s from from) l n l n
     part-start = subst (λ (v : List ℕ). Appends v l n l n) (sym part-none) (appends-none l n)
 
-    pub part-more : {i : ℕ} {a e : List ℕ} {m r : ℕ} → from ≤ i → i < length s → Appends (getD s i 0 ∷ []) a m e r → Appends (part s from i) l n a m
-        → Appends (part s from (i + 1)) l n e r
+    pub part-more : {i : ℕ} {a e : List ℕ} {m r : ℕ} → from ≤ i → i < length s → Appends (getD s i 0 ∷ []) a m e r
+        → Appends (part s from i) l n a m → Appends (part s from (i + 1)) l n e r
     part-more {i} {a} {e} {m} {r} g h p q = subst (λ (v : List ℕ). Appends v l n e r) (sym (part-next i g h)) (appends-then p q)
 
-    pub part-ended : {i to : ℕ} {a : List ℕ} {m : ℕ} → length s ≤ i → i < to → Appends (part s from i) l n a m → Appends (part s from to) l n a m
+    pub part-ended : {i to : ℕ} {a : List ℕ} {m : ℕ} → length s ≤ i → i < to
+        → Appends (part s from i) l n a m → Appends (part s from to) l n a m
     part-ended {i} {to} {a} {m} g h p = subst (λ (v : List ℕ). Appends v l n a m) (part-past i to g (omega arith)) p
 
-    pub part-all : {i to : ℕ} {a : List ℕ} {m : ℕ} → from ≤ i → i ≤ max from to → to ≤ i → Appends (part s from i) l n a m → Appends (part s from to) l n a m
+    pub part-all : {i to : ℕ} {a : List ℕ} {m : ℕ} → from ≤ i → i ≤ max from to → to ≤ i
+        → Appends (part s from i) l n a m → Appends (part s from to) l n a m
     part-all {i} {to} {a} {m} f g h p = subst (λ (v : List ℕ). Appends v l n a m) (part-same i to f g h) p
 
 pub ruleset parts = (needs, part-start, part-more, part-ended, part-all)
@@ -123,4 +130,4 @@ unfolding part
 part-whole s {l} {e} {n} {r} p =
     subst (λ (v : List ℕ). Appends v l n e r) (ap (λ (j : ℕ). take j s) (sub-zero (length s)) ∙ take-length s) p
 
-pub ruleset whole = (needs, part-whole)
+pub ruleset whole-text = (needs, part-whole)

@@ -18,4 +18,4 @@ module _ {t l : List ℕ} {n : ℕ} (w : AllWritten t l n) where
   pub written-within : n ≤ length l
   written-within = omega (arith, written-prefix, length-take n l)
 
-pub ruleset counting = (needs, prefix-length, written-within, written-prefix)
+pub ruleset buffer-prefixes = (needs, prefix-length, written-within, written-prefix)

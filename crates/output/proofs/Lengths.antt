@@ -7,7 +7,7 @@ use lib.ListN.{length, drop, length-append, length-take}
 use Rattle.text.specs.Range.{part}
 use Rattle.text.proofs.Tests.{by-test}
 use Rattle.area.specs.Bytes.{bytes}
-use Rattle.output.specs.Output.{joined, digitAt, tens, decimal, field, fields}
+use Rattle.output.specs.Output.{joined, digitAt, tens, decimal, printedField, printedFields}
 
 -- the text t has at most n bytes
 pub record Most (t : List ℕ) (n : ℕ) : Type 0 where
@@ -24,19 +24,22 @@ append-most {a} {b} h g = record { most = omega (arith, length-append a b, h .mo
 
 digit-most : (x power : ℕ) → Most (digitAt x power) 1
 unfolding digitAt
-digit-most x power = by-test (λ t. Most t 1) (ltb x power) [] ((48 + x / power % 10) ∷ []) (λ _. record { most = omega arith }) (λ _. record { most = omega arith })
+digit-most x power =
+    by-test (λ t. Most t 1) (ltb x power) [] ((48 + x / power % 10) ∷ [])
+    (λ _. record { most = omega arith })
+    (λ _. record { most = omega arith })
 
 tens-most : (x : ℕ) → Most (tens x) 4
 unfolding tens
 tens-most x = append-most (append-most (append-most (digit-most x 10000) (digit-most x 1000)) (digit-most x 100)) (digit-most x 10)
 
 -- a blank and at most 5 digits
-pub field-most : (x : ℕ) → Most (field x) 6
-unfolding field decimal
+pub field-most : (x : ℕ) → Most (printedField x) 6
+unfolding printedField decimal
 field-most x = append-most (word-most (32 ∷ [])) (append-most (tens-most x) (word-most ((48 + x % 10) ∷ [])))
 
-pub fields-most : (xs : List ℕ) → Most (fields xs) (length xs * 6)
-unfolding fields bytes
+pub fields-most : (xs : List ℕ) → Most (printedFields xs) (length xs * 6)
+unfolding printedFields bytes
 fields-most [] = record { most = omega arith }
 fields-most (x ∷ xs) = record { most = omega (arith, append-most (field-most x) (fields-most xs) .most) }
 

@@ -1,32 +1,14 @@
--- Numbers in decimal, and the fields of an area as numbers.
-use mathlib.Core.Path.{_≡_, refl, ap, ap₂, subst, _∙_}
+-- Numbers in decimal: how they are appended, and that their digits spell them.
+use Prim.Native.Nat.{ℕ, _+_, _*_, _-_, _/_, _%_, _≤_, _<_}
+use mathlib.Core.Path.{_≡_, refl, ap, _∙_}
 use mathlib.Core.Bool.{Bool, true, false, cond}
 use mathlib.Core.List.{List, [], _∷_, _++_}
-use Prim.Native.Nat.{ℕ, _+_, _*_, _-_, _/_, _%_, _≤_, _<_}
 use native.Mathlib.Omega.{arith}
 use lib.Dec.{ltb}
-use borrow.Author.Tests.{lt-ltb, le-ltb, ltb-true}
-use lib.ListN.{length, getD, List·getD-eq-default}
 use borrow.Author.Needs.{needs}
-use Rattle.text.specs.Whitespace.{byte}
-use Rattle.area.specs.Bytes.{fieldAt, fieldFrom}
-use Rattle.output.specs.Output.{Appends, digitAt, tens, decimal, field, fieldsAt}
-use Rattle.output.proofs.Appending.{appends-none, appends-then, joined-none, joined-next, joined-all}
-
--- ---- a field of an area
-
-pub field-past : (l : List ℕ) (at : ℕ) → length l ≤ at → 0 ≡ fieldAt l at
-unfolding fieldAt
-field-past l at h =
-    let e : getD l at 0 ≡ 0 = List·getD-eq-default l 0 h in
-    let f : getD l (at + 1) 0 ≡ 0 = List·getD-eq-default l 0 (omega arith) in
-    omega (arith, e, f)
-
-pub field-made : (l : List ℕ) (at a b : ℕ) → a ≡ byte l at → b ≡ byte l (at + 1) → a + b * 256 ≡ fieldAt l at
-unfolding fieldAt
-field-made l at a b e f = ap₂ (λ (x y : ℕ). x + y * 256) e f
-
-pub ruleset reading = (needs, field-past, field-made)
+use borrow.Author.Tests.{lt-ltb, le-ltb, ltb-true}
+use Rattle.output.specs.Output.{Appends, digitAt, tens, decimal, printedField}
+use Rattle.output.proofs.Appending.{appends-none, appends-then}
 
 -- ---- a number in decimal
 
@@ -39,40 +21,22 @@ module _ (x power : ℕ) {l : List ℕ} {n : ℕ} where
   unfolding digitAt
   digit-one h a = rw (le-ltb x power h) a
 
-pub ruleset digit = (needs, digit-none, digit-one)
+pub ruleset digit-printing = (needs, digit-none, digit-one)
 
 -- the four digits before the last, then a blank, these and the last
 module _ (x : ℕ) {l l1 l2 l3 e : List ℕ} {n n1 n2 n3 r : ℕ} where
-  pub tens-made : Appends (digitAt x 10000) l n l1 n1 → Appends (digitAt x 1000) l1 n1 l2 n2 → Appends (digitAt x 100) l2 n2 l3 n3 → Appends (digitAt x 10) l3 n3 e r
-      → Appends (tens x) l n e r
+  pub tens-parts : Appends (digitAt x 10000) l n l1 n1 → Appends (digitAt x 1000) l1 n1 l2 n2
+      → Appends (digitAt x 100) l2 n2 l3 n3 → Appends (digitAt x 10) l3 n3 e r → Appends (tens x) l n e r
   unfolding tens
-  tens-made a b c d = appends-then d (appends-then c (appends-then b a))
+  tens-parts a b c d = appends-then d (appends-then c (appends-then b a))
 
 module _ (x : ℕ) {l l1 l2 e : List ℕ} {n n1 n2 r : ℕ} where
-  pub number-made : Appends (32 ∷ []) l n l1 n1 → Appends (tens x) l1 n1 l2 n2 → Appends ((48 + x % 10) ∷ []) l2 n2 e r → Appends (field x) l n e r
-  unfolding field decimal
-  number-made a b c = appends-then (appends-then c b) a
+  pub field-parts : Appends (32 ∷ []) l n l1 n1 → Appends (tens x) l1 n1 l2 n2 → Appends ((48 + x % 10) ∷ []) l2 n2 e r
+      → Appends (printedField x) l n e r
+  unfolding printedField decimal
+  field-parts a b c = appends-then (appends-then c b) a
 
-pub ruleset number = (needs, tens-made, number-made)
-
--- ---- a loop over the fields of a record
-
-module _ (l : List ℕ) (at : ℕ) {l0 : List ℕ} {n : ℕ} where
-  pub fields-none : Appends (fieldsAt l at 0) l0 n l0 n
-  unfolding fieldsAt
-  fields-none = joined-none (λ (j : ℕ). field (fieldFrom l at j))
-
-  pub fields-next : (j : ℕ) {x : ℕ} {a e : List ℕ} {m r : ℕ} → x ≡ fieldAt l (at + 2 * j) → Appends (field x) a m e r → Appends (fieldsAt l at j) l0 n a m
-      → Appends (fieldsAt l at (j + 1)) l0 n e r
-  unfolding fieldsAt fieldFrom
-  fields-next j {x} {a} {e} {m} {r} z p q =
-      joined-next (λ (i : ℕ). field (fieldFrom l at i)) {k = j} (subst (λ (y : ℕ). Appends (field y) a m e r) z p) q
-
-  pub fields-all : (j : ℕ) {count : ℕ} {a : List ℕ} {m : ℕ} → j ≤ count → count ≤ j → Appends (fieldsAt l at j) l0 n a m → Appends (fieldsAt l at count) l0 n a m
-  unfolding fieldsAt
-  fields-all j g h p = joined-all (λ (i : ℕ). field (fieldFrom l at i)) {k = j} g h p
-
-pub ruleset fieldwise = (needs, fields-none, fields-next, fields-all)
+pub ruleset number-printing = (needs, tens-parts, field-parts)
 
 -- ---- what is printed is the number: its digits spell it, for every number below 100,000
 
@@ -102,12 +66,15 @@ value-step x p v w q z h = by (ltb x p) refl
 pub decimal-value : (x : ℕ) → x < 100000 → valueFrom 0 (decimal x) ≡ x
 unfolding decimal tens
 decimal-value x h =
-    let e4 : valueFrom 0 (digitAt x 10000) ≡ x / 10000 = value-step x 10000 0 0 refl (λ g. omega arith) (omega arith) in
-    let e3 : valueFrom (valueFrom 0 (digitAt x 10000)) (digitAt x 1000) ≡ x / 1000 = value-step x 1000 _ (x / 10000) e4 (λ g. omega arith) (omega arith) in
-    let e2 : valueFrom (valueFrom 0 (digitAt x 10000 ++ digitAt x 1000)) (digitAt x 100) ≡ x / 100 =
-    value-step x 100 _ (x / 1000) (value-append 0 (digitAt x 10000) (digitAt x 1000) ∙ e3) (λ g. omega arith) (omega arith) in
-    let e1 : valueFrom (valueFrom 0 (digitAt x 10000 ++ digitAt x 1000 ++ digitAt x 100)) (digitAt x 10) ≡ x / 10 =
-    value-step x 10 _ (x / 100) (value-append 0 (digitAt x 10000 ++ digitAt x 1000) (digitAt x 100) ∙ e2) (λ g. omega arith) (omega arith) in
+    let d4 = digitAt x 10000 in
+    let d43 = d4 ++ digitAt x 1000 in
+    let d432 = d43 ++ digitAt x 100 in
+    let e4 : valueFrom 0 d4 ≡ x / 10000 = value-step x 10000 0 0 refl (λ g. omega arith) (omega arith) in
+    let e3 : valueFrom (valueFrom 0 d4) (digitAt x 1000) ≡ x / 1000 = value-step x 1000 _ (x / 10000) e4 (λ g. omega arith) (omega arith) in
+    let e2 : valueFrom (valueFrom 0 d43) (digitAt x 100) ≡ x / 100 =
+    value-step x 100 _ (x / 1000) (value-append 0 d4 (digitAt x 1000) ∙ e3) (λ g. omega arith) (omega arith) in
+    let e1 : valueFrom (valueFrom 0 d432) (digitAt x 10) ≡ x / 10 =
+    value-step x 10 _ (x / 100) (value-append 0 d43 (digitAt x 100) ∙ e2) (λ g. omega arith) (omega arith) in
     value-append 0 (tens x) ((48 + x % 10) ∷ [])
-    ∙ ap (λ (v : ℕ). valueFrom v ((48 + x % 10) ∷ [])) (value-append 0 (digitAt x 10000 ++ digitAt x 1000 ++ digitAt x 100) (digitAt x 10) ∙ e1)
+    ∙ ap (λ (v : ℕ). valueFrom v ((48 + x % 10) ∷ [])) (value-append 0 d432 (digitAt x 10) ∙ e1)
     ∙ value-digit (x / 10) (x % 10) x (omega arith)

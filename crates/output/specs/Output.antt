@@ -22,6 +22,15 @@ pub record Appends (v l : List ℕ) (n : ℕ) (e : List ℕ) (r : ℕ) : Type 0 
   pub long : length e ≡ length l
   pub goes : (t : List ℕ) → Written t l n → Written (t ++ v) e r
 
+-- f 0 up to f (n - 1), one behind the other
+unfoldable pub joined : (ℕ → List ℕ) → ℕ → List ℕ
+joined f zero = []
+joined f (suc n) = joined f n ++ f n
+
+-- the byte that ends a line
+abbrev pub newline : List ℕ
+newline = 10 ∷ []
+
 -- the digit of x at a power of ten, if x reaches it
 unfoldable pub digitAt : ℕ → ℕ → List ℕ
 digitAt x power = cond (ltb x power) [] ((48 + x / power % 10) ∷ [])
@@ -34,19 +43,14 @@ tens x = digitAt x 10000 ++ digitAt x 1000 ++ digitAt x 100 ++ digitAt x 10
 unfoldable pub decimal : ℕ → List ℕ
 decimal x = tens x ++ ((48 + x % 10) ∷ [])
 
--- a blank and a number (01, Files to try, the end)
-unfoldable pub field : ℕ → List ℕ
-field x = 32 ∷ decimal x
+-- a number as a field of a line: a blank and the number (01, Files to try, the end)
+unfoldable pub printedField : ℕ → List ℕ
+printedField x = 32 ∷ decimal x
 
--- f 0 up to f (n - 1), one behind the other
-unfoldable pub joined : (ℕ → List ℕ) → ℕ → List ℕ
-joined f zero = []
-joined f (suc n) = joined f n ++ f n
+-- each number as a field
+unfoldable pub printedFields : List ℕ → List ℕ
+printedFields xs = bytes printedField xs
 
--- each number with a blank before it
-unfoldable pub fields : List ℕ → List ℕ
-fields xs = bytes field xs
-
--- the fields from a place of an area on, with a blank before each
-unfoldable pub fieldsAt : List ℕ → ℕ → ℕ → List ℕ
-fieldsAt l at m = joined (λ j. field (fieldFrom l at j)) m
+-- the two-byte fields from a place of an area on, each as a field of the line
+unfoldable pub printedFieldsAt : List ℕ → ℕ → ℕ → List ℕ
+printedFieldsAt l at m = joined (λ j. printedField (fieldFrom l at j)) m

@@ -4,7 +4,8 @@ pub mod fields;
 ghost use mathlib.Core.List.{_∷_, []};
 ghost use Prim.Native.Nat.{_<_};
 ghost use Rattle.text.specs.Range.{part};
-ghost use Rattle.output.specs.Output.{Appends, digitAt, tens, field};
+ghost use Rattle.output.specs.Contracts.{before, Puts};
+ghost use Rattle.output.specs.Output.{newline, digitAt, tens, printedField};
 
 const BLANK: u8 = 32;
 
@@ -13,7 +14,7 @@ const LINE_END: u8 = 10;
 const ZERO: u8 = 48;
 
 fn put_byte(out: &mut [u8], n: usize, b: u8) -> usize
-    ensures { λ r. ⌜ Appends (b ∷ []) (now (out .entry)) n (now (out .exit)) r ⌝ }
+    ensures { λ r. ⌜ Puts (b ∷ []) out n r ⌝ }
 {
     if n < out.len() {
         out[n] = b;
@@ -24,7 +25,7 @@ fn put_byte(out: &mut [u8], n: usize, b: u8) -> usize
 
 // The bytes of s from a place up to another, as far as s has them.
 pub fn put_part(out: &mut [u8], n: usize, s: &[u8], from: usize, to: usize) -> usize
-    ensures { λ r. ⌜ Appends (part (now (s .entry)) from to) (now (out .entry)) n (now (out .exit)) r ⌝ }
+    ensures { λ r. ⌜ Puts (part (before s) from to) out n r ⌝ }
 {
     let mut m = n;
     let mut i = from;
@@ -39,19 +40,19 @@ pub fn put_part(out: &mut [u8], n: usize, s: &[u8], from: usize, to: usize) -> u
 }
 
 pub fn put_text(out: &mut [u8], n: usize, s: &[u8]) -> usize
-    ensures { λ r. ⌜ Appends (now (s .entry)) (now (out .entry)) n (now (out .exit)) r ⌝ }
+    ensures { λ r. ⌜ Puts (before s) out n r ⌝ }
 {
     put_part(out, n, s, 0, s.len())
 }
 
 pub fn put_line_end(out: &mut [u8], n: usize) -> usize
-    ensures { λ r. ⌜ Appends (10 ∷ []) (now (out .entry)) n (now (out .exit)) r ⌝ }
+    ensures { λ r. ⌜ Puts newline out n r ⌝ }
 {
     put_byte(out, n, LINE_END)
 }
 
 pub fn put_blank(out: &mut [u8], n: usize) -> usize
-    ensures { λ r. ⌜ Appends (32 ∷ []) (now (out .entry)) n (now (out .exit)) r ⌝ }
+    ensures { λ r. ⌜ Puts (32 ∷ []) out n r ⌝ }
 {
     put_byte(out, n, BLANK)
 }
@@ -59,7 +60,7 @@ pub fn put_blank(out: &mut [u8], n: usize) -> usize
 // The digit of x at a power of ten, if x reaches it.
 fn put_digit(out: &mut [u8], n: usize, x: u16, power: u16) -> usize
     requires { ⌜ 0 < power ⌝ }
-    ensures { λ r. ⌜ Appends (digitAt x power) (now (out .entry)) n (now (out .exit)) r ⌝ }
+    ensures { λ r. ⌜ Puts (digitAt x power) out n r ⌝ }
 {
     if x < power {
         return n;
@@ -69,7 +70,7 @@ fn put_digit(out: &mut [u8], n: usize, x: u16, power: u16) -> usize
 
 // The digits before the last.
 fn put_tens(out: &mut [u8], n: usize, x: u16) -> usize
-    ensures { λ r. ⌜ Appends (tens x) (now (out .entry)) n (now (out .exit)) r ⌝ }
+    ensures { λ r. ⌜ Puts (tens x) out n r ⌝ }
 {
     let n = put_digit(out, n, x, 10000);
     let n = put_digit(out, n, x, 1000);
@@ -77,9 +78,9 @@ fn put_tens(out: &mut [u8], n: usize, x: u16) -> usize
     put_digit(out, n, x, 10)
 }
 
-// A blank and a number.
+// A number as a field: a blank and the number.
 pub fn put_field(out: &mut [u8], n: usize, x: u16) -> usize
-    ensures { λ r. ⌜ Appends (field x) (now (out .entry)) n (now (out .exit)) r ⌝ }
+    ensures { λ r. ⌜ Puts (printedField x) out n r ⌝ }
 {
     let n = put_byte(out, n, BLANK);
     let n = put_tens(out, n, x);

@@ -6,6 +6,7 @@ use mathlib.Core.List.{List, []}
 use native.Mathlib.Omega.{arith}
 use lib.ListN.{length, take, length-append}
 use lib.Seq.{take-length}
+use Rattle.answers.specs.Numbers.{longFileNumber, unknownFlagNumber, invalidUtf8Number}
 use Rattle.area.specs.declared.State.{State}
 use Rattle.area.specs.Records.{nthState, nthRule, nthFault}
 use Rattle.parse.specs.Parse.{Outcome, longFile, unknownFlag, invalidUtf8, areaFull, faulty, accepted, outcome}
@@ -34,9 +35,9 @@ states-most s xs =
 
 outcome-most : (s : List ℕ) (o : Outcome) → outcome s 0 [] lent ≡ o → Bounded s 32768 o → length (textOf s o) ≤ sheetRoom
 unfolding textOf lent
-outcome-most s longFile q h = omega (arith, refused-most 1 .most)
-outcome-most s unknownFlag q h = omega (arith, refused-most 2 .most)
-outcome-most s invalidUtf8 q h = omega (arith, refused-most 3 .most)
+outcome-most s longFile q h = omega (arith, refused-most longFileNumber .most)
+outcome-most s unknownFlag q h = omega (arith, refused-most unknownFlagNumber .most)
+outcome-most s invalidUtf8 q h = omega (arith, refused-most invalidUtf8Number .most)
 outcome-most s (areaFull n) q h = omega (arith, full-most n .most)
 outcome-most s (faulty fs) q h =
     let f : length (joined (λ k. faultLine (nthFault fs k)) (length fs)) ≤ length fs * 30 = joined-most (λ k. faultLine (nthFault fs k)) 30 (λ k. fault-most (nthFault fs k) .most) (length fs) in

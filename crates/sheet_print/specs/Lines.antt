@@ -2,25 +2,26 @@
 use Prim.Native.Nat.{ℕ, _+_, _*_}
 use mathlib.Core.List.{List, [], _++_}
 use lib.ListN.{length}
+use Rattle.answers.specs.Numbers.{longFileNumber, unknownFlagNumber, invalidUtf8Number}
 use Rattle.area.specs.Records.{nthState, nthRule, nthFault}
 use Rattle.parse.specs.declared.Answer.{Answer}
 use Rattle.parse.specs.declared.Answer.the-variants.{Accepted, LongFile, UnknownFlag, InvalidUtf8, AreaFull, FaultyFile}
 use Rattle.parse.specs.Parse.{Outcome, Caps, caps, longFile, unknownFlag, invalidUtf8, areaFull, faulty, accepted, outcome}
 use Rattle.output.specs.Output.{joined}
-use Rattle.sheet_lines.specs.Lines.{stateLine, ruleLine, faultLine, refusedLine, fullLine, faultsIn, sheetIn}
+use Rattle.sheet_lines.specs.Lines.{stateLine, ruleLine, faultLine, refusedLine, fullLine, faultLines, sheetLines}
 
 -- what is printed of a file s that has an outcome: its states and rules, its faults, or the refusal
 unfoldable pub textOf : List ℕ → Outcome → List ℕ
-textOf s longFile = refusedLine 1
-textOf s unknownFlag = refusedLine 2
-textOf s invalidUtf8 = refusedLine 3
+textOf s longFile = refusedLine longFileNumber
+textOf s unknownFlag = refusedLine unknownFlagNumber
+textOf s invalidUtf8 = refusedLine invalidUtf8Number
 textOf s (areaFull area) = fullLine area
 textOf s (faulty fs) = joined (λ k. faultLine (nthFault fs k)) (length fs)
 textOf s (accepted b) =
     joined (λ k. stateLine s k (nthState (b .states) k)) (length (b .states))
     ++ joined (λ k. ruleLine k (nthRule (b .rules) k)) (length (b .rules))
 
--- the bytes that the program lends for each area
+-- how many bytes the program lends for each area
 unfoldable pub lent : Caps
 lent = caps 384 57344 32768 32768 32768 32768
 
@@ -35,11 +36,11 @@ sheetRoom = 64 * 38 + 65535 + 2048 * 95
 
 -- ---- the same, from the areas' bytes
 
--- what an answer, the counts and the areas tell
+-- what is printed of an answer, the counts and the areas
 unfoldable pub answerText : List ℕ → Answer → ℕ → ℕ → List ℕ → List ℕ → List ℕ → List ℕ
-answerText s Accepted states rules l1 l2 l6 = sheetIn s l1 states l2 rules
-answerText s LongFile states rules l1 l2 l6 = refusedLine 1
-answerText s UnknownFlag states rules l1 l2 l6 = refusedLine 2
-answerText s InvalidUtf8 states rules l1 l2 l6 = refusedLine 3
+answerText s Accepted states rules l1 l2 l6 = sheetLines s l1 states l2 rules
+answerText s LongFile states rules l1 l2 l6 = refusedLine longFileNumber
+answerText s UnknownFlag states rules l1 l2 l6 = refusedLine unknownFlagNumber
+answerText s InvalidUtf8 states rules l1 l2 l6 = refusedLine invalidUtf8Number
 answerText s (AreaFull area) states rules l1 l2 l6 = fullLine area
-answerText s (FaultyFile spans) states rules l1 l2 l6 = faultsIn l6 spans
+answerText s (FaultyFile spans) states rules l1 l2 l6 = faultLines l6 spans

@@ -1,8 +1,12 @@
 // What the parse call makes of a file, as lines of text (01, Files to try, the end).
 ghost use Prim.Native.Nat.{_≤_};
 ghost use lib.ListN.{length, getD};
+ghost use Rattle.output.specs.Contracts.{before, after};
 ghost use Rattle.output.specs.Output.{Written, AllWritten};
 ghost use Rattle.sheet_print.specs.Lines.{answerText, sheetText, sheetRoom};
+use answers::INVALID_UTF8;
+use answers::LONG_FILE;
+use answers::UNKNOWN_FLAG;
 use parse::Answer;
 use parse::call::parse;
 use sheet_lines::put_faults;
@@ -23,13 +27,16 @@ fn put_answer(
     area2: &[u8],
     area6: &[u8],
 ) -> usize
-    ensures { λ r. ⌜ Written (answerText (now (src .entry)) answer (getD counts 0 0) (getD counts 1 0) (now (area1 .entry)) (now (area2 .entry)) (now (area6 .entry))) (now (out .exit)) r ⌝ }
+    ensures { λ r. ⌜
+        Written (answerText (before src) answer (getD counts 0 0) (getD counts 1 0) (before area1) (before area2) (before area6))
+        (after out) r
+        ⌝ }
 {
     match answer {
         Answer::Accepted => put_sheet(out, 0, src, counts[0], area1, counts[1], area2),
-        Answer::LongFile => put_refused(out, 0, 1),
-        Answer::UnknownFlag => put_refused(out, 0, 2),
-        Answer::InvalidUtf8 => put_refused(out, 0, 3),
+        Answer::LongFile => put_refused(out, 0, LONG_FILE),
+        Answer::UnknownFlag => put_refused(out, 0, UNKNOWN_FLAG),
+        Answer::InvalidUtf8 => put_refused(out, 0, INVALID_UTF8),
         Answer::AreaFull(area) => put_full(out, 0, area),
         Answer::FaultyFile(spans) => put_faults(out, 0, area6, spans),
     }
@@ -38,7 +45,7 @@ fn put_answer(
 // All lines of a file with flags 0 and no verdicts, and how many bytes they have.
 pub fn sheet(src: &[u8], out: &mut [u8]) -> usize
     requires { ⌜ sheetRoom ≤ length (now out) ⌝ }
-    ensures { λ r. ⌜ AllWritten (sheetText (now (src .entry))) (now (out .exit)) r ⌝ }
+    ensures { λ r. ⌜ AllWritten (sheetText (before src)) (after out) r ⌝ }
 {
     let mut counts = [0u16; 6];
     let mut area1 = [0u8; 384];

@@ -1,5 +1,5 @@
 -- `output::put_tens` meets its contract: four digits, one behind the other.
-use Rattle.output.proofs.Numbers.{number}
+use Rattle.output.proofs.Numbers.{number-printing}
 use Rattle.output.proofs.put_tens.Statement.{statement}
 use Rattle.output.proofs.put_tens.Tie as tie
 
@@ -7,9 +7,9 @@ pub put-tens-spec : {M : Type 1} → statement M
 put-tens-spec =
     tie.close
     (tie.spec
-    (λ c κs. search number)
-    (λ c κs. search number)
-    (λ c κs. search number)
-    (λ c κs. search number)
-    (λ c. search number)
-    (λ c. search number))
+    (λ c κs. search number-printing)
+    (λ c κs. search number-printing)
+    (λ c κs. search number-printing)
+    (λ c κs. search number-printing)
+    (λ c. search number-printing)
+    (λ c. search number-printing))

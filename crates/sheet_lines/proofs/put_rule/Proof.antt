@@ -1,5 +1,5 @@
 -- `sheet_lines::put_rule` meets its contract: its parts, one behind the other.
-use Rattle.sheet_lines.proofs.Printing.{printing}
+use Rattle.sheet_lines.proofs.Printing.{line-printing}
 use Rattle.sheet_lines.proofs.put_rule.Statement.{statement}
 use Rattle.sheet_lines.proofs.put_rule.Tie as tie
 
@@ -7,11 +7,11 @@ pub put-rule-spec : {M : Type 1} → statement M
 put-rule-spec =
     tie.close
     (tie.spec
-    (λ c. search printing)
-    (λ c κs. search printing)
-    (λ c κs. search printing)
-    (λ c. search printing)
-    (λ c κs. search printing)
-    (λ c κs. search printing)
-    (λ c. search printing)
-    (λ c. search printing))
+    (λ c. search line-printing)
+    (λ c κs. search line-printing)
+    (λ c κs. search line-printing)
+    (λ c. search line-printing)
+    (λ c κs. search line-printing)
+    (λ c κs. search line-printing)
+    (λ c. search line-printing)
+    (λ c. search line-printing))

@@ -1,5 +1,5 @@
 -- `sheet_lines::put_state` meets its contract: its parts, one behind the other.
-use Rattle.sheet_lines.proofs.Printing.{stating}
+use Rattle.sheet_lines.proofs.Printing.{state-printing}
 use Rattle.sheet_lines.proofs.put_state.Statement.{statement}
 use Rattle.sheet_lines.proofs.put_state.Tie as tie
 
@@ -7,10 +7,10 @@ pub put-state-spec : {M : Type 1} → statement M
 put-state-spec =
     tie.close
     (tie.spec
-    (λ c κs. search stating)
-    (λ c κs. search stating)
-    (λ c κs. search stating)
-    (λ c κs. search stating)
-    (λ c κs. search stating)
-    (λ c. search stating)
-    (λ c. search stating))
+    (λ c κs. search state-printing)
+    (λ c κs. search state-printing)
+    (λ c κs. search state-printing)
+    (λ c κs. search state-printing)
+    (λ c κs. search state-printing)
+    (λ c. search state-printing)
+    (λ c. search state-printing))

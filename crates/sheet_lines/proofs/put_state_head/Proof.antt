@@ -1,5 +1,5 @@
 -- `sheet_lines::put_state_head` meets its contract: its parts, one behind the other.
-use Rattle.sheet_lines.proofs.Printing.{stating}
+use Rattle.sheet_lines.proofs.Printing.{state-printing}
 use Rattle.sheet_lines.proofs.put_state_head.Statement.{statement}
 use Rattle.sheet_lines.proofs.put_state_head.Tie as tie
 
@@ -7,10 +7,10 @@ pub put-state-head-spec : {M : Type 1} → statement M
 put-state-head-spec =
     tie.close
     (tie.spec
-    (λ c. search stating)
-    (λ c κs. search stating)
-    (λ c κs. search stating)
-    (λ c κs. search stating)
-    (λ c κs. search stating)
-    (λ c. search stating)
-    (λ c. search stating))
+    (λ c. search state-printing)
+    (λ c κs. search state-printing)
+    (λ c κs. search state-printing)
+    (λ c κs. search state-printing)
+    (λ c κs. search state-printing)
+    (λ c. search state-printing)
+    (λ c. search state-printing))

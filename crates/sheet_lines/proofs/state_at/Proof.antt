@@ -1,5 +1,5 @@
 -- `sheet_lines::state_at` meets its contract: the fields that it read make the record.
-use Rattle.sheet_lines.proofs.Printing.{stating}
+use Rattle.sheet_lines.proofs.Printing.{state-printing}
 use Rattle.sheet_lines.proofs.state_at.Statement.{statement}
 use Rattle.sheet_lines.proofs.state_at.Tie as tie
 
@@ -7,10 +7,10 @@ pub state-at-spec : {M : Type 1} → statement M
 state-at-spec =
     tie.close
     (tie.spec
-    (λ c. search stating)
-    (λ c κs. search stating)
-    (λ c. search stating)
-    (λ c κs. search stating)
-    (λ c. search stating)
-    (λ c κs. search stating)
-    (λ c. search stating))
+    (λ c. search state-printing)
+    (λ c κs. search state-printing)
+    (λ c. search state-printing)
+    (λ c κs. search state-printing)
+    (λ c. search state-printing)
+    (λ c κs. search state-printing)
+    (λ c. search state-printing))
