@@ -14,6 +14,7 @@ use Rattle.text.proofs.Tests.{and-left, and-right}
 use Rattle.area.specs.declared.Rule.{Rule}
 use Rattle.area.specs.Records.{entryWidth, nthRule}
 use Rattle.names.specs.Names.{nameOf}
+use Rattle.section.specs.Request.{Request}
 use Rattle.parse.specs.Parse.{Contents, Caps, outcome, accepted, parseCall}
 use Rattle.sheet_check.specs.SheetCheck.{SheetBytes, nameIn, sheetCheck, decoded, declared}
 use Rattle.area.specs.Lists.{all}
@@ -119,9 +120,9 @@ relinked-steps name c es b e is d h = record {
 -- ---- the demand
 
 -- the file's meaning has these states and rules
-file-is : (s : List ℕ) (flags : ℕ) (verdicts : List ℕ) (k : Caps) (c : Contents) → outcome s flags verdicts k ≡ accepted c → fileOf s flags verdicts ≡ fileIn (nameAt s) c
+file-is : (asked : Request) (k : Caps) (c : Contents) → outcome asked k ≡ accepted c → fileOf asked ≡ fileIn (nameAt (asked .source)) c
 unfolding fileOf
-file-is s flags verdicts k c e = ap (fileBy s) (accepted-meaning s flags verdicts k c e)
+file-is asked k c e = ap (fileBy (asked .source)) (accepted-meaning asked k c e)
 
 -- an operation's target is declared where the rule's is
 aims : (states number target : ℕ) → target < states → Aims states (operationBy number target)
@@ -144,18 +145,17 @@ file-targets name c h k x e =
 pub demand : DEMAND
 unfolding DEMAND
 demand q ok is =
-    let s : List ℕ = q .source in
-    let name : Rule → List ℕ = nameAt s in
-    let got = answer-accepted s (q .flags) (q .verdicts) (q .capacities) (ok .parsed) in
+    let name : Rule → List ℕ = nameAt (q .request .source) in
+    let got = answer-accepted (q .request) (q .capacities) (ok .parsed) in
     let c : Contents = got .0 in
-    let accepts : outcome s (q .flags) (q .verdicts) (q .capacities) ≡ accepted c = got .1 in
-    let same : sessionFile q ≡ fileIn name c = file-is s (q .flags) (q .verdicts) (q .capacities) c accepts in
+    let accepts : outcome (q .request) (q .capacities) ≡ accepted c = got .1 in
+    let same : sessionFile q ≡ fileIn name c = file-is (q .request) (q .capacities) c accepts in
     let sheet : SheetBytes = sheetParsed q in
     let es : List Entry = entriesOf (q .names) (q .entries) in
     let maps : es ≡ sessionMap q = map-same (q .names) (q .entries) (linked-whole sheet (q .names) (q .entries) (q .area7) (q .area8) (ok .unmapped) (ok .unused) (ok .linked)) in
     let g : Given = record { file = fileIn name c; map = es; limit = mostBytes; n = q .n } in
     let e : SheetBytes = linkedSheet sheet (linkLeftOf q) in
-    let h = accepted-holds s (q .flags) (q .verdicts) (q .capacities) c accepts in
+    let h = accepted-holds (q .request) (q .capacities) c accepts in
     let sound : Sound c = record { exclusive = λ j l. h .states .each .at j l .exclusive; lists = λ j l. h .rules .each .at j l .list } in
     let some : 0 < length (map fileState (c .states)) = omega (arith, h .states .some, length-map (c .states) fileState) in
     let usable : Usable g = record {
@@ -165,8 +165,8 @@ demand q ok is =
     } in
     let first : List ℕ = stackAs (q .stack) fresh in
     let runs : Runs g fresh first = start-runs (q .n) (q .run) (q .stack) (ok .started) g refl some in
-    let relinked = relink sheet (q .names) (q .entries) (q .area7) (q .area8) (ok .unmapped) (ok .unused) (ok .linked) (accepted-checks s (q .flags) (q .verdicts) (q .capacities) c accepts) in
-    let steps : Sheet name c es e = relinked-steps name c es sheet e (name-same sheet) (accepted-decodes s (q .flags) (q .verdicts) (q .capacities) c accepts) relinked in
+    let relinked = relink sheet (q .names) (q .entries) (q .area7) (q .area8) (ok .unmapped) (ok .unused) (ok .linked) (accepted-checks (q .request) (q .capacities) c accepts) in
+    let steps : Sheet name c es e = relinked-steps name c es sheet e (name-same sheet) (accepted-decodes (q .request) (q .capacities) c accepts) relinked in
     let long : length first ≡ length (q .stack) = laid-length (q .stack) (fresh .stack) (fits (q .n) (q .run) (q .stack) (ok .started) g refl some) in
     let held : ((p : ℕ) → PlaceHolds (lastHeld p (fresh .stack ∷ [])) p (q .stack) first) = λ p. place-next [] (fresh .stack) (q .stack) (q .stack) p (place-first (q .stack) p) in
     let w = whole g usable e (sheet-calls name c es mostBytes (q .n) sound e steps) (q .stack) is fresh [] first runs held long in

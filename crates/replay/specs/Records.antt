@@ -7,6 +7,7 @@ use lib.ListN.{length, take, drop, getD}
 use Rattle.text.specs.Range.{part}
 use Rattle.area.specs.Bytes.{fieldAt, pad, zeros}
 use Rattle.area.specs.Contents.{listOf}
+use Rattle.section.specs.Request.{Request, request, options}
 use Rattle.parse.specs.Parse.{Caps, caps, parseCall}
 use Rattle.troymantle.specs.Words.{LeftInWords, leftInWords, inWords}
 use Rattle.output.specs.Output.{Written, joined}
@@ -136,10 +137,10 @@ abbrev pub front : List ℕ → ℕ → ℕ → List ℕ → List ℕ
 front l lengths k e = take (lentAt l lengths k (length e)) e
 
 -- the call was made with as many bytes of each buffer as the record has for the area, and left what the parse call leaves
-pub record Called (src : List ℕ) (flags : ℕ) (verdicts l : List ℕ) (lengths word : ℕ) (counts e1 e2 e3 e4 e5 e6 : List ℕ) : Type 0 where
+pub record Called (asked : Request) (l : List ℕ) (lengths word : ℕ) (counts e1 e2 e3 e4 e5 e6 : List ℕ) : Type 0 where
   pub six : length counts ≡ 6
   pub left-is : leftInWords word counts (front l lengths 0 e1) (front l lengths 1 e2) (front l lengths 2 e3) (front l lengths 3 e4) (front l lengths 4 e5) (front l lengths 5 e6)
-      ≡ inWords (parseCall src flags verdicts (caps (lentAt l lengths 0 (length e1)) (lentAt l lengths 1 (length e2)) (lentAt l lengths 2 (length e3)) (lentAt l lengths 3 (length e4)) (lentAt l lengths 4 (length e5)) (lentAt l lengths 5 (length e6))))
+      ≡ inWords (parseCall asked (caps (lentAt l lengths 0 (length e1)) (lentAt l lengths 1 (length e2)) (lentAt l lengths 2 (length e3)) (lentAt l lengths 3 (length e4)) (lentAt l lengths 4 (length e5)) (lentAt l lengths 5 (length e6))))
 
 -- ---- a record as a whole, from the place behind its source on
 
@@ -174,7 +175,7 @@ recordedCaps l lengths m1 m2 m3 m4 m5 m6 =
 -- what is recorded behind the source src is what the parse call leaves
 pub record Agrees (src l : List ℕ) (at m1 m2 m3 m4 m5 m6 : ℕ) : Type 0 where
   pub is : recorded l (lengthsAt l at) m1 m2 m3 m4 m5 m6
-      ≡ inWords (parseCall src (longAt l at) (bytesAt l (skipTo l at 8)) (recordedCaps l (lengthsAt l at) m1 m2 m3 m4 m5 m6))
+      ≡ inWords (parseCall (request src (options (longAt l at)) (bytesAt l (skipTo l at 8))) (recordedCaps l (lengthsAt l at) m1 m2 m3 m4 m5 m6))
 
 -- where the next record stands
 abbrev pub recordEnd : List ℕ → ℕ → ℕ

@@ -3,6 +3,7 @@ ghost use mathlib.Core.Path.{_≡_};
 ghost use Prim.Native.Nat.{_+_, _≤_, _<_};
 ghost use lib.ListN.{length, take};
 ghost use Rattle.text.specs.Range.{part};
+ghost use Rattle.section.specs.Request.{request, options};
 ghost use Rattle.output.specs.Output.{Appends};
 ghost use Rattle.replay.specs.Records.{lentAt, repeated, sourceAt, sourceEnd, Sourced, Told, AreaIs, ThreeAre, NumbersAre, LeftIs, Compares, Called, Agrees, recordEnd, areasAt, fourthAt};
 use crate::compared::counted;
@@ -86,7 +87,7 @@ fn call(
     area6: &mut [u8],
 ) -> u64
     requires { ⌜ at ≤ length (now answers) ⌝ }
-    ensures { λ r. ⌜ Called (now (src .entry)) flags (now (verdicts .entry)) (now (answers .entry)) at r (now (counts .exit)) (now (area1 .exit)) (now (area2 .exit)) (now (area3 .exit)) (now (area4 .exit)) (now (area5 .exit)) (now (area6 .exit)) ⌝ }
+    ensures { λ r. ⌜ Called (request (now (src .entry)) (options flags) (now (verdicts .entry))) (now (answers .entry)) at r (now (counts .exit)) (now (area1 .exit)) (now (area2 .exit)) (now (area3 .exit)) (now (area4 .exit)) (now (area5 .exit)) (now (area6 .exit)) ⌝ }
 {
     let c1 = lent(answers, at, 0, area1.len());
     let c2 = lent(answers, at, 1, area2.len());
