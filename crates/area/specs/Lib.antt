@@ -3,3 +3,4 @@ pub mod Bytes
 pub mod Records
 pub mod Contents
 pub mod Lists
+pub mod Contracts

@@ -25,6 +25,7 @@ use Rattle.fault.specs.declared.Progress.the-variants as Progress
 use Rattle.fault.specs.Step.{Out, go, bad, full, next, onto, loop, Does, progress}
 use Rattle.fault.specs.Faults.{UnknownDeclaration, PrematureEnd}
 use Rattle.fault.proofs.Steps.{Loops, loops-stop, loops-next, loops-bad, loops-full, going-start, does-go, does-bad, does-full, was-go, was-bad, was-full, bad-goes, full-goes, then-go, then-bad, then-full}
+use Rattle.section.specs.Request.{Options}
 use Rattle.section.specs.Section.{percents, toDeclaration, inSection}
 use Rattle.section.specs.Reader.{NextLine}
 use Rattle.section.specs.declared.reader.Line.{Line}
@@ -165,7 +166,7 @@ abbrev sizes : List ℕ → List ℕ → List ℕ → Caps
 sizes l1 l5 l6 = capsOf (length l1) (length l5) (length l6)
 
 -- the loop has come to the line x, at whose start no whitespace stands
-pub record Sections (whole : Out Declared) (s : List ℕ) (flags : ℕ) (k1 k5 k6 : List ℕ) (x : Line) (l1 l5 l6 : List ℕ) (q : DeclarationCounts) : Type 0 where
+pub record Sections (whole : Out Declared) (s : List ℕ) (options : Options) (k1 k5 k6 : List ℕ) (x : Line) (l1 l5 l6 : List ℕ) (q : DeclarationCounts) : Type 0 where
   pub held : HeldDeclared l1 l5 l6 q
   pub within : x .start ≤ length s
   pub ends : Between (x .start) (length s) (lineEnd s (x .start)) (x .end)
@@ -173,26 +174,26 @@ pub record Sections (whole : Out Declared) (s : List ℕ) (flags : ℕ) (k1 k5 k
   pub long1 : length l1 ≡ length k1
   pub long5 : length l5 ≡ length k5
   pub long6 : length l6 ≡ length k6
-  pub loops : Loops whole (inSection s) (λ c. nextDeclaration s flags c) (length s) (sizes k1 k5 k6) (sizes l1 l5 l6) (x .start) (declaredIn l1 l5 l6 q)
+  pub loops : Loops whole (inSection s) (λ c. nextDeclaration s options c) (length s) (sizes k1 k5 k6) (sizes l1 l5 l6) (x .start) (declaredIn l1 l5 l6 q)
 
 -- the section's loop, from the place i
-abbrev pub section : List ℕ → ℕ → Caps → ℕ → Declared → Out Declared
-section s flags k i d = loop (length s) (inSection s) (nextDeclaration s flags k) (toDeclaration s flags i) d
+abbrev pub section : List ℕ → Options → Caps → ℕ → Declared → Out Declared
+section s options k i d = loop (length s) (inSection s) (nextDeclaration s options k) (toDeclaration s (options .flags) i) d
 
-pub sections-start : (s : List ℕ) (flags i : ℕ) (x : Line) (l1 l5 l6 : List ℕ) (q : DeclarationCounts) → HeldDeclared l1 l5 l6 q → NextLine s (toDeclaration s flags) i x
-    → Sections (section s flags (sizes l1 l5 l6) i (declaredIn l1 l5 l6 q)) s flags l1 l5 l6 x l1 l5 l6 q
-sections-start s flags i x l1 l5 l6 q h b = record {
+pub sections-start : (s : List ℕ) (options : Options) (i : ℕ) (x : Line) (l1 l5 l6 : List ℕ) (q : DeclarationCounts) → HeldDeclared l1 l5 l6 q → NextLine s (toDeclaration s (options .flags)) i x
+    → Sections (section s options (sizes l1 l5 l6) i (declaredIn l1 l5 l6 q)) s options l1 l5 l6 x l1 l5 l6 q
+sections-start s options i x l1 l5 l6 q h b = record {
   held = h;
   within = b .starts .to;
   ends = b .ends;
-  starts = rw (b .starts .is) (declaration-starts s flags i);
+  starts = rw (b .starts .is) (declaration-starts s (options .flags) i);
   long1 = refl;
   long5 = refl;
   long6 = refl;
-  loops = record { going = rw (← b .starts .is) (going-start (inSection s) (nextDeclaration s flags (sizes l1 l5 l6)) (length s) (x .start) (declaredIn l1 l5 l6 q) (length s) (omega arith)); same = refl };
+  loops = record { going = rw (← b .starts .is) (going-start (inSection s) (nextDeclaration s options (sizes l1 l5 l6)) (length s) (x .start) (declaredIn l1 l5 l6 q) (length s) (omega arith)); same = refl };
 }
 
-module _ {whole : Out Declared} {s : List ℕ} {flags : ℕ} {k1 k5 k6 : List ℕ} {here : Line} {l1 l5 l6 : List ℕ} {q : DeclarationCounts} (x : Sections whole s flags k1 k5 k6 here l1 l5 l6 q)
+module _ {whole : Out Declared} {s : List ℕ} {options : Options} {k1 k5 k6 : List ℕ} {here : Line} {l1 l5 l6 : List ℕ} {q : DeclarationCounts} (x : Sections whole s options k1 k5 k6 here l1 l5 l6 q)
     (t : Bool) (tested : t ≡ inSection s (here .start)) (pass : t ≡ true)
     {v1 v5 v6 : List ℕ} (r : DeclarationProgress)
     (d : Does (HeldDeclared v1 v5 v6) (declaration s (sizes l1 l5 l6) (here .start) (here .end)) (declaredIn l1 l5 l6 q) (declaredIn v1 v5 v6) (declarationProgress r)) where
@@ -206,17 +207,17 @@ module _ {whole : Out Declared} {s : List ℕ} {flags : ℕ} {k1 k5 k6 : List �
   inside = in-section-inside s i t tested pass (x .within)
 
   abbrev Moved : Out DeclarationCounts → Type 0
-  Moved o = Does (HeldDeclared v1 v5 v6) (nextDeclaration s flags (sizes l1 l5 l6) i) (declaredIn l1 l5 l6 q) (declaredIn v1 v5 v6) o
+  Moved o = Does (HeldDeclared v1 v5 v6) (nextDeclaration s options (sizes l1 l5 l6) i) (declaredIn l1 l5 l6 q) (declaredIn v1 v5 v6) o
 
-  is-next : nextDeclaration s flags (sizes l1 l5 l6) i (declaredIn l1 l5 l6 q) ≡ next (declaration s (sizes l1 l5 l6) i e (declaredIn l1 l5 l6 q)) (λ j y. go (toDeclaration s flags j) y)
+  is-next : nextDeclaration s options (sizes l1 l5 l6) i (declaredIn l1 l5 l6 q) ≡ next (declaration s (sizes l1 l5 l6) i e (declaredIn l1 l5 l6 q)) (λ j y. go (toDeclaration s (options .flags) j) y)
   unfolding nextDeclaration
   is-next = rw (← x .ends .is)
 
-  module _ (j : ℕ) (p : DeclarationCounts) (z : r ≡ Go j p) (y : Line) (c : NextLine s (toDeclaration s flags) e y) where
+  module _ (j : ℕ) (p : DeclarationCounts) (z : r ≡ Go j p) (y : Line) (c : NextLine s (toDeclaration s (options .flags)) e y) where
     went : Moved (go (y .start) p)
     went =
         let at : e ≡ j = declared-at s (sizes l1 l5 l6) i e (declaredIn l1 l5 l6 q) (was-go d (ap declarationProgress z)) in
-        subst (λ (k : ℕ). Moved (go k p)) (ap (toDeclaration s flags) (sym at) ∙ sym (c .starts .is)) (then-go (toDeclaration s flags) is-next d (ap declarationProgress z))
+        subst (λ (k : ℕ). Moved (go k p)) (ap (toDeclaration s (options .flags)) (sym at) ∙ sym (c .starts .is)) (then-go (toDeclaration s (options .flags)) is-next d (ap declarationProgress z))
 
     forward : i < y .start
     forward = omega (arith, line-has-byte s i inside (end-none-of-white s i (x .starts)), x .ends .is, c .starts .from)
@@ -224,12 +225,12 @@ module _ {whole : Out Declared} {s : List ℕ} {flags : ℕ} {k1 k5 k6 : List �
     pub sections-less : length s - y .start < length s - i
     sections-less = omega (arith, forward, c .starts .to)
 
-    pub sections-next : length v1 ≡ length l1 → length v5 ≡ length l5 → length v6 ≡ length l6 → Sections whole s flags k1 k5 k6 y v1 v5 v6 p
+    pub sections-next : length v1 ≡ length l1 → length v5 ≡ length l5 → length v6 ≡ length l6 → Sections whole s options k1 k5 k6 y v1 v5 v6 p
     sections-next e1 e5 e6 = record {
       held = d .goes j p (ap declarationProgress z);
       within = c .starts .to;
       ends = c .ends;
-      starts = rw (c .starts .is) (declaration-starts s flags e);
+      starts = rw (c .starts .is) (declaration-starts s (options .flags) e);
       long1 = e1 ∙ x .long1;
       long5 = e5 ∙ x .long5;
       long6 = e6 ∙ x .long6;
@@ -237,19 +238,19 @@ module _ {whole : Out Declared} {s : List ℕ} {flags : ℕ} {k1 k5 k6 : List �
     }
 
   whole-bad : (kind at : ℕ) (p : DeclarationCounts) → r ≡ Bad kind at p → whole ≡ bad kind at (declaredIn v1 v5 v6 p)
-  whole-bad kind at p z = loops-bad (x .loops) (sym tested ∙ pass) inside (then-bad (toDeclaration s flags) is-next d (ap declarationProgress z)) refl
+  whole-bad kind at p z = loops-bad (x .loops) (sym tested ∙ pass) inside (then-bad (toDeclaration s (options .flags)) is-next d (ap declarationProgress z)) refl
 
   whole-full : (n : ℕ) → r ≡ Full n → whole ≡ full n
-  whole-full n z = loops-full (x .loops) (sym tested ∙ pass) inside (then-full (toDeclaration s flags) is-next d (ap declarationProgress z)) refl
+  whole-full n z = loops-full (x .loops) (sym tested ∙ pass) inside (then-full (toDeclaration s (options .flags)) is-next d (ap declarationProgress z)) refl
 
 -- the section as a whole began at i₀ with the state d₀
-module _ (s : List ℕ) (flags : ℕ) (k : Caps) (i₀ : ℕ) (d₀ : Declared) {k1 k5 k6 : List ℕ} {here : Line} {l1 l5 l6 : List ℕ} {q : DeclarationCounts}
-    (x : Sections (section s flags k i₀ d₀) s flags k1 k5 k6 here l1 l5 l6 q) (t : Bool) (tested : t ≡ inSection s (here .start)) where
+module _ (s : List ℕ) (options : Options) (k : Caps) (i₀ : ℕ) (d₀ : Declared) {k1 k5 k6 : List ℕ} {here : Line} {l1 l5 l6 : List ℕ} {q : DeclarationCounts}
+    (x : Sections (section s options k i₀ d₀) s options k1 k5 k6 here l1 l5 l6 q) (t : Bool) (tested : t ≡ inSection s (here .start)) where
   abbrev Ended : List ℕ → List ℕ → List ℕ → Out DeclarationCounts → Type 0
-  Ended v1 v5 v6 o = Does (HeldDeclared v1 v5 v6) (declarations s flags k i₀) d₀ (declaredIn v1 v5 v6) o
+  Ended v1 v5 v6 o = Does (HeldDeclared v1 v5 v6) (declarations s options k i₀) d₀ (declaredIn v1 v5 v6) o
 
   module _ (stop : t ≡ false) (f : Found) (ahead : f ≡ lookaheadIs s percents (here .start)) where
-    at-end : declarations s flags k i₀ d₀ ≡ endDeclarations s (here .start) (declaredIn l1 l5 l6 q)
+    at-end : declarations s options k i₀ d₀ ≡ endDeclarations s (here .start) (declaredIn l1 l5 l6 q)
     unfolding declarations
     at-end = ap (λ (o : Out Declared). next o (endDeclarations s)) (loops-stop (x .loops) (sym tested ∙ stop))
 

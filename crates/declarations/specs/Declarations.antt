@@ -16,6 +16,7 @@ use Rattle.area.specs.Records.{nthState}
 use Rattle.area.specs.Contents.{append, stateFormat, expectedFormat}
 use Rattle.fault.specs.Step.{Out, go, bad, next, onto, written, loop}
 use Rattle.fault.specs.Faults.{addRepeat, PrematureEnd, UnknownDeclaration, InvalidName, DuplicateStartState, InvalidStartStateName}
+use Rattle.section.specs.Request.{Options}
 use Rattle.section.specs.Section.{found, percents, toDeclaration, inSection}
 use Rattle.names.specs.Names.{allBytes, isStateName, findState}
 use Rattle.declarations.specs.declared.Declaration.{Declaration}
@@ -199,15 +200,15 @@ declaration s k i e d = declareAs s k (range i e) (declarationOf s (range i e)) 
 
 -- ---- the section
 
--- a declaration, and on to the next (01, Declarations)
-unfoldable pub nextDeclaration : List ℕ → ℕ → Caps → ℕ → Declared → Out Declared
-nextDeclaration s flags k i d = next (declaration s k i (lineEnd s i) d) (λ j t. go (toDeclaration s flags j) t)
-
 -- the section ends at i: at the `%%`, behind which blanks are skipped; or with the file, which is PrematureEnd (01, Declarations)
 unfoldable pub endDeclarations : List ℕ → ℕ → Declared → Out Declared
 endDeclarations s i d = cond (found (lookaheadIs s percents i)) (go (skipBlanks s (i + 2)) d) (bad PrematureEnd i d)
 
--- the section from i on (01, Declarations)
-unfoldable pub declarations : List ℕ → ℕ → Caps → ℕ → Declared → Out Declared
-declarations s flags k i d =
-    next (loop (length s) (inSection s) (nextDeclaration s flags k) (toDeclaration s flags i) d) (endDeclarations s)
+module _ (s : List ℕ) (options : Options) (k : Caps) where
+  -- a declaration, and on to the next (01, Declarations)
+  unfoldable pub nextDeclaration : ℕ → Declared → Out Declared
+  nextDeclaration i d = next (declaration s k i (lineEnd s i) d) (λ j t. go (toDeclaration s (options .flags) j) t)
+
+  -- the section from i on (01, Declarations)
+  unfoldable pub declarations : ℕ → Declared → Out Declared
+  declarations i d = next (loop (length s) (inSection s) nextDeclaration (toDeclaration s (options .flags) i) d) (endDeclarations s)

@@ -1,3 +1,4 @@
 pub mod Declarations
 pub mod Stages
 pub mod Answers
+pub mod Contracts

@@ -5,9 +5,11 @@ mod missing; // the expected names of a line
 
 ghost use Prim.Native.Nat.{_≤_};
 ghost use lib.ListN.{length};
-ghost use Rattle.fault.specs.Step.{Does};
+ghost use Rattle.area.specs.Contracts.{before};
+ghost use Rattle.section.specs.Request.{options};
 ghost use Rattle.declarations.specs.Declarations.{declaration, declarations};
-ghost use Rattle.declarations.specs.Answers.{HeldDeclared, declaredIn, declarationProgress, capsOf};
+ghost use Rattle.declarations.specs.Answers.{HeldDeclared};
+ghost use Rattle.declarations.specs.Contracts.{DoesDeclared};
 use fault::Progress;
 use fault::kinds::PREMATURE_END;
 use fault::kinds::UNKNOWN_DECLARATION;
@@ -73,7 +75,7 @@ fn parse_declaration(
 ) -> DeclarationProgress
     requires { ⌜ ((i ≤ e) × (e ≤ length (now src))) × (length (now src) ≤ 65535) ⌝ }
     requires { ⌜ HeldDeclared (now area1) (now area5) (now area6) q ⌝ }
-    ensures { λ r. ⌜ Does (HeldDeclared (now (area1 .exit)) (now (area5 .exit)) (now (area6 .exit))) (declaration (now (src .entry)) (capsOf (length (now (area1 .entry))) (length (now (area5 .entry))) (length (now (area6 .entry)))) i e) (declaredIn (now (area1 .entry)) (now (area5 .entry)) (now (area6 .entry)) q) (declaredIn (now (area1 .exit)) (now (area5 .exit)) (now (area6 .exit))) (declarationProgress r) ⌝ }
+    ensures { λ r. ⌜ DoesDeclared (λ k. declaration (before src) k i e) area1 area5 area6 q r ⌝ }
 {
     let states = q.states;
     let expected = q.expected;
@@ -141,7 +143,7 @@ pub fn parse_declarations(
 ) -> DeclarationProgress
     requires { ⌜ (i ≤ length (now src)) × (length (now src) ≤ 65535) ⌝ }
     requires { ⌜ HeldDeclared (now area1) (now area5) (now area6) q ⌝ }
-    ensures { λ r. ⌜ Does (HeldDeclared (now (area1 .exit)) (now (area5 .exit)) (now (area6 .exit))) (declarations (now (src .entry)) flags (capsOf (length (now (area1 .entry))) (length (now (area5 .entry))) (length (now (area6 .entry)))) i) (declaredIn (now (area1 .entry)) (now (area5 .entry)) (now (area6 .entry)) q) (declaredIn (now (area1 .exit)) (now (area5 .exit)) (now (area6 .exit))) (declarationProgress r) ⌝ }
+    ensures { λ r. ⌜ DoesDeclared (λ k. declarations (before src) (options flags) k i) area1 area5 area6 q r ⌝ }
 {
     let mut line = next_declaration(src, flags, i);
     let mut counts = q;

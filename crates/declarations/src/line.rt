@@ -2,6 +2,7 @@
 ghost use mathlib.Core.Path.{_≡_};
 ghost use Prim.Native.Nat.{_+_, _≤_};
 ghost use lib.ListN.{length};
+ghost use Rattle.area.specs.Contracts.{before};
 ghost use Rattle.names.specs.Names.{allBytes};
 ghost use Rattle.declarations.specs.Declarations.{range, trimmed, isAlphanumeric, declares, statesOf, declarationOf};
 ghost use Rattle.declarations.specs.Stages.{declarationBy};
@@ -23,7 +24,7 @@ fn is_alphanumeric(b: u8) -> bool
 // Whether the bytes from a to before e are all letters or digits.
 fn all_alphanumeric(src: &[u8], a: usize, e: usize) -> bool
     requires { ⌜ (a ≤ e) × (e ≤ length (now src)) ⌝ }
-    ensures { λ r. ⌜ r ≡ allBytes isAlphanumeric (now (src .entry)) a e ⌝ }
+    ensures { λ r. ⌜ r ≡ allBytes isAlphanumeric (before src) a e ⌝ }
 {
     let mut k = a;
     while k < e {
@@ -38,7 +39,7 @@ fn all_alphanumeric(src: &[u8], a: usize, e: usize) -> bool
 // Whether the word from i to w is `%`, one of two letters, and letters or digits.
 fn declares_with(src: &[u8], x: u8, y: u8, i: usize, w: usize) -> bool
     requires { ⌜ (i ≤ w) × (w ≤ length (now src)) ⌝ }
-    ensures { λ r. ⌜ r ≡ declares x y (now (src .entry)) (range i w) ⌝ }
+    ensures { λ r. ⌜ r ≡ declares x y (before src) (range i w) ⌝ }
 {
     if w - i < 2 {
         return false;
@@ -53,7 +54,7 @@ fn declares_with(src: &[u8], x: u8, y: u8, i: usize, w: usize) -> bool
 // The names from r to e, trimmed. Without names it is no declaration of states.
 fn states_from(src: &[u8], exclusive: u16, r: usize, e: usize) -> Declaration
     requires { ⌜ (r ≤ e) × (e ≤ length (now src)) ⌝ }
-    ensures { λ d. ⌜ d ≡ statesOf exclusive (trimmed (now (src .entry)) (range r e)) ⌝ }
+    ensures { λ d. ⌜ d ≡ statesOf exclusive (trimmed (before src) (range r e)) ⌝ }
 {
     let a = trim_start(src, r, e);
     let t = trim_end(src, a, e);
@@ -66,7 +67,7 @@ fn states_from(src: &[u8], exclusive: u16, r: usize, e: usize) -> Declaration
 // The line whose first word stands from i to w, and whose rest from r to e.
 fn declaration_by(src: &[u8], i: usize, e: usize, w: usize, r: usize) -> Declaration
     requires { ⌜ ((i ≤ w) × (w ≤ e)) × ((r ≤ e) × (e ≤ length (now src))) ⌝ }
-    ensures { λ d. ⌜ d ≡ declarationBy (now (src .entry)) (range i w) (range r e) ⌝ }
+    ensures { λ d. ⌜ d ≡ declarationBy (before src) (range i w) (range r e) ⌝ }
 {
     if declares_with(src, b's', b'S', i, w) {
         return states_from(src, 0, r, e);
@@ -83,7 +84,7 @@ fn declaration_by(src: &[u8], i: usize, e: usize, w: usize, r: usize) -> Declara
 // The line from i to e. One that is only the word once trimmed has no rest.
 pub fn declaration_of(src: &[u8], i: usize, e: usize) -> Declaration
     requires { ⌜ (i ≤ e) × (e ≤ length (now src)) ⌝ }
-    ensures { λ d. ⌜ d ≡ declarationOf (now (src .entry)) (range i e) ⌝ }
+    ensures { λ d. ⌜ d ≡ declarationOf (before src) (range i e) ⌝ }
 {
     let t = trim_end(src, i, e);
     let w = find_whitespace(src, i, e);

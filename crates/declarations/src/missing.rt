@@ -3,8 +3,9 @@ ghost use mathlib.Core.Path.{_≡_};
 ghost use Prim.Native.Nat.{_+_, _≤_, _<_};
 ghost use lib.ListN.{length};
 ghost use Rattle.text.specs.Scan.{findAsciiWhitespace};
-ghost use Rattle.area.specs.Contents.{expectedFormat, contents, Held};
-ghost use Rattle.fault.specs.Step.{Does, progress};
+ghost use Rattle.area.specs.Contents.{expectedFormat, Held};
+ghost use Rattle.area.specs.Contracts.{before};
+ghost use Rattle.fault.specs.Contracts.{DoesRecords};
 ghost use Rattle.declarations.specs.Declarations.{range, isQuoted, declareExpected, expectedNames};
 use area::Appended;
 use area::EXPECTED_AREA;
@@ -17,7 +18,7 @@ use text::scan::skip_ascii_whitespace;
 
 fn is_quoted(src: &[u8], a: usize, e: usize) -> bool
     requires { ⌜ (a ≤ e) × (e ≤ length (now src)) ⌝ }
-    ensures { λ r. ⌜ r ≡ isQuoted (now (src .entry)) (range a e) ⌝ }
+    ensures { λ r. ⌜ r ≡ isQuoted (before src) (range a e) ⌝ }
 {
     if e - a < 2 {
         return false;
@@ -29,10 +30,9 @@ fn is_quoted(src: &[u8], a: usize, e: usize) -> bool
 fn next_expected(src: &[u8], i: u16, e: usize, a: usize, area: &mut [u8], n: u16) -> Progress
     requires { ⌜ ((a < e) × (e ≤ length (now src))) × (length (now src) ≤ 65535) ⌝ }
     requires { ⌜ Held expectedFormat (now area) n ⌝ }
-    ensures { λ r. ⌜ Does (Held expectedFormat (now (area .exit)))
-        (declareExpected (now (src .entry)) (length (now (area .entry))) (range i e) (range a (findAsciiWhitespace (now (src .entry)) a e)))
-        (contents expectedFormat (now (area .entry)) n)
-        (contents expectedFormat (now (area .exit))) (progress r) ⌝ }
+    ensures { λ r. ⌜
+        DoesRecords expectedFormat (λ c5. declareExpected (before src) c5 (range i e) (range a (findAsciiWhitespace (before src) a e))) area n r
+        ⌝ }
 {
     let end = find_ascii_whitespace(src, a, e);
     if is_quoted(src, a, end) {
@@ -52,10 +52,7 @@ fn next_expected(src: &[u8], i: u16, e: usize, a: usize, area: &mut [u8], n: u16
 pub fn expected_names(src: &[u8], i: u16, e: usize, w: usize, area: &mut [u8], n: u16) -> Progress
     requires { ⌜ ((w ≤ e) × (e ≤ length (now src))) × (length (now src) ≤ 65535) ⌝ }
     requires { ⌜ Held expectedFormat (now area) n ⌝ }
-    ensures { λ r. ⌜ Does (Held expectedFormat (now (area .exit)))
-        (expectedNames (now (src .entry)) (length (now (area .entry))) (range i e) w)
-        (contents expectedFormat (now (area .entry)) n)
-        (contents expectedFormat (now (area .exit))) (progress r) ⌝ }
+    ensures { λ r. ⌜ DoesRecords expectedFormat (λ c5. expectedNames (before src) c5 (range i e) w) area n r ⌝ }
 {
     let mut a = skip_ascii_whitespace(src, w, e);
     let mut count = n;

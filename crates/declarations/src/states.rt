@@ -3,10 +3,11 @@ ghost use mathlib.Core.Path.{_≡_};
 ghost use Prim.Native.Nat.{_+_, _≤_, _<_};
 ghost use lib.ListN.{length};
 ghost use Rattle.area.specs.Contents.{stateFormat, contents, Held};
-ghost use Rattle.fault.specs.Step.{Does};
-ghost use Rattle.declarations.specs.Declarations.{range, nameCaps, state, declareState, stateNames};
+ghost use Rattle.area.specs.Contracts.{before};
+ghost use Rattle.declarations.specs.Declarations.{range, state, declareState, stateNames};
 ghost use Rattle.declarations.specs.Stages.{namingOf};
-ghost use Rattle.declarations.specs.Answers.{HeldNames, namesIn, nameProgress};
+ghost use Rattle.declarations.specs.Answers.{HeldNames};
+ghost use Rattle.declarations.specs.Contracts.{DoesNames};
 use crate::NameCounts;
 use crate::NameProgress;
 use crate::Naming;
@@ -29,7 +30,7 @@ use text::whitespace::whitespace_len;
 fn validate_start_state(src: &[u8], a: usize, e: usize, area: &[u8], n: u16) -> Naming
     requires { ⌜ e ≤ length (now src) ⌝ }
     requires { ⌜ Held stateFormat (now area) n ⌝ }
-    ensures { λ r. ⌜ r ≡ namingOf (now (src .entry)) a e (contents stateFormat (now (area .entry)) n) ⌝ }
+    ensures { λ r. ⌜ r ≡ namingOf (before src) a e (contents stateFormat (before area) n) ⌝ }
 {
     if validate_start_state_name(src, a, e) {
         let j = get_start_state_by_name(src, a, e, area, n);
@@ -55,10 +56,7 @@ fn declare_state(
 ) -> NameProgress
     requires { ⌜ ((a ≤ e) × (e ≤ length (now src))) × (length (now src) ≤ 65535) ⌝ }
     requires { ⌜ HeldNames (now area1) (now area6) q ⌝ }
-    ensures { λ r. ⌜ Does (HeldNames (now (area1 .exit)) (now (area6 .exit)))
-        (declareState (now (src .entry)) (nameCaps (length (now (area1 .entry))) (length (now (area6 .entry)))) (state a e exclusive))
-        (namesIn (now (area1 .entry)) (now (area6 .entry)) q)
-        (namesIn (now (area1 .exit)) (now (area6 .exit))) (nameProgress r) ⌝ }
+    ensures { λ r. ⌜ DoesNames (λ k. declareState (before src) k (state a e exclusive)) area1 area6 q r ⌝ }
 {
     let next = e + whitespace_len(src, e);
     let states = q.states;
@@ -119,10 +117,7 @@ pub fn declare_start_states(
 ) -> NameProgress
     requires { ⌜ (t ≤ length (now src)) × (length (now src) ≤ 65535) ⌝ }
     requires { ⌜ HeldNames (now area1) (now area6) q ⌝ }
-    ensures { λ r. ⌜ Does (HeldNames (now (area1 .exit)) (now (area6 .exit)))
-        (stateNames (now (src .entry)) (nameCaps (length (now (area1 .entry))) (length (now (area6 .entry)))) exclusive (range a t))
-        (namesIn (now (area1 .entry)) (now (area6 .entry)) q)
-        (namesIn (now (area1 .exit)) (now (area6 .exit))) (nameProgress r) ⌝ }
+    ensures { λ r. ⌜ DoesNames (λ k. stateNames (before src) k exclusive (range a t)) area1 area6 q r ⌝ }
 {
     let mut at = a;
     let mut counts = q;

@@ -11,6 +11,7 @@ use Rattle.area.specs.declared.Rule.{Rule}
 use Rattle.area.specs.Records.{ruleOf}
 use Rattle.fault.specs.Faults.{fault}
 use Rattle.declarations.specs.Declarations.{state}
+use Rattle.section.specs.Request.{request, options}
 use Rattle.parse.specs.Parse.{Caps, caps, Contents, Outcome, longFile, unknownFlag, invalidUtf8, areaFull, faulty, accepted, outcome}
 
 -- a file, its flags, what becomes of it, and the text of each of its rules
@@ -105,5 +106,5 @@ textsOf s invalidUtf8 = []
 
 -- row by row, each file becomes what its row says, and its rules have these texts. There are no verdicts
 pub record Right (rows : List Row) : Type 0 where
-  pub becomes : map (λ r. outcome (r .file) (r .flags) [] areas) rows ≡ map (λ r. r .becomes) rows
+  pub becomes : map (λ r. outcome (request (r .file) (options (r .flags)) []) areas) rows ≡ map (λ r. r .becomes) rows
   pub texts : map (λ r. textsOf (r .file) (r .becomes)) rows ≡ map (λ r. r .texts) rows

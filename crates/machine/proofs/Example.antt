@@ -21,6 +21,7 @@ use Rattle.area.specs.Contents.{append, contents, listOf, relaid}
 use Rattle.area.specs.Records.{stateFields, ruleFields, entryFields, expectedFields, faultFields, stateOf, ruleOf, expectedOf, faultOf, stateAt, ruleAt, entryAt, expectedAt}
 use Rattle.fault.specs.Faults.{nextNumber, addFault, startsFault, isFault, findFault, faultEnd, addSpan, addPair, repeatAt, addRepeat}
 use Rattle.fault.specs.Step.{loop}
+use Rattle.section.specs.Request.{request, options}
 use Rattle.section.specs.Section.{comments, isComment, pastComment, pastLine, toDeclaration, pastRuleLine, toRule, inSection, hasRoutines}
 use Rattle.names.specs.Names as N
 use Rattle.names.specs.Names.{allBytes, isNameByte, isStateName, isState, hasName, findRule, nameOf}
@@ -92,9 +93,7 @@ entry-rows =
 -- the file and the map, and the start of an entry of 8 bytes, over a stack of 18 bytes 7
 abbrev pub session : Run → Session
 session r = record {
-  source = lexFile;
-  flags = 0;
-  verdicts = [];
+  request = request lexFile (options 0) [];
   capacities = capacities;
   names = names-of-map;
   entries = entries-of-map;

@@ -8,6 +8,7 @@ use native.Mathlib.Omega.{arith}
 use lib.ListN.{length, length-map}
 use Rattle.area.specs.declared.Rule.{Rule}
 use Rattle.names.specs.Names.{nameOf}
+use Rattle.section.specs.Request.{Request}
 use Rattle.parse.specs.Parse.{Contents, Caps, outcome, accepted}
 use Rattle.sheet_check.specs.SheetCheck.{SheetBytes, nameIn, decoded}
 use Rattle.parsed_sheet.proofs.Accepting.{accepted-holds}
@@ -91,23 +92,21 @@ unfolding nameOf nameAt
 name-same b = refl
 
 -- the file's meaning has these states and rules
-file-is : (s : List ℕ) (flags : ℕ) (verdicts : List ℕ) (k : Caps) (c : Contents) → outcome s flags verdicts k ≡ accepted c
-    → fileOf s flags verdicts ≡ fileIn (nameAt s) c
+file-is : (asked : Request) (k : Caps) (c : Contents) → outcome asked k ≡ accepted c → fileOf asked ≡ fileIn (nameAt (asked .source)) c
 unfolding fileOf
-file-is s flags verdicts k c e = ap (fileBy s) (accepted-meaning s flags verdicts k c e)
+file-is asked k c e = ap (fileBy (asked .source)) (accepted-meaning asked k c e)
 
 pub demand : DEMAND
 unfolding DEMAND ALWAYS
 demand q ok is =
-    let s : List ℕ = q .source in
-    let name : Rule → List ℕ = nameAt s in
-    let got = answer-accepted s (q .flags) (q .verdicts) (q .capacities) (ok .parsed) in
+    let name : Rule → List ℕ = nameAt (q .request .source) in
+    let got = answer-accepted (q .request) (q .capacities) (ok .parsed) in
     let c : Contents = got .0 in
-    let accepts : outcome s (q .flags) (q .verdicts) (q .capacities) ≡ accepted c = got .1 in
-    let same : sessionFile q ≡ fileIn name c = file-is s (q .flags) (q .verdicts) (q .capacities) c accepts in
-    let h = accepted-holds s (q .flags) (q .verdicts) (q .capacities) c accepts in
+    let accepts : outcome (q .request) (q .capacities) ≡ accepted c = got .1 in
+    let same : sessionFile q ≡ fileIn name c = file-is (q .request) (q .capacities) c accepts in
+    let h = accepted-holds (q .request) (q .capacities) c accepts in
     let sound : Sound c = record { exclusive = λ j l. h .states .each .at j l .exclusive; lists = λ j l. h .rules .each .at j l .list } in
-    let passed = accepted-checks s (q .flags) (q .verdicts) (q .capacities) c accepts in
+    let passed = accepted-checks (q .request) (q .capacities) c accepts in
     let link = relink (sheetParsed q) (q .names) (q .entries) (q .area7) (q .area8) (ok .unmapped) (ok .unused) (ok .linked) passed in
     let es : List Entry = entriesOf (q .names) (q .entries) in
     let maps : es ≡ sessionMap q = map-same (q .names) (q .entries) (link .whole) in
@@ -115,7 +114,7 @@ demand q ok is =
     let sheet : Sheet name c es b = record {
       checks = link .checks;
       reads =
-          link .reads ∙ ap (linkedLexer (nameIn (sheetParsed q)) es) (accepted-decodes s (q .flags) (q .verdicts) (q .capacities) c accepts)
+          link .reads ∙ ap (linkedLexer (nameIn (sheetParsed q)) es) (accepted-decodes (q .request) (q .capacities) c accepts)
           ∙ ap (λ (f : Rule → List ℕ). linkedLexer f es c) (name-same (sheetParsed q));
     } in
     let Met : File → List Entry → Type 0 =

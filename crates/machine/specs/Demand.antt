@@ -7,6 +7,7 @@ use mathlib.Core.List.{List, [], _∷_}
 use mathlib.Core.Option.{Option, none, some}
 use lib.Dec.{ltb}
 use lib.ListN.{length, getD, getElem?}
+use Rattle.section.specs.Request.{Request}
 use Rattle.parse.specs.declared.Answer.the-variants.{Accepted}
 use Rattle.parse.specs.Parse.{Caps, parseCall}
 use Rattle.sheet_check.specs.SheetCheck.{SheetBytes, sheetBytes}
@@ -96,9 +97,7 @@ pub record Demand (g : Given) (s : List ℕ) (f : RunLeft Begun) (is : List Inpu
 
 -- what the parse, link and start calls were given
 pub record Session : Type 0 where
-  pub source : List ℕ
-  pub flags : ℕ
-  pub verdicts : List ℕ
+  pub request : Request
   pub capacities : Caps
   pub names : List ℕ
   pub entries : List ℕ
@@ -109,7 +108,7 @@ pub record Session : Type 0 where
 
 -- the sheet that the parse call left
 abbrev pub sheetParsed : Session → SheetBytes
-sheetParsed q = sheetLeftBy (q .source) (parseCall (q .source) (q .flags) (q .verdicts) (q .capacities))
+sheetParsed q = sheetLeftBy (q .request .source) (parseCall (q .request) (q .capacities))
 
 -- what the link call left of it
 abbrev pub linkLeftOf : Session → LinkLeft
@@ -125,7 +124,7 @@ startLeftOf q = startCall (q .n) (q .running)
 
 -- the file and the map, by their bytes alone
 abbrev pub sessionFile : Session → File
-sessionFile q = fileOf (q .source) (q .flags) (q .verdicts)
+sessionFile q = fileOf (q .request)
 
 abbrev pub sessionMap : Session → List Entry
 sessionMap q = mapOf (q .names) (q .entries)
@@ -136,7 +135,7 @@ given q = record { file = sessionFile q; map = sessionMap q; limit = mostBytes; 
 
 -- the file, the link and the start are accepted
 pub record Accepts (q : Session) : Type 0 where
-  pub parsed : parseCall (q .source) (q .flags) (q .verdicts) (q .capacities) .answer ≡ Accepted
+  pub parsed : parseCall (q .request) (q .capacities) .answer ≡ Accepted
   pub unmapped : ℕ
   pub unused : ℕ
   pub linked : linkLeftOf q .answer ≡ Linked unmapped unused

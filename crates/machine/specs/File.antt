@@ -7,6 +7,7 @@ use lib.Dec.{eqb}
 use Rattle.text.specs.Range.{part}
 use Rattle.area.specs.declared.State.{State}
 use Rattle.area.specs.declared.Rule.{Rule}
+use Rattle.section.specs.Request.{Request}
 use Rattle.parse.specs.Parse.{Contents, Outcome, longFile, unknownFlag, invalidUtf8, areaFull, faulty, accepted}
 use Rattle.parsed_sheet.specs.Meaning.{meaning}
 use Rattle.link.specs.Map.{Entry, entry}
@@ -93,6 +94,6 @@ mapOf names (a ∷ b ∷ c ∷ d ∷ e ∷ f ∷ entries) =
 
 -- ---- the file
 
--- the states and rules of a source, with these flags and verdicts
-unfoldable pub fileOf : List ℕ → ℕ → List ℕ → File
-fileOf s flags verdicts = fileBy s (meaning s flags verdicts)
+-- the states and rules of the file that a parse is asked for, with its flags and verdicts
+unfoldable pub fileOf : Request → File
+fileOf q = fileBy (q .source) (meaning q)

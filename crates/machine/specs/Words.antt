@@ -17,13 +17,13 @@ use Rattle.machine.specs.Demand.{AsMachine, Demand, Session, startLeftOf
 
 -- what the exported parse call gives back
 abbrev pub parseGives : Session → LeftInWords
-parseGives q = inWords (parseCall (q .source) (q .flags) (q .verdicts) (q .capacities))
+parseGives q = inWords (parseCall (q .request) (q .capacities))
 
 -- the sheet of its arrays
 abbrev pub sheetGiven : Session → SheetBytes
 sheetGiven q =
     let x : LeftInWords = parseGives q in
-    sheetBytes (q .source) (x .area1) (x .area2) (x .area3) (x .area4) (x .area5) (x .counts)
+    sheetBytes (q .request .source) (x .area1) (x .area2) (x .area3) (x .area4) (x .area5) (x .counts)
 
 -- what the exported link call gives back of it
 abbrev pub linkGives : Session → LinkInWords

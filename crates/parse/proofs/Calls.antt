@@ -9,6 +9,7 @@ use Rattle.text.specs.Utf8.{utf8}
 use Rattle.area.specs.Bytes.{bytes, pad, zeros}
 use Rattle.area.specs.Contents.{Format, listOf, contents, Held, laid}
 use Rattle.area.proofs.Contents.{state-sound, rule-sound, entry-sound, text-sound, expected-sound, fault-sound, contents-length}
+use Rattle.section.specs.Request.{Request}
 use Rattle.parse.specs.declared.FileCounts.{FileCounts}
 use Rattle.parse.specs.declared.Parsed.{Parsed}
 use Rattle.parse.specs.declared.Parsed.the-variants.{Clean, Faulty, Short}
@@ -90,30 +91,30 @@ zeroed-by z e = record {
 
 -- ---- the tests
 
-module _ (s : List ℕ) (flags : ℕ) (verdicts : List ℕ) (c1 c2 c3 c4 c5 c6 : ℕ) where
+module _ (asked : Request) (c1 c2 c3 c4 c5 c6 : ℕ) where
   abbrev Leaves : Answer → Type 0
   Leaves r = (v1 v2 v3 v4 v5 v6 : List ℕ) → Cleared c1 c2 c3 c4 c5 c6 v1 v2 v3 v4 v5 v6 → (n6 : List ℕ) → n6 ≡ zeros 6
-      → left r n6 v1 v2 v3 v4 v5 v6 ≡ parseCall s flags verdicts (caps c1 c2 c3 c4 c5 c6)
+      → left r n6 v1 v2 v3 v4 v5 v6 ≡ parseCall asked (caps c1 c2 c3 c4 c5 c6)
 
-  pub call-long-file : 65535 < length s → Leaves LongFile
+  pub call-long-file : 65535 < length (asked .source) → Leaves LongFile
   unfolding parseCall leaves outcome
-  call-long-file h v1 v2 v3 v4 v5 v6 z n6 zn = zeros-left LongFile z zn ∙ rw (lt-ltb 65535 (length s) h)
+  call-long-file h v1 v2 v3 v4 v5 v6 z n6 zn = zeros-left LongFile z zn ∙ rw (lt-ltb 65535 (length (asked .source)) h)
 
-  module _ (within : length s ≤ 65535) where
-    pub call-unknown-flag : 3 < flags → Leaves UnknownFlag
+  module _ (within : length (asked .source) ≤ 65535) where
+    pub call-unknown-flag : 3 < asked .options .flags → Leaves UnknownFlag
     unfolding parseCall leaves outcome
-    call-unknown-flag h v1 v2 v3 v4 v5 v6 z n6 zn = zeros-left UnknownFlag z zn ∙ rw (le-ltb 65535 (length s) within, lt-ltb 3 flags h)
+    call-unknown-flag h v1 v2 v3 v4 v5 v6 z n6 zn = zeros-left UnknownFlag z zn ∙ rw (le-ltb 65535 (length (asked .source)) within, lt-ltb 3 (asked .options .flags) h)
 
-    module _ (known : flags ≤ 3) (t : Bool) (is : t ≡ utf8 s) where
+    module _ (known : asked .options .flags ≤ 3) (t : Bool) (is : t ≡ utf8 (asked .source)) where
       pub call-invalid-utf8 : t ≡ false → Leaves InvalidUtf8
       unfolding parseCall leaves outcome
-      call-invalid-utf8 h v1 v2 v3 v4 v5 v6 z n6 zn = zeros-left InvalidUtf8 z zn ∙ rw (le-ltb 65535 (length s) within, le-ltb 3 flags known, ← is, h)
+      call-invalid-utf8 h v1 v2 v3 v4 v5 v6 z n6 zn = zeros-left InvalidUtf8 z zn ∙ rw (le-ltb 65535 (length (asked .source)) within, le-ltb 3 (asked .options .flags) known, ← is, h)
 
       -- the text is parsed, with areas of as many bytes
       pub call-text : t ≡ true → {m1 m2 m3 m4 m5 m6 : ℕ} → m1 ≡ c1 → m2 ≡ c2 → m3 ≡ c3 → m4 ≡ c4 → m5 ≡ c5 → m6 ≡ c6 → {x : Left}
-          → x ≡ leaves (caps m1 m2 m3 m4 m5 m6) (file s flags verdicts (caps m1 m2 m3 m4 m5 m6)) → x ≡ parseCall s flags verdicts (caps c1 c2 c3 c4 c5 c6)
+          → x ≡ leaves (caps m1 m2 m3 m4 m5 m6) (file asked (caps m1 m2 m3 m4 m5 m6)) → x ≡ parseCall asked (caps c1 c2 c3 c4 c5 c6)
       unfolding parseCall outcome
       call-text h e1 e2 e3 e4 e5 e6 q =
           q
-          ∙ (λ i. leaves (caps (e1 i) (e2 i) (e3 i) (e4 i) (e5 i) (e6 i)) (file s flags verdicts (caps (e1 i) (e2 i) (e3 i) (e4 i) (e5 i) (e6 i))))
-          ∙ rw (le-ltb 65535 (length s) within, le-ltb 3 flags known, ← is, h)
+          ∙ (λ i. leaves (caps (e1 i) (e2 i) (e3 i) (e4 i) (e5 i) (e6 i)) (file asked (caps (e1 i) (e2 i) (e3 i) (e4 i) (e5 i) (e6 i))))
+          ∙ rw (le-ltb 65535 (length (asked .source)) within, le-ltb 3 (asked .options .flags) known, ← is, h)

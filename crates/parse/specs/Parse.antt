@@ -16,6 +16,7 @@ use Rattle.answers.specs.Words.{Fields, fields, word}
 use Rattle.area.specs.Contents.{append, laid, stateFormat, ruleFormat, entryFormat, textFormat, expectedFormat, faultFormat}
 use Rattle.fault.specs.Step.{Out, go, bad, full, next, onto, written}
 use Rattle.fault.specs.Faults.{addFault}
+use Rattle.section.specs.Request.{Options, Request}
 use Rattle.declarations.specs.Declarations.{Declared, declarations, state}
 use Rattle.rules_section.specs.RulesSection.{Ruled, rulesSection}
 use Rattle.declarations.specs.Declarations as D
@@ -82,11 +83,6 @@ contentsOf d r =
 abbrev pub noRules : Declared → Ruled
 noRules d = record { rules = []; lists = []; text = []; faults = d .faults }
 
--- the rules from i on, and what follows them
-unfoldable pub rulesFrom : List ℕ → ℕ → List ℕ → Caps → ℕ → Declared → Outcome
-rulesFrom s flags verdicts k i d =
-    ending (λ r. r .faults) (k .c6) (rulesSection s flags verdicts (d .states) (ruleCaps k) (k .c6) i (noRules d)) (λ j r. judge (contentsOf d r))
-
 -- nothing is declared yet
 abbrev pub undeclared : Declared
 undeclared = record { states = []; expected = []; faults = [] }
@@ -95,16 +91,26 @@ abbrev pub withStates : Declared → List State → Declared
 withStates d xs = record { states = xs; expected = d .expected; faults = d .faults }
 
 -- state 0 is written first of all: INITIAL with the span (0,0), not exclusive; then the declarations
-unfoldable pub opening : List ℕ → ℕ → D.Caps → Declared → Out Declared
-opening s flags k d = next (onto (withStates d) (written 1 0 (append stateFormat (k .c1) (state 0 0 0 ∷ []) (d .states)))) (declarations s flags k)
+unfoldable pub opening : List ℕ → Options → D.Caps → Declared → Out Declared
+opening s options k d =
+    next (onto (withStates d) (written 1 0 (append stateFormat (k .c1) (state 0 0 0 ∷ []) (d .states)))) (declarations s options k)
 
--- the file from its start
-unfoldable pub file : List ℕ → ℕ → List ℕ → Caps → Outcome
-file s flags verdicts k = ending (λ d. d .faults) (k .c6) (opening s flags (declarationCaps k) undeclared) (rulesFrom s flags verdicts k)
+module _ (q : Request) (k : Caps) where
+  -- the rules from i on, and what follows them
+  unfoldable pub rulesFrom : ℕ → Declared → Outcome
+  rulesFrom i d =
+      ending (λ r. r .faults) (k .c6) (rulesSection q (d .states) (ruleCaps k) (k .c6) i (noRules d)) (λ j r. judge (contentsOf d r))
 
--- 1, 2, 3, then 4 or 5, whichever comes first
-unfoldable pub outcome : List ℕ → ℕ → List ℕ → Caps → Outcome
-outcome s flags verdicts k = cond (ltb 65535 (length s)) longFile (cond (ltb 3 flags) unknownFlag (cond (utf8 s) (file s flags verdicts k) invalidUtf8))
+  -- the file from its start
+  unfoldable pub file : Outcome
+  file = ending (λ d. d .faults) (k .c6) (opening (q .source) (q .options) (declarationCaps k) undeclared) rulesFrom
+
+  -- 1, 2, 3, then 4 or 5, whichever comes first
+  unfoldable pub outcome : Outcome
+  outcome =
+      cond (ltb 65535 (length (q .source))) longFile
+      (cond (ltb 3 (q .options .flags)) unknownFlag
+      (cond (utf8 (q .source)) file invalidUtf8))
 
 -- ---- the call
 
@@ -156,8 +162,8 @@ leaves k (faulty fs) = faultsLeft fs k
 leaves k (accepted b) = sheetLeft b k
 
 -- the parse call
-unfoldable pub parseCall : List ℕ → ℕ → List ℕ → Caps → Left
-parseCall s flags verdicts k = leaves k (outcome s flags verdicts k)
+unfoldable pub parseCall : Request → Caps → Left
+parseCall q k = leaves k (outcome q k)
 
 -- ---- the answers as words
 

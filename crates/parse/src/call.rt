@@ -3,8 +3,11 @@ ghost use mathlib.Core.Path.{_≡_};
 ghost use Prim.Native.Nat.{_≤_};
 ghost use lib.ListN.{length};
 ghost use Rattle.area.specs.Bytes.{zeros};
-ghost use Rattle.parse.specs.Parse.{file, caps, left, leaves, parseCall};
+ghost use Rattle.area.specs.Contracts.{before, after};
+ghost use Rattle.rules_section.specs.Contracts.{asked};
+ghost use Rattle.parse.specs.Parse.{file, leaves, parseCall};
 ghost use Rattle.parse.specs.Answers.{Cleared, Zeroed};
+ghost use Rattle.parse.specs.Contracts.{roomIn, leftIn};
 use crate::Answer;
 use crate::Parsed;
 use crate::sections::parse_sections;
@@ -23,7 +26,11 @@ fn clear_all(
     area5: &mut [u8],
     area6: &mut [u8],
 )
-    ensures { λ _. ⌜ Cleared (length (now (area1 .entry))) (length (now (area2 .entry))) (length (now (area3 .entry))) (length (now (area4 .entry))) (length (now (area5 .entry))) (length (now (area6 .entry))) (now (area1 .exit)) (now (area2 .exit)) (now (area3 .exit)) (now (area4 .exit)) (now (area5 .exit)) (now (area6 .exit)) ⌝ }
+    ensures { λ _. ⌜
+        Cleared
+        (length (before area1)) (length (before area2)) (length (before area3)) (length (before area4)) (length (before area5)) (length (before area6))
+        (after area1) (after area2) (after area3) (after area4) (after area5) (after area6)
+        ⌝ }
 {
     clear(area1);
     clear(area2);
@@ -49,7 +56,9 @@ fn parse_text(
     requires { ⌜ length (now src) ≤ 65535 ⌝ }
     requires { ⌜ Zeroed (now area1) (now area2) (now area3) (now area4) (now area5) (now area6) ⌝ }
     requires { ⌜ now counts ≡ zeros 6 ⌝ }
-    ensures { λ r. ⌜ left r (now (counts .exit)) (now (area1 .exit)) (now (area2 .exit)) (now (area3 .exit)) (now (area4 .exit)) (now (area5 .exit)) (now (area6 .exit)) ≡ leaves (caps (length (now (area1 .entry))) (length (now (area2 .entry))) (length (now (area3 .entry))) (length (now (area4 .entry))) (length (now (area5 .entry))) (length (now (area6 .entry)))) (file (now (src .entry)) flags (now (verdicts .entry)) (caps (length (now (area1 .entry))) (length (now (area2 .entry))) (length (now (area3 .entry))) (length (now (area4 .entry))) (length (now (area5 .entry))) (length (now (area6 .entry))))) ⌝ }
+    ensures { λ r. let room = roomIn area1 area2 area3 area4 area5 area6 in ⌜
+        leftIn r counts area1 area2 area3 area4 area5 area6 ≡ leaves room (file (asked src flags verdicts) room)
+        ⌝ }
 {
     match parse_sections(
         src,
@@ -94,7 +103,10 @@ pub fn parse(
     area5: &mut [u8],
     area6: &mut [u8],
 ) -> Answer
-    ensures { λ r. ⌜ left r (now (counts .exit)) (now (area1 .exit)) (now (area2 .exit)) (now (area3 .exit)) (now (area4 .exit)) (now (area5 .exit)) (now (area6 .exit)) ≡ parseCall (now (src .entry)) flags (now (verdicts .entry)) (caps (length (now (area1 .entry))) (length (now (area2 .entry))) (length (now (area3 .entry))) (length (now (area4 .entry))) (length (now (area5 .entry))) (length (now (area6 .entry)))) ⌝ }
+    ensures { λ r. ⌜
+        leftIn r counts area1 area2 area3 area4 area5 area6
+        ≡ parseCall (asked src flags verdicts) (roomIn area1 area2 area3 area4 area5 area6)
+        ⌝ }
 {
     *counts = [0; 6];
     clear_all(area1, area2, area3, area4, area5, area6);

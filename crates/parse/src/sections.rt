@@ -3,10 +3,14 @@ ghost use mathlib.Core.Path.{_≡_};
 ghost use Prim.Native.Nat.{_≤_};
 ghost use lib.ListN.{length};
 ghost use Rattle.area.specs.Bytes.{zeros};
+ghost use Rattle.area.specs.Contracts.{before, after};
 ghost use Rattle.fault.specs.Step.{Does};
+ghost use Rattle.section.specs.Request.{options};
 ghost use Rattle.declarations.specs.Answers.{HeldDeclared, declaredIn, declarationProgress, capsOf};
-ghost use Rattle.parse.specs.Parse.{opening, undeclared, file, caps};
+ghost use Rattle.rules_section.specs.Contracts.{asked};
+ghost use Rattle.parse.specs.Parse.{opening, undeclared, file};
 ghost use Rattle.parse.specs.Answers.{closedBy, judgedBy, Parses, Zeroed};
+ghost use Rattle.parse.specs.Contracts.{roomIn};
 use crate::FileCounts;
 use crate::Parsed;
 use area::Appended;
@@ -31,8 +35,14 @@ fn parse_opening(
     area6: &mut [u8],
 ) -> DeclarationProgress
     requires { ⌜ length (now src) ≤ 65535 ⌝ }
-    requires { ⌜ (now area1 ≡ zeros (length (now area1))) × ((now area5 ≡ zeros (length (now area5))) × (now area6 ≡ zeros (length (now area6)))) ⌝ }
-    ensures { λ r. ⌜ Does (HeldDeclared (now (area1 .exit)) (now (area5 .exit)) (now (area6 .exit))) (opening (now (src .entry)) flags (capsOf (length (now (area1 .entry))) (length (now (area5 .entry))) (length (now (area6 .entry))))) undeclared (declaredIn (now (area1 .exit)) (now (area5 .exit)) (now (area6 .exit))) (declarationProgress r) ⌝ }
+    requires { ⌜
+        (now area1 ≡ zeros (length (now area1))) × ((now area5 ≡ zeros (length (now area5))) × (now area6 ≡ zeros (length (now area6))))
+        ⌝ }
+    ensures { λ r. ⌜
+        Does (HeldDeclared (after area1) (after area5) (after area6))
+        (opening (before src) (options flags) (capsOf (length (before area1)) (length (before area5)) (length (before area6)))) undeclared
+        (declaredIn (after area1) (after area5) (after area6)) (declarationProgress r)
+        ⌝ }
 {
     let initial = State {
         start: 0,
@@ -92,7 +102,10 @@ pub fn parse_sections(
 ) -> Parsed
     requires { ⌜ length (now src) ≤ 65535 ⌝ }
     requires { ⌜ Zeroed (now area1) (now area2) (now area3) (now area4) (now area5) (now area6) ⌝ }
-    ensures { λ r. ⌜ Parses (file (now (src .entry)) flags (now (verdicts .entry)) (caps (length (now (area1 .entry))) (length (now (area2 .entry))) (length (now (area3 .entry))) (length (now (area4 .entry))) (length (now (area5 .entry))) (length (now (area6 .entry))))) (now (area1 .exit)) (now (area2 .exit)) (now (area3 .exit)) (now (area4 .exit)) (now (area5 .exit)) (now (area6 .exit)) r ⌝ }
+    ensures { λ r. ⌜
+        Parses (file (asked src flags verdicts) (roomIn area1 area2 area3 area4 area5 area6))
+        (after area1) (after area2) (after area3) (after area4) (after area5) (after area6) r
+        ⌝ }
 {
     match parse_opening(src, flags, area1, area5, area6) {
         DeclarationProgress::Go(i, d) => {

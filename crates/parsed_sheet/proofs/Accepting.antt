@@ -17,6 +17,7 @@ use Rattle.area.specs.Records.{stateOf, expectedOf, ruleOf}
 use Rattle.area.specs.Contents.{Format, append, stateFormat, ruleFormat, entryFormat, textFormat, expectedFormat}
 use Rattle.fault.specs.Step.{Out, go, bad, full, onto, written}
 use Rattle.fault.specs.Faults.{addFault}
+use Rattle.section.specs.Request.{Request}
 use Rattle.declarations.specs.Declarations.{Declared, declarations, state}
 use Rattle.rules_section.specs.RulesSection.{sheetOf, rulesSection}
 use Rattle.parse.specs.Parse.{Contents, Caps, declarationCaps, ruleCaps, Outcome, longFile, unknownFlag, invalidUtf8, areaFull, faulty, accepted, closed, ending, judge, contentsOf, noRules, rulesFrom, undeclared, withStates, opening, file, outcome}
@@ -64,12 +65,12 @@ judge-accepts P c f =
 nothing-fits : {A : Type 0} (F : Format A) (cap : ℕ) → Fits F cap []
 nothing-fits F cap = record { few = omega arith; fits = omega arith }
 
-module _ (s : List ℕ) (flags : ℕ) (verdicts : List ℕ) (k : Caps) where
-  no-rules-hold : (d : Declared) → SheetHolds s (length (d .states)) (ruleCaps k) (sheetOf (noRules d))
+module _ (asked : Request) (k : Caps) where
+  no-rules-hold : (d : Declared) → SheetHolds (asked .source) (length (d .states)) (ruleCaps k) (sheetOf (noRules d))
   unfolding all
   no-rules-hold d = record {
     rules = record {
-      each = each-none (RuleHolds (length s) (length (d .states)) 0 0) (ruleOf (λ _. 0));
+      each = each-none (RuleHolds (length (asked .source)) (length (d .states)) 0 0) (ruleOf (λ _. 0));
       differ = record { differ = λ i j _ h. absurd (omega arith) };
       fits = nothing-fits ruleFormat (k .c2);
     };
@@ -77,49 +78,49 @@ module _ (s : List ℕ) (flags : ℕ) (verdicts : List ℕ) (k : Caps) where
     text = record { bytes = refl; fits = nothing-fits textFormat (k .c4) };
   }
 
-  rules-accept : all isByte s ≡ true → (i : ℕ) (d : Declared) → DeclaredHolds s (declarationCaps k) i d → Accepts (ContentsHold s k) (rulesFrom s flags verdicts k i d)
+  rules-accept : all isByte (asked .source) ≡ true → (i : ℕ) (d : Declared) → DeclaredHolds (asked .source) (declarationCaps k) i d → Accepts (ContentsHold (asked .source) k) (rulesFrom asked k i d)
   unfolding rulesFrom
   rules-accept source i d h =
-      ending-accepts (ContentsHold s k) (λ _ r. SheetHolds s (length (d .states)) (ruleCaps k) (sheetOf r)) (λ r. r .faults) (k .c6)
-      (rulesSection s flags verdicts (d .states) (ruleCaps k) (k .c6) i (noRules d)) (λ j r. judge (contentsOf d r))
-      (rules-hold s flags verdicts (d .states) (h .states .some) source (ruleCaps k) (k .c6) i (noRules d) (h .place) (no-rules-hold d))
-      (λ j r g. judge-accepts (ContentsHold s k) (contentsOf d r)
+      ending-accepts (ContentsHold (asked .source) k) (λ _ r. SheetHolds (asked .source) (length (d .states)) (ruleCaps k) (sheetOf r)) (λ r. r .faults) (k .c6)
+      (rulesSection asked (d .states) (ruleCaps k) (k .c6) i (noRules d)) (λ j r. judge (contentsOf d r))
+      (rules-hold asked (d .states) (h .states .some) source (ruleCaps k) (k .c6) i (noRules d) (h .place) (no-rules-hold d))
+      (λ j r g. judge-accepts (ContentsHold (asked .source) k) (contentsOf d r)
       (λ e. record { states = h .states; rules = g .rules; lists = g .lists; text = g .text; expected = h .expected; faults = e }))
 
-  initial-holds : Fits stateFormat (k .c1) (state 0 0 0 ∷ []) → StatesHold (length s) (k .c1) (state 0 0 0 ∷ [])
+  initial-holds : Fits stateFormat (k .c1) (state 0 0 0 ∷ []) → StatesHold (length (asked .source)) (k .c1) (state 0 0 0 ∷ [])
   initial-holds f = record {
     some = omega arith;
     initial = refl;
-    each = each-snoc (StateHolds (length s)) (stateOf (λ _. 0)) [] (state 0 0 0) (each-none (StateHolds (length s)) (stateOf (λ _. 0))) (record { ordered = omega arith; inside = omega arith; exclusive = omega arith });
+    each = each-snoc (StateHolds (length (asked .source))) (stateOf (λ _. 0)) [] (state 0 0 0) (each-none (StateHolds (length (asked .source))) (stateOf (λ _. 0))) (record { ordered = omega arith; inside = omega arith; exclusive = omega arith });
     fits = f;
   }
 
   abbrev Opened : ℕ → List State → Type 0
-  Opened i xs = (i ≤ length s) × StatesHold (length s) (k .c1) xs
+  Opened i xs = (i ≤ length (asked .source)) × StatesHold (length (asked .source)) (k .c1) xs
 
-  opening-holds : Yields (DeclaredHolds s (declarationCaps k)) (opening s flags (declarationCaps k) undeclared)
+  opening-holds : Yields (DeclaredHolds (asked .source) (declarationCaps k)) (opening (asked .source) (asked .options) (declarationCaps k) undeclared)
   unfolding opening
   opening-holds =
       let o = written 1 0 (append stateFormat (k .c1) (state 0 0 0 ∷ []) []) in
-      yields-next (DeclaredHolds s (declarationCaps k)) (DeclaredHolds s (declarationCaps k)) (onto (withStates undeclared) o) (declarations s flags (declarationCaps k))
-      (yields-onto Opened (DeclaredHolds s (declarationCaps k)) (withStates undeclared) o
+      yields-next (DeclaredHolds (asked .source) (declarationCaps k)) (DeclaredHolds (asked .source) (declarationCaps k)) (onto (withStates undeclared) o) (declarations (asked .source) (asked .options) (declarationCaps k))
+      (yields-onto Opened (DeclaredHolds (asked .source) (declarationCaps k)) (withStates undeclared) o
       (yields-append Opened stateFormat (k .c1) 1 0 (state 0 0 0 ∷ []) [] (λ f. (omega arith, initial-holds f)))
-      (λ i xs h. record { place = h .0; states = h .1; expected = record { each = each-none (ExpectedHolds (length s)) (expectedOf (λ _. 0)); fits = nothing-fits expectedFormat (k .c5) } }))
-      (λ i d h. declarations-hold s flags (declarationCaps k) i d h)
+      (λ i xs h. record { place = h .0; states = h .1; expected = record { each = each-none (ExpectedHolds (length (asked .source))) (expectedOf (λ _. 0)); fits = nothing-fits expectedFormat (k .c5) } }))
+      (λ i d h. declarations-hold (asked .source) (asked .options) (declarationCaps k) i d h)
 
-  file-accepts : all isByte s ≡ true → Accepts (ContentsHold s k) (file s flags verdicts k)
+  file-accepts : all isByte (asked .source) ≡ true → Accepts (ContentsHold (asked .source) k) (file asked k)
   unfolding file
   file-accepts source =
-      ending-accepts (ContentsHold s k) (DeclaredHolds s (declarationCaps k)) (λ d. d .faults) (k .c6) (opening s flags (declarationCaps k) undeclared) (rulesFrom s flags verdicts k)
+      ending-accepts (ContentsHold (asked .source) k) (DeclaredHolds (asked .source) (declarationCaps k)) (λ d. d .faults) (k .c6) (opening (asked .source) (asked .options) (declarationCaps k) undeclared) (rulesFrom asked k)
       opening-holds (rules-accept source)
 
   -- the tests before the file is read were passed
   record Passed (c : Contents) : Type 0 where
-    short : length s ≤ 65535
-    text : utf8 s ≡ true
-    holds : ContentsHold s k c
+    short : length (asked .source) ≤ 65535
+    text : utf8 (asked .source) ≡ true
+    holds : ContentsHold (asked .source) k c
 
-  passed : length s ≤ 65535 → utf8 s ≡ true → (o : Outcome) → Accepts (ContentsHold s k) o → Accepts Passed o
+  passed : length (asked .source) ≤ 65535 → utf8 (asked .source) ≡ true → (o : Outcome) → Accepts (ContentsHold (asked .source) k) o → Accepts Passed o
   passed l t (accepted c) h = record { short = l; text = t; holds = h }
   passed l t longFile h = tt
   passed l t unknownFlag h = tt
@@ -127,21 +128,21 @@ module _ (s : List ℕ) (flags : ℕ) (verdicts : List ℕ) (k : Caps) where
   passed l t (areaFull n) h = tt
   passed l t (faulty fs) h = tt
 
-  outcome-accepts : Accepts Passed (outcome s flags verdicts k)
+  outcome-accepts : Accepts Passed (outcome asked k)
   unfolding outcome
   outcome-accepts =
-      by-test (Accepts Passed) (ltb 65535 (length s)) longFile (cond (ltb 3 flags) unknownFlag (cond (utf8 s) (file s flags verdicts k) invalidUtf8)) (λ _. tt)
-      (λ l. by-test (Accepts Passed) (ltb 3 flags) unknownFlag (cond (utf8 s) (file s flags verdicts k) invalidUtf8) (λ _. tt)
-      (λ _. by-test (Accepts Passed) (utf8 s) (file s flags verdicts k) invalidUtf8 (λ t. passed (ltb-false 65535 (length s) l) t (file s flags verdicts k) (file-accepts (utf8-bytes s t))) (λ _. tt)))
+      by-test (Accepts Passed) (ltb 65535 (length (asked .source))) longFile (cond (ltb 3 (asked .options .flags)) unknownFlag (cond (utf8 (asked .source)) (file asked k) invalidUtf8)) (λ _. tt)
+      (λ l. by-test (Accepts Passed) (ltb 3 (asked .options .flags)) unknownFlag (cond (utf8 (asked .source)) (file asked k) invalidUtf8) (λ _. tt)
+      (λ _. by-test (Accepts Passed) (utf8 (asked .source)) (file asked k) invalidUtf8 (λ t. passed (ltb-false 65535 (length (asked .source)) l) t (file asked k) (file-accepts (utf8-bytes (asked .source) t))) (λ _. tt)))
 
-  module _ (c : Contents) (is : outcome s flags verdicts k ≡ accepted c) where
+  module _ (c : Contents) (is : outcome asked k ≡ accepted c) where
     -- what holds of the contents
-    pub accepted-holds : ContentsHold s k c
+    pub accepted-holds : ContentsHold (asked .source) k c
     accepted-holds = subst (Accepts Passed) is outcome-accepts .holds
 
     -- the source is no longer than its offsets can tell
-    pub accepted-short : length s ≤ 65535
+    pub accepted-short : length (asked .source) ≤ 65535
     accepted-short = subst (Accepts Passed) is outcome-accepts .short
 
-    pub accepted-utf8 : utf8 s ≡ true
+    pub accepted-utf8 : utf8 (asked .source) ≡ true
     accepted-utf8 = subst (Accepts Passed) is outcome-accepts .text

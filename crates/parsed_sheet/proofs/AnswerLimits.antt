@@ -5,6 +5,7 @@ use native.Mathlib.Omega.{arith}
 use lib.ListN.{length}
 use Rattle.answers.specs.Words.{TwoBytes}
 use Rattle.answers.proofs.Words.{two-bytes, no-values}
+use Rattle.section.specs.Request.{Request}
 use Rattle.parse.specs.Parse.{Caps, Outcome, longFile, unknownFlag, invalidUtf8, areaFull, faulty, accepted, outcome, leaves, parseCall, parseFields}
 use Rattle.parsed_sheet.proofs.Growing.{Settled, larger, limits-wide}
 use Rattle.parsed_sheet.specs.Meaning.{limits}
@@ -19,7 +20,7 @@ outcome-small s k (areaFull n) p h b = two-bytes 4 n 0 0 (omega arith) (omega (a
 outcome-small s k (faulty fs) p h b = two-bytes 5 (length fs) 0 0 (omega arith) (omega (arith, b .few)) (omega arith) (omega arith)
 outcome-small s k (accepted c) p h b = no-values 0 (omega arith)
 
-pub parse-small : (s : List ℕ) (flags : ℕ) (verdicts : List ℕ) (k : Caps) → TwoBytes (parseFields (parseCall s flags verdicts k .answer))
+pub parse-small : (asked : Request) (k : Caps) → TwoBytes (parseFields (parseCall asked k .answer))
 unfolding parseCall
-parse-small s flags verdicts k =
-    outcome-small s k (outcome s flags verdicts k) (outcome s flags verdicts limits) (larger k limits (limits-wide k) s flags verdicts) (outcome-bounded s flags verdicts k)
+parse-small asked k =
+    outcome-small (asked .source) k (outcome asked k) (outcome asked limits) (larger k limits (limits-wide k) asked) (outcome-bounded asked k)

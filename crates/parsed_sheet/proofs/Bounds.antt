@@ -26,6 +26,7 @@ use Rattle.area.proofs.Rooms.{room-few, room-fits}
 use Rattle.fault.specs.Step.{Out, go, bad, full, onto, written, loop}
 use Rattle.fault.specs.Faults.{fault, nextNumber, faultEnd, findFault, addFault, addSpan, addPair, repeatAt, addRepeat, DuplicateStartState, DuplicateName, PrematureEnd, RoutinesNotSupported, VerbatimNotSupported}
 use Rattle.fault.proofs.Yielding.{Yields, yields-next, yields-onto, yields-loop}
+use Rattle.section.specs.Request.{Options, Request}
 use Rattle.section.specs.Section.{found, percents, isComment, pastComment, pastLine, toDeclaration, toRule, inSection, hasRoutines}
 use Rattle.declarations.specs.declared.Declaration.{Declaration}
 use Rattle.declarations.specs.declared.Declaration.the-variants.{States, Expecting, Unknown}
@@ -162,7 +163,7 @@ record DeclaredRead (s : List ℕ) (c6 i : ℕ) (d : Declared) : Type 0 where
   names : nameBytes (d .states) ≤ i
   faults : FaultsFit c6 (d .faults)
 
-module _ (s : List ℕ) (flags : ℕ) (k : Caps) where
+module _ (s : List ℕ) (options : Options) (k : Caps) where
   abbrev Read : ℕ → Declared → Type 0
   Read i d = DeclaredRead s (k .c6) i d
 
@@ -182,13 +183,13 @@ module _ (s : List ℕ) (flags : ℕ) (k : Caps) where
       any-read (full n) = tt
   as-read i e a l Unknown q d h = tt
 
-  declaration-read : (i : ℕ) (d : Declared) → Read i d → Yields Read (nextDeclaration s flags k i d)
+  declaration-read : (i : ℕ) (d : Declared) → Read i d → Yields Read (nextDeclaration s options k i d)
   unfolding nextDeclaration declaration
   declaration-read i d h =
       let e = lineEnd s i in
-      yields-next Read Read (declaration s k i e d) (λ j t. go (toDeclaration s flags j) t)
+      yields-next Read Read (declaration s k i e d) (λ j t. go (toDeclaration s (options .flags) j) t)
       (as-read i e (first-from (atLineEnd s) i (length s)) (first-to (atLineEnd s) i (length s) (h .place)) (declarationOf s (range i e)) refl d h)
-      (λ j t g. record { place = declaration-to s flags j (g .place); names = omega (arith, declaration-from s flags j, g .names); faults = g .faults })
+      (λ j t g. record { place = declaration-to s (options .flags) j (g .place); names = omega (arith, declaration-from s (options .flags) j, g .names); faults = g .faults })
 
   end-read : (i : ℕ) (d : Declared) → Read i d → Yields Read (endDeclarations s i d)
   unfolding endDeclarations
@@ -198,16 +199,16 @@ module _ (s : List ℕ) (flags : ℕ) (k : Caps) where
       let f : i + 2 ≤ skipBlanks s (i + 2) = first-from _ (i + 2) (length s) in
       record { place = first-to _ (i + 2) (length s) (word-to s percents i (h .place) q); names = omega (arith, f, h .names); faults = h .faults }) (λ _. tt)
 
-  declarations-read : (i : ℕ) (d : Declared) → Read i d → Yields Read (declarations s flags k i d)
+  declarations-read : (i : ℕ) (d : Declared) → Read i d → Yields Read (declarations s options k i d)
   unfolding declarations
   declarations-read i d h =
-      yields-next Read Read (loop (length s) (inSection s) (nextDeclaration s flags k) (toDeclaration s flags i) d) (endDeclarations s)
-      (yields-loop Read (inSection s) (nextDeclaration s flags k) (λ j t _ g. declaration-read j t g) (length s) (toDeclaration s flags i) d
-      (record { place = declaration-to s flags i (h .place); names = omega (arith, declaration-from s flags i, h .names); faults = h .faults })) end-read
+      yields-next Read Read (loop (length s) (inSection s) (nextDeclaration s options k) (toDeclaration s (options .flags) i) d) (endDeclarations s)
+      (yields-loop Read (inSection s) (nextDeclaration s options k) (λ j t _ g. declaration-read j t g) (length s) (toDeclaration s (options .flags) i) d
+      (record { place = declaration-to s (options .flags) i (h .place); names = omega (arith, declaration-from s (options .flags) i, h .names); faults = h .faults })) end-read
 
 -- ---- the rules
 
-module _ (s : List ℕ) (flags : ℕ) (verdicts : List ℕ) (xs : List State) (k : R.Caps) (c6 : ℕ) where
+module _ (asked : Request) (xs : List State) (k : R.Caps) (c6 : ℕ) where
   abbrev Ruling : ℕ → Ruled → Type 0
   Ruling i r = FaultsFit c6 (r .faults)
 
@@ -217,36 +218,36 @@ module _ (s : List ℕ) (flags : ℕ) (verdicts : List ℕ) (xs : List State) (k
   sheet-fits r (bad kind at w) h = tt
   sheet-fits r (full n) h = tt
 
-  heading-fits : (i e : ℕ) (x : Heading) (r : Ruled) → FaultsFit c6 (r .faults) → Yields Ruling (ruleAs s flags verdicts xs k c6 i e x r)
+  heading-fits : (i e : ℕ) (x : Heading) (r : Ruled) → FaultsFit c6 (r .faults) → Yields Ruling (ruleAs asked xs k c6 i e x r)
   unfolding ruleAs
   heading-fits i e (Faulty kind at) r h = tt
   heading-fits i e (Repeated c d a z) r h =
       yields-onto (λ _ fs. FaultsFit c6 fs) Ruling (withFaults r) (written 6 e (addRepeat c6 DuplicateName c d a z (r .faults)))
       (repeat-fits (λ _ fs. FaultsFit c6 fs) c6 e (r .faults) (λ _ f. f) DuplicateName c d a z) (λ _ _ f. f)
-  heading-fits i e (Fresh b hd) r h = sheet-fits r (pattern s flags verdicts xs k i e hd (trimEndUnescaped s i b) (sheetOf r)) h
+  heading-fits i e (Fresh b hd) r h = sheet-fits r (pattern asked k i e hd (trimEndUnescaped (asked .source) i b) xs (sheetOf r)) h
 
-  line-fits : (i e : ℕ) (r : Ruled) → FaultsFit c6 (r .faults) → Yields Ruling (line s flags verdicts xs k c6 i e r)
+  line-fits : (i e : ℕ) (r : Ruled) → FaultsFit c6 (r .faults) → Yields Ruling (line asked xs k c6 i e r)
   unfolding line rule
   line-fits i e r h =
-      by-test (Yields Ruling) (atWhitespace s i) (onto (withFaults r) (written 6 e (addFault c6 VerbatimNotSupported i e (r .faults)))) (rule s flags verdicts xs k c6 i e r)
+      by-test (Yields Ruling) (atWhitespace (asked .source) i) (onto (withFaults r) (written 6 e (addFault c6 VerbatimNotSupported i e (r .faults)))) (rule asked xs k c6 i e r)
       (λ _. yields-onto (λ _ fs. FaultsFit c6 fs) Ruling (withFaults r) (written 6 e (addFault c6 VerbatimNotSupported i e (r .faults)))
       (fault-fits (λ _ fs. FaultsFit c6 fs) c6 e (r .faults) (λ _ f. f) VerbatimNotSupported i e) (λ _ _ f. f))
-      (λ _. heading-fits i e (headingOf s i (trimEnd s i e) xs (r .rules)) r h)
+      (λ _. heading-fits i e (headingOf (asked .source) i (trimEnd (asked .source) i e) xs (r .rules)) r h)
 
-  rule-fits : (i : ℕ) (r : Ruled) → FaultsFit c6 (r .faults) → Yields Ruling (nextRule s flags verdicts xs k c6 i r)
+  rule-fits : (i : ℕ) (r : Ruled) → FaultsFit c6 (r .faults) → Yields Ruling (nextRule asked xs k c6 i r)
   unfolding nextRule
   rule-fits i r h =
-      yields-next Ruling Ruling (line s flags verdicts xs k c6 i (lineEnd s i) r) (λ _ t. go (toRule s flags (lineEnd s i)) t) (line-fits i (lineEnd s i) r h) (λ _ _ f. f)
+      yields-next Ruling Ruling (line asked xs k c6 i (lineEnd (asked .source) i) r) (λ _ t. go (toRule (asked .source) (asked .options .flags) (lineEnd (asked .source) i)) t) (line-fits i (lineEnd (asked .source) i) r h) (λ _ _ f. f)
 
-  routines-fit : (i : ℕ) (r : Ruled) → FaultsFit c6 (r .faults) → Yields Ruling (routines s i r)
+  routines-fit : (i : ℕ) (r : Ruled) → FaultsFit c6 (r .faults) → Yields Ruling (routines (asked .source) i r)
   unfolding routines
-  routines-fit i r h = by-test (Yields Ruling) (hasRoutines s i) (bad RoutinesNotSupported i r) (go i r) (λ _. tt) (λ _. h)
+  routines-fit i r h = by-test (Yields Ruling) (hasRoutines (asked .source) i) (bad RoutinesNotSupported i r) (go i r) (λ _. tt) (λ _. h)
 
-  rules-fit : (i : ℕ) (r : Ruled) → FaultsFit c6 (r .faults) → Yields Ruling (rulesSection s flags verdicts xs k c6 i r)
+  rules-fit : (i : ℕ) (r : Ruled) → FaultsFit c6 (r .faults) → Yields Ruling (rulesSection asked xs k c6 i r)
   unfolding rulesSection rules
   rules-fit i r h =
-      yields-next Ruling Ruling (rules s flags verdicts xs k c6 i r) (routines s)
-      (yields-loop Ruling (inSection s) (nextRule s flags verdicts xs k c6) (λ j t _ f. rule-fits j t f) (length s) (toRule s flags i) r h) routines-fit
+      yields-next Ruling Ruling (rules asked xs k c6 i r) (routines (asked .source))
+      (yields-loop Ruling (inSection (asked .source)) (nextRule asked xs k c6) (λ j t _ f. rule-fits j t f) (length (asked .source)) (toRule (asked .source) (asked .options .flags) i) r h) routines-fit
 
 -- ---- a file
 
@@ -276,31 +277,31 @@ module _ (s : List ℕ) (c6 : ℕ) where
   unfolding judge
   judge-bounded c f h = by-test (Bounded s c6) (eqb (length (c .faults)) 0) (accepted c) (faulty (c .faults)) (λ _. h) (λ _. f)
 
-module _ (s : List ℕ) (flags : ℕ) (verdicts : List ℕ) (k : P.Caps) where
-  rules-bounded : (i : ℕ) (d : Declared) → DeclaredRead s (k .c6) i d → Bounded s (k .c6) (rulesFrom s flags verdicts k i d)
+module _ (asked : Request) (k : P.Caps) where
+  rules-bounded : (i : ℕ) (d : Declared) → DeclaredRead (asked .source) (k .c6) i d → Bounded (asked .source) (k .c6) (rulesFrom asked k i d)
   unfolding rulesFrom
   rules-bounded i d h =
-      ending-bounded s (k .c6) (λ _ r. FaultsFit (k .c6) (r .faults)) (λ r. r .faults) (rulesSection s flags verdicts (d .states) (ruleCaps k) (k .c6) i (noRules d)) (λ j r. judge (contentsOf d r))
-      (rules-fit s flags verdicts (d .states) (ruleCaps k) (k .c6) i (noRules d) (h .faults))
-      (λ j r f. judge-bounded s (k .c6) (contentsOf d r) f (omega (arith, h .names, h .place)))
+      ending-bounded (asked .source) (k .c6) (λ _ r. FaultsFit (k .c6) (r .faults)) (λ r. r .faults) (rulesSection asked (d .states) (ruleCaps k) (k .c6) i (noRules d)) (λ j r. judge (contentsOf d r))
+      (rules-fit asked (d .states) (ruleCaps k) (k .c6) i (noRules d) (h .faults))
+      (λ j r f. judge-bounded (asked .source) (k .c6) (contentsOf d r) f (omega (arith, h .names, h .place)))
 
-  opening-read : Yields (DeclaredRead s (k .c6)) (opening s flags (declarationCaps k) undeclared)
+  opening-read : Yields (DeclaredRead (asked .source) (k .c6)) (opening (asked .source) (asked .options) (declarationCaps k) undeclared)
   unfolding opening
   opening-read =
-      let Opened : ℕ → List State → Type 0 = λ i xs. DeclaredRead s (k .c6) i (withStates undeclared xs) in
+      let Opened : ℕ → List State → Type 0 = λ i xs. DeclaredRead (asked .source) (k .c6) i (withStates undeclared xs) in
       let o = written 1 0 (append stateFormat (k .c1) (state 0 0 0 ∷ []) []) in
-      yields-next (DeclaredRead s (k .c6)) (DeclaredRead s (k .c6)) (onto (withStates undeclared) o) (declarations s flags (declarationCaps k))
-      (yields-onto Opened (DeclaredRead s (k .c6)) (withStates undeclared) o
+      yields-next (DeclaredRead (asked .source) (k .c6)) (DeclaredRead (asked .source) (k .c6)) (onto (withStates undeclared) o) (declarations (asked .source) (asked .options) (declarationCaps k))
+      (yields-onto Opened (DeclaredRead (asked .source) (k .c6)) (withStates undeclared) o
       (yields-append Opened stateFormat (k .c1) 1 0 (state 0 0 0 ∷ []) []
       (λ _. record { place = omega arith; names = omega (arith, names-none, names-more [] (state 0 0 0)); faults = record { few = omega arith; fits = omega arith } }))
       (λ i xs h. h))
-      (λ i d h. declarations-read s flags (declarationCaps k) i d h)
+      (λ i d h. declarations-read (asked .source) (asked .options) (declarationCaps k) i d h)
 
   -- whatever becomes of a file
-  pub outcome-bounded : Bounded s (k .c6) (outcome s flags verdicts k)
+  pub outcome-bounded : Bounded (asked .source) (k .c6) (outcome asked k)
   unfolding outcome file
   outcome-bounded =
-      by-test (Bounded s (k .c6)) (ltb 65535 (length s)) longFile (cond (ltb 3 flags) unknownFlag (cond (utf8 s) (file s flags verdicts k) invalidUtf8)) (λ _. tt)
-      (λ _. by-test (Bounded s (k .c6)) (ltb 3 flags) unknownFlag (cond (utf8 s) (file s flags verdicts k) invalidUtf8) (λ _. tt)
-      (λ _. by-test (Bounded s (k .c6)) (utf8 s) (file s flags verdicts k) invalidUtf8
-      (λ _. ending-bounded s (k .c6) (DeclaredRead s (k .c6)) (λ d. d .faults) (opening s flags (declarationCaps k) undeclared) (rulesFrom s flags verdicts k) opening-read rules-bounded) (λ _. tt)))
+      by-test (Bounded (asked .source) (k .c6)) (ltb 65535 (length (asked .source))) longFile (cond (ltb 3 (asked .options .flags)) unknownFlag (cond (utf8 (asked .source)) (file asked k) invalidUtf8)) (λ _. tt)
+      (λ _. by-test (Bounded (asked .source) (k .c6)) (ltb 3 (asked .options .flags)) unknownFlag (cond (utf8 (asked .source)) (file asked k) invalidUtf8) (λ _. tt)
+      (λ _. by-test (Bounded (asked .source) (k .c6)) (utf8 (asked .source)) (file asked k) invalidUtf8
+      (λ _. ending-bounded (asked .source) (k .c6) (DeclaredRead (asked .source) (k .c6)) (λ d. d .faults) (opening (asked .source) (asked .options) (declarationCaps k) undeclared) (rulesFrom asked k) opening-read rules-bounded) (λ _. tt)))

@@ -12,6 +12,7 @@ use Rattle.area.specs.declared.State.{State}
 use Rattle.area.specs.declared.Rule.{Rule}
 use Rattle.area.specs.declared.Expected.{Expected}
 use Rattle.area.specs.Records.{stateOf, ruleOf, expectedOf, nthRule}
+use Rattle.section.specs.Request.{Request}
 use Rattle.parse.specs.Parse.{Contents, Caps, outcome, accepted, sheetLeft}
 use Rattle.sheet_check.specs.declared.Sizes.{Sizes}
 use Rattle.sheet_check.specs.SheetCheck.{sizesOf, goodCounts, declared, bytesAt, goodState, goodRule, goodExpected, goodRecords}
@@ -53,30 +54,30 @@ module _ (s : List ℕ) (k : Caps) (c : Contents) (h : ContentsHold s k c) where
   unfolding goodCounts
   counts-good = rw (le-leb 1 (z .states) (h .states .some), le-leb (z .states) 64 (h .states .fits .few), le-leb (z .rules) 2048 (h .rules .fits .few))
 
-module _ (s : List ℕ) (flags : ℕ) (verdicts : List ℕ) (k : Caps) (c : Contents) (is : outcome s flags verdicts k ≡ accepted c) where
+module _ (asked : Request) (k : Caps) (c : Contents) (is : outcome asked k ≡ accepted c) where
   -- the contents of an accepted parse pass the check of counts and of records
   pub accepted-counts : goodCounts (length (c .states)) (length (c .rules)) ≡ true
-  accepted-counts = counts-good s k c (accepted-holds s flags verdicts k c is)
+  accepted-counts = counts-good (asked .source) k c (accepted-holds asked k c is)
 
-  pub accepted-good : goodRecords (sizesOf (sheetLeftBy s (sheetLeft c k))) (c .states) (c .rules) (c .lists) (c .expected) ≡ true
-  accepted-good = records-good s k c (accepted-holds s flags verdicts k c is)
+  pub accepted-good : goodRecords (sizesOf (sheetLeftBy (asked .source) (sheetLeft c k))) (c .states) (c .rules) (c .lists) (c .expected) ≡ true
+  accepted-good = records-good (asked .source) k c (accepted-holds asked k c is)
 
   -- no two rules of an accepted parse have the same name
-  pub accepted-names-distinct : (i j : ℕ) → i < length (c .rules) → j < length (c .rules) → (i ≡ j → ⊥) → nthRule (c .rules) i .named ≡ 1 → nthRule (c .rules) j .named ≡ 1 → nameOf s (nthRule (c .rules) i) ≡ nameOf s (nthRule (c .rules) j) → ⊥
+  pub accepted-names-distinct : (i j : ℕ) → i < length (c .rules) → j < length (c .rules) → (i ≡ j → ⊥) → nthRule (c .rules) i .named ≡ 1 → nthRule (c .rules) j .named ≡ 1 → nameOf (asked .source) (nthRule (c .rules) i) ≡ nameOf (asked .source) (nthRule (c .rules) j) → ⊥
   accepted-names-distinct i j hi hj d ni nj q =
-      let names = accepted-holds s flags verdicts k c is .rules .differ in
+      let names = accepted-holds asked k c is .rules .differ in
       ⊎-elim (λ l. names .differ i j (omega arith) hj ni nj q) (λ l. names .differ j i l hi nj ni (sym q)) (le-or-lt i j)
 
   -- each list of an accepted parse fits its area
   pub accepted-fits : ContentsFit k c
   accepted-fits =
-      let h = accepted-holds s flags verdicts k c is in
+      let h = accepted-holds asked k c is in
       record { states = h .states .fits; rules = h .rules .fits; lists = h .lists .fits; text = h .text .fits; expected = h .expected .fits }
 
   -- rewritten text consists of bytes
   pub accepted-text-bytes : all isByte (c .text) ≡ true
-  accepted-text-bytes = accepted-holds s flags verdicts k c is .text .bytes
+  accepted-text-bytes = accepted-holds asked k c is .text .bytes
 
   -- an accepted parse has no faults
   pub accepted-faultless : c .faults ≡ []
-  accepted-faultless = accepted-holds s flags verdicts k c is .faults
+  accepted-faultless = accepted-holds asked k c is .faults

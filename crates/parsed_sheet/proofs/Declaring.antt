@@ -20,6 +20,7 @@ use Rattle.area.specs.Records.{nthState, stateOf, expectedOf}
 use Rattle.area.specs.Contents.{append, stateFormat, expectedFormat}
 use Rattle.fault.specs.Step.{Out, go, bad, full, onto, written, loop}
 use Rattle.fault.specs.Faults.{addRepeat, DuplicateStartState, InvalidStartStateName, InvalidName, PrematureEnd}
+use Rattle.section.specs.Request.{Options}
 use Rattle.section.specs.Section.{found, percents, toDeclaration, inSection}
 use Rattle.names.specs.Names.{isStateName}
 use Rattle.declarations.specs.declared.Declaration.{Declaration}
@@ -131,7 +132,7 @@ yields-then P Q e f (go i s) h g = g i s h
 yields-then P Q e f (bad kind at s) h g = tt
 yields-then P Q e f (full n) h g = tt
 
-module _ (s : List ℕ) (flags : ℕ) (k : Caps) where
+module _ (s : List ℕ) (options : Options) (k : Caps) where
   line-kept : (i e : ℕ) → i ≤ e → e ≤ length s → (x : Declaration) → declarationOf s (range i e) ≡ x → (d : Declared) → DeclaredHolds s k i d → Yields (DeclaredHolds s k) (declareAs s k (range i e) x d)
   unfolding declareAs
   line-kept i e a l (States exclusive b t) q d h =
@@ -146,13 +147,13 @@ module _ (s : List ℕ) (flags : ℕ) (k : Caps) where
       (λ _ xs f. record { place = l; states = h .states; expected = f })
   line-kept i e a l Unknown q d h = tt
 
-  declaration-kept : (i : ℕ) (d : Declared) → DeclaredHolds s k i d → Yields (DeclaredHolds s k) (nextDeclaration s flags k i d)
+  declaration-kept : (i : ℕ) (d : Declared) → DeclaredHolds s k i d → Yields (DeclaredHolds s k) (nextDeclaration s options k i d)
   unfolding nextDeclaration declaration
   declaration-kept i d h =
       let e = lineEnd s i in
-      yields-next (DeclaredHolds s k) (DeclaredHolds s k) (declaration s k i e d) (λ j t. go (toDeclaration s flags j) t)
+      yields-next (DeclaredHolds s k) (DeclaredHolds s k) (declaration s k i e d) (λ j t. go (toDeclaration s (options .flags) j) t)
       (line-kept i e (first-from (atLineEnd s) i (length s)) (first-to (atLineEnd s) i (length s) (h .place)) (declarationOf s (range i e)) refl d h)
-      (λ j t g. record { place = declaration-to s flags j (g .place); states = g .states; expected = g .expected })
+      (λ j t g. record { place = declaration-to s (options .flags) j (g .place); states = g .states; expected = g .expected })
 
   end-kept : (i : ℕ) (d : Declared) → DeclaredHolds s k i d → Yields (DeclaredHolds s k) (endDeclarations s i d)
   unfolding endDeclarations
@@ -161,10 +162,10 @@ module _ (s : List ℕ) (flags : ℕ) (k : Caps) where
       (λ q. record { place = first-to _ (i + 2) (length s) (word-to s percents i (h .place) q); states = h .states; expected = h .expected }) (λ _. tt)
 
   -- the section keeps what holds at its start
-  pub declarations-hold : (i : ℕ) (d : Declared) → DeclaredHolds s k i d → Yields (DeclaredHolds s k) (declarations s flags k i d)
+  pub declarations-hold : (i : ℕ) (d : Declared) → DeclaredHolds s k i d → Yields (DeclaredHolds s k) (declarations s options k i d)
   unfolding declarations
   declarations-hold i d h =
-      yields-next (DeclaredHolds s k) (DeclaredHolds s k) (loop (length s) (inSection s) (nextDeclaration s flags k) (toDeclaration s flags i) d) (endDeclarations s)
-      (yields-loop (DeclaredHolds s k) (inSection s) (nextDeclaration s flags k) (λ j t _ g. declaration-kept j t g) (length s) (toDeclaration s flags i) d
-      (record { place = declaration-to s flags i (h .place); states = h .states; expected = h .expected }))
+      yields-next (DeclaredHolds s k) (DeclaredHolds s k) (loop (length s) (inSection s) (nextDeclaration s options k) (toDeclaration s (options .flags) i) d) (endDeclarations s)
+      (yields-loop (DeclaredHolds s k) (inSection s) (nextDeclaration s options k) (λ j t _ g. declaration-kept j t g) (length s) (toDeclaration s (options .flags) i) d
+      (record { place = declaration-to s (options .flags) i (h .place); states = h .states; expected = h .expected }))
       end-kept

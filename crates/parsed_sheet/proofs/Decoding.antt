@@ -15,6 +15,7 @@ use Rattle.area.specs.Areas.{Area}
 use Rattle.area.specs.Contents.{Format, contents, Held, textFormat, laid}
 use Rattle.area.proofs.Areas.{area-length}
 use Rattle.area.proofs.Contents.{Sound, contents-are, held-of, state-sound, rule-sound, entry-sound, text-sound, expected-sound}
+use Rattle.section.specs.Request.{Request}
 use Rattle.parse.specs.declared.Answer.{Answer}
 use Rattle.parse.specs.declared.Answer.the-variants.{Accepted, LongFile, UnknownFlag, InvalidUtf8, AreaFull, FaultyFile}
 use Rattle.parse.specs.Parse.{Contents, Caps, Outcome, longFile, unknownFlag, invalidUtf8, areaFull, faulty, accepted, outcome, Left, sheetLeft, leaves, parseCall}
@@ -71,32 +72,32 @@ isAccepted InvalidUtf8 = false
 isAccepted (AreaFull n) = false
 isAccepted (FaultyFile n) = false
 
-module _ (s : List ℕ) (flags : ℕ) (verdicts : List ℕ) (k : Caps) where
-  module _ (c : Contents) (is : outcome s flags verdicts k ≡ accepted c) where
+module _ (asked : Request) (k : Caps) where
+  module _ (c : Contents) (is : outcome asked k ≡ accepted c) where
     abbrev sheet : SheetBytes
-    sheet = sheetLeftBy s (parseCall s flags verdicts k)
+    sheet = sheetLeftBy (asked .source) (parseCall asked k)
 
-    accepted-leaves : parseCall s flags verdicts k ≡ sheetLeft c k
+    accepted-leaves : parseCall asked k ≡ sheetLeft c k
     unfolding parseCall leaves
     accepted-leaves = ap (leaves k) is
 
     -- the areas that an accepted parse leaves are read back as its contents
     pub accepted-decodes : decoded sheet ≡ c
     accepted-decodes =
-        ap (λ (l : Left). decoded (sheetLeftBy s l)) accepted-leaves
-        ∙ laid-decodes s k c (accepted-fits s flags verdicts k c is) (accepted-faultless s flags verdicts k c is)
+        ap (λ (l : Left). decoded (sheetLeftBy (asked .source) l)) accepted-leaves
+        ∙ laid-decodes (asked .source) k c (accepted-fits asked k c is) (accepted-faultless asked k c is)
 
     -- and they pass the sheet check
     pub accepted-checks : sheetCheck sheet ≡ true
     unfolding sheetCheck goodSizes
     accepted-checks =
-        rw (accepted-decodes, accepted-leaves, laid-enough s k c (accepted-fits s flags verdicts k c is), accepted-counts s flags verdicts k c is)
-        (accepted-good s flags verdicts k c is)
+        rw (accepted-decodes, accepted-leaves, laid-enough (asked .source) k c (accepted-fits asked k c is), accepted-counts asked k c is)
+        (accepted-good asked k c is)
 
     -- each area holds its list, and zeros behind it
-    pub accepted-held : AreasHold c (parseCall s flags verdicts k)
+    pub accepted-held : AreasHold c (parseCall asked k)
     accepted-held =
-        let f = accepted-fits s flags verdicts k c is in
+        let f = accepted-fits asked k c is in
         subst (AreasHold c) (sym accepted-leaves)
         (record {
           states = laid-held state-sound (f .states);
@@ -108,11 +109,11 @@ module _ (s : List ℕ) (flags : ℕ) (verdicts : List ℕ) (k : Caps) where
         })
 
   -- a call that answers that it accepts has contents
-  pub answer-accepted : parseCall s flags verdicts k .answer ≡ Accepted → (c : Contents) × (outcome s flags verdicts k ≡ accepted c)
+  pub answer-accepted : parseCall asked k .answer ≡ Accepted → (c : Contents) × (outcome asked k ≡ accepted c)
   unfolding parseCall leaves
-  answer-accepted e = by (outcome s flags verdicts k) refl e
+  answer-accepted e = by (outcome asked k) refl e
     where
-      by : (o : Outcome) → outcome s flags verdicts k ≡ o → leaves k o .answer ≡ Accepted → (c : Contents) × (outcome s flags verdicts k ≡ accepted c)
+      by : (o : Outcome) → outcome asked k ≡ o → leaves k o .answer ≡ Accepted → (c : Contents) × (outcome asked k ≡ accepted c)
       by (accepted c) q z = (c, q)
       by longFile q z = absurd (false≢true (ap isAccepted z))
       by unknownFlag q z = absurd (false≢true (ap isAccepted z))

@@ -12,6 +12,7 @@ use Rattle.area.specs.declared.State.{State}
 use Rattle.area.specs.declared.Rule.{Rule}
 use Rattle.area.specs.declared.Expected.{Expected}
 use Rattle.area.specs.Records.{stateOf, ruleOf, expectedOf, stateFields, ruleFields, expectedFields}
+use Rattle.section.specs.Request.{Request}
 use Rattle.parse.specs.Parse.{Contents, Caps, outcome, accepted}
 use Rattle.area.specs.Lists.{all}
 use Rattle.parsed_sheet.specs.Accepted.{StateHolds, ExpectedHolds, EntryHolds, RuleHolds, FieldsFit, isField}
@@ -64,14 +65,14 @@ module _ (n : ℕ) (short : n ≤ 65535) where
       (field-more (x .target) _ (omega (arith, h .target)) no-fields)))))))))))))
 
 -- each number of the contents of an accepted parse fits a field
-pub accepted-fields : (s : List ℕ) (flags : ℕ) (verdicts : List ℕ) (k : Caps) (c : Contents) → outcome s flags verdicts k ≡ accepted c → FieldsFit c
-accepted-fields s flags verdicts k c is =
-    let h = accepted-holds s flags verdicts k c is in
-    let n = length s in
+pub accepted-fields : (asked : Request) (k : Caps) (c : Contents) → outcome asked k ≡ accepted c → FieldsFit c
+accepted-fields asked k c is =
+    let h = accepted-holds asked k c is in
+    let n = length (asked .source) in
     let m = length (c .states) in
     let a = length (c .lists) in
     let b = length (c .text) in
-    let short : n ≤ 65535 = accepted-short s flags verdicts k c is in
+    let short : n ≤ 65535 = accepted-short asked k c is in
     record {
       states = all-pass (StateHolds n) (λ x. all isField (stateFields x)) (stateOf (λ _. 0)) (c .states) (λ j x _. state-fields n short j x) (h .states .each);
       rules = all-pass (RuleHolds n m a b) (λ x. all isField (ruleFields x)) (ruleOf (λ _. 0)) (c .rules)

@@ -22,6 +22,7 @@ use Rattle.text.specs.Scan.{lineEnd}
 use Rattle.text.specs.Whitespace.{atWhitespace}
 use Rattle.escape.specs.Escape.{unescaped}
 use Rattle.text.specs.Range.{lookaheadIs}
+use Rattle.section.specs.Request.{Options, Request}
 use Rattle.section.specs.Section.{found, percents, toDeclaration, toRule, hasRoutines}
 use Rattle.area.specs.Contents.{Format, append, stateFormat, ruleFormat, entryFormat, textFormat, expectedFormat, faultFormat}
 use Rattle.fault.specs.Step.{Out, go, bad, full, next, onto, written, loop}
@@ -156,7 +157,7 @@ module _ (c d : ℕ) (w : Roomier faultFormat c d) where
 
 -- ---- declarations
 
-module _ (k l : Caps) (w : Wider k l) (s : List ℕ) (flags : ℕ) where
+module _ (k l : Caps) (w : Wider k l) (s : List ℕ) where
   grow-state : (x : State) (n : Names) → Stays (declareState s (nameCaps (k .c1) (k .c6)) x n) (declareState s (nameCaps (l .c1) (l .c6)) x n)
   unfolding declareState repeatState addState
   grow-state x n =
@@ -184,14 +185,15 @@ module _ (k l : Caps) (w : Wider k l) (s : List ℕ) (flags : ℕ) where
   grow-declare line (Expecting a) d = stays-next (stays-onto (withExpected d) (grow-expected line a (d .expected))) (λ j m. stays-go (line .to) m)
   grow-declare line Unknown d = stays-bad UnknownDeclaration (line .from) d
 
-  grow-declarations : (i : ℕ) (d : Declared) → Stays (declarations s flags (declarationCaps k) i d) (declarations s flags (declarationCaps l) i d)
+  grow-declarations : (options : Options) (i : ℕ) (d : Declared)
+      → Stays (declarations s options (declarationCaps k) i d) (declarations s options (declarationCaps l) i d)
   unfolding declarations nextDeclaration declaration endDeclarations
-  grow-declarations i d =
-      stays-next (stays-loop _ _ _ (λ j m. stays-next (grow-declare _ _ m) (λ p t. stays-go (toDeclaration s flags p) t)) (length s) _ d) (λ j m. stays-if (found (lookaheadIs s percents j)) (stays-go _ m) (stays-bad _ _ m))
+  grow-declarations options i d =
+      stays-next (stays-loop _ _ _ (λ j m. stays-next (grow-declare _ _ m) (λ p t. stays-go (toDeclaration s (options .flags) p) t)) (length s) _ d) (λ j m. stays-if (found (lookaheadIs s percents j)) (stays-go _ m) (stays-bad _ _ m))
 
-  -- ---- rules
+  -- ---- a list of states
 
-  module _ (verdicts : List ℕ) (xs : List State) where
+  module _ (xs : List State) where
     grow-entry : (i g a : ℕ) (ids : List ℕ) → Stays (nextEntry s (k .c3) xs i g a ids) (nextEntry s (l .c3) xs i g a ids)
     unfolding nextEntry
     grow-entry i g a ids =
@@ -202,54 +204,57 @@ module _ (k l : Caps) (w : Wider k l) (s : List ℕ) (flags : ℕ) where
     unfolding entries
     grow-entries i g ids = stays-loop _ _ _ (λ a ys. grow-entry i g a ys) (length s) _ ids
 
-    grow-record : (i e : ℕ) (x : Rule) (rs : List Rule) → Stays (recordRule verdicts (k .c2) i e x rs) (recordRule verdicts (l .c2) i e x rs)
-    unfolding recordRule
-    grow-record i e x rs =
-        stays-if (refuses verdicts (length rs)) (stays-bad RegexError i rs) (stays-written 2 e (omega arith) (grown-append ruleFormat (k .c2) (l .c2) (w .w2) (x ∷ []) rs))
+-- ---- rules
 
-    module _ (i e : ℕ) (h : Head) (c : ℕ) where
-      grow-with : (t : Text) (list : StateList) (v : Sheet)
-          → Stays (withRule s flags verdicts xs (ruleCaps k) i e h c t list v) (withRule s flags verdicts xs (ruleCaps l) i e h c t list v)
-      unfolding withRule
-      grow-with t list v = stays-onto (λ rs. sheet rs (v .lists) (v .text)) (grow-record i e _ (v .rules))
+module _ (k l : Caps) (w : Wider k l) (asked : Request) (xs : List State) where
+  grow-record : (i e : ℕ) (x : Rule) (rs : List Rule) → Stays (recordRule (asked .verdicts) (k .c2) i e x rs) (recordRule (asked .verdicts) (l .c2) i e x rs)
+  unfolding recordRule
+  grow-record i e x rs =
+      stays-if (refuses (asked .verdicts) (length rs)) (stays-bad RegexError i rs) (stays-written 2 e (omega arith) (grown-append ruleFormat (k .c2) (l .c2) (w .w2) (x ∷ []) rs))
 
-      grow-listed : (g : ℕ) (v : Sheet) → Stays (listedRule s flags verdicts xs (ruleCaps k) i e h c g v) (listedRule s flags verdicts xs (ruleCaps l) i e h c g v)
-      unfolding listedRule
-      grow-listed g v = stays-next (stays-onto (λ ids. sheet (v .rules) ids (v .text)) (grow-entries i g (v .lists))) (λ _ u. grow-with _ _ u)
+  module _ (i e : ℕ) (h : Head) (c : ℕ) where
+    grow-with : (t : Text) (list : StateList) (v : Sheet)
+        → Stays (withRule asked (ruleCaps k) i e h t list v) (withRule asked (ruleCaps l) i e h t list v)
+    unfolding withRule
+    grow-with t list v = stays-onto (λ rs. sheet rs (v .lists) (v .text)) (grow-record i e _ (v .rules))
 
-      grow-rewritten : (v : Sheet) → Stays (rewrittenRule s flags verdicts xs (ruleCaps k) i e h c v) (rewrittenRule s flags verdicts xs (ruleCaps l) i e h c v)
-      unfolding rewrittenRule
-      grow-rewritten v =
-          stays-next (stays-onto (λ t. sheet (v .rules) (v .lists) t) (stays-written 4 e (omega arith) (grown-append textFormat (k .c4) (l .c4) (w .w4) (unescaped s flags i c) (v .text))))
-          (λ _ u. grow-with _ _ u)
+    grow-listed : (g : ℕ) (v : Sheet) → Stays (listedRule asked (ruleCaps k) i e h c xs g v) (listedRule asked (ruleCaps l) i e h c xs g v)
+    unfolding listedRule
+    grow-listed g v = stays-next (stays-onto (λ ids. sheet (v .rules) ids (v .text)) (grow-entries k l w (asked .source) xs i g (v .lists))) (λ _ u. grow-with _ _ u)
 
-      grow-pattern : (v : Sheet) → Stays (pattern s flags verdicts xs (ruleCaps k) i e h c v) (pattern s flags verdicts xs (ruleCaps l) i e h c v)
-      grow-pattern v = by (bodyOf s i c) refl
-        where
-          both : {o p x y : Out Sheet} → o ≡ x → p ≡ y → Stays x y → Stays o p
-          both {p = p} {x = x} e f q = subst⁻¹ (λ (z : Out Sheet). Stays z p) e (subst⁻¹ (Stays x) f q)
+    grow-rewritten : (v : Sheet) → Stays (rewrittenRule asked (ruleCaps k) i e h c v) (rewrittenRule asked (ruleCaps l) i e h c v)
+    unfolding rewrittenRule
+    grow-rewritten v =
+        stays-next (stays-onto (λ t. sheet (v .rules) (v .lists) t) (stays-written 4 e (omega arith) (grown-append textFormat (k .c4) (l .c4) (w .w4) (unescaped (asked .source) (asked .options .flags) i c) (v .text))))
+        (λ _ u. grow-with _ _ u)
 
-          by : (b : Body) → bodyOf s i c ≡ b → Stays (pattern s flags verdicts xs (ruleCaps k) i e h c v) (pattern s flags verdicts xs (ruleCaps l) i e h c v)
-          by Unclosed q = both (pattern-is-unclosed s flags verdicts xs (ruleCaps k) i e h c v q) (pattern-is-unclosed s flags verdicts xs (ruleCaps l) i e h c v q) (stays-bad InvalidStartState i v)
-          by (Listed g) q = both (pattern-is-listed s flags verdicts xs (ruleCaps k) i e h c v g q) (pattern-is-listed s flags verdicts xs (ruleCaps l) i e h c v g q) (grow-listed g v)
-          by Rewritten q = both (pattern-is-rewritten s flags verdicts xs (ruleCaps k) i e h c v q) (pattern-is-rewritten s flags verdicts xs (ruleCaps l) i e h c v q) (grow-rewritten v)
-          by Plain q = both (pattern-is-plain s flags verdicts xs (ruleCaps k) i e h c v q) (pattern-is-plain s flags verdicts xs (ruleCaps l) i e h c v q) (grow-with _ _ v)
+    grow-pattern : (v : Sheet) → Stays (pattern asked (ruleCaps k) i e h c xs v) (pattern asked (ruleCaps l) i e h c xs v)
+    grow-pattern v = by (bodyOf (asked .source) i c) refl
+      where
+        both : {o p x y : Out Sheet} → o ≡ x → p ≡ y → Stays x y → Stays o p
+        both {p = p} {x = x} e f q = subst⁻¹ (λ (z : Out Sheet). Stays z p) e (subst⁻¹ (Stays x) f q)
 
-    grow-rule : (i e : ℕ) (x : Heading) (r : Ruled) → Stays (ruleAs s flags verdicts xs (ruleCaps k) (k .c6) i e x r) (ruleAs s flags verdicts xs (ruleCaps l) (l .c6) i e x r)
-    unfolding ruleAs
-    grow-rule i e (Faulty kind at) r = stays-bad kind at r
-    grow-rule i e (Repeated x y a z) r = stays-onto (withFaults r) (stays-written 6 e (omega arith) (grown-repeat (k .c6) (l .c6) (w .w6) DuplicateName x y a z (r .faults)))
-    grow-rule i e (Fresh b h) r = stays-onto (withSheet r) (grow-pattern i e h _ (sheetOf r))
+        by : (b : Body) → bodyOf (asked .source) i c ≡ b → Stays (pattern asked (ruleCaps k) i e h c xs v) (pattern asked (ruleCaps l) i e h c xs v)
+        by Unclosed q = both (pattern-is-unclosed asked (ruleCaps k) i e h c xs v q) (pattern-is-unclosed asked (ruleCaps l) i e h c xs v q) (stays-bad InvalidStartState i v)
+        by (Listed g) q = both (pattern-is-listed asked (ruleCaps k) i e h c xs v g q) (pattern-is-listed asked (ruleCaps l) i e h c xs v g q) (grow-listed g v)
+        by Rewritten q = both (pattern-is-rewritten asked (ruleCaps k) i e h c xs v q) (pattern-is-rewritten asked (ruleCaps l) i e h c xs v q) (grow-rewritten v)
+        by Plain q = both (pattern-is-plain asked (ruleCaps k) i e h c xs v q) (pattern-is-plain asked (ruleCaps l) i e h c xs v q) (grow-with _ _ v)
 
-    grow-line : (i e : ℕ) (r : Ruled) → Stays (line s flags verdicts xs (ruleCaps k) (k .c6) i e r) (line s flags verdicts xs (ruleCaps l) (l .c6) i e r)
-    unfolding line rule
-    grow-line i e r =
-        stays-if (atWhitespace s i) (stays-onto (withFaults r) (stays-written 6 e (omega arith) (grown-fault (k .c6) (l .c6) (w .w6) VerbatimNotSupported i e (r .faults)))) (grow-rule i e _ r)
+  grow-rule : (i e : ℕ) (x : Heading) (r : Ruled) → Stays (ruleAs asked xs (ruleCaps k) (k .c6) i e x r) (ruleAs asked xs (ruleCaps l) (l .c6) i e x r)
+  unfolding ruleAs
+  grow-rule i e (Faulty kind at) r = stays-bad kind at r
+  grow-rule i e (Repeated x y a z) r = stays-onto (withFaults r) (stays-written 6 e (omega arith) (grown-repeat (k .c6) (l .c6) (w .w6) DuplicateName x y a z (r .faults)))
+  grow-rule i e (Fresh b h) r = stays-onto (withSheet r) (grow-pattern i e h _ (sheetOf r))
 
-    grow-rules : (i : ℕ) (r : Ruled) → Stays (rulesSection s flags verdicts xs (ruleCaps k) (k .c6) i r) (rulesSection s flags verdicts xs (ruleCaps l) (l .c6) i r)
-    unfolding rulesSection rules nextRule routines
-    grow-rules i r =
-        stays-next (stays-loop _ _ _ (λ j t. stays-next (grow-line j (lineEnd s j) t) (λ p q. stays-go (toRule s flags (lineEnd s j)) q)) (length s) _ r) (λ j t. stays-if (hasRoutines s j) (stays-bad _ _ t) (stays-go _ t))
+  grow-line : (i e : ℕ) (r : Ruled) → Stays (line asked xs (ruleCaps k) (k .c6) i e r) (line asked xs (ruleCaps l) (l .c6) i e r)
+  unfolding line rule
+  grow-line i e r =
+      stays-if (atWhitespace (asked .source) i) (stays-onto (withFaults r) (stays-written 6 e (omega arith) (grown-fault (k .c6) (l .c6) (w .w6) VerbatimNotSupported i e (r .faults)))) (grow-rule i e _ r)
+
+  grow-rules : (i : ℕ) (r : Ruled) → Stays (rulesSection asked xs (ruleCaps k) (k .c6) i r) (rulesSection asked xs (ruleCaps l) (l .c6) i r)
+  unfolding rulesSection rules nextRule routines
+  grow-rules i r =
+      stays-next (stays-loop _ _ _ (λ j t. stays-next (grow-line j (lineEnd (asked .source) j) t) (λ p q. stays-go (toRule (asked .source) (asked .options .flags) (lineEnd (asked .source) j)) q)) (length (asked .source)) _ r) (λ j t. stays-if (hasRoutines (asked .source) j) (stays-bad _ _ t) (stays-go _ t))
 
 -- ---- the file
 
@@ -284,27 +289,27 @@ settled-ending faults c d w {o = go i s} h k = rw (h .kept) (k i s)
 settled-ending faults c d w {o = bad kind at s} h k = rw (h .kept) (settled-closed _ _ (grown-fault c d w kind at at (faults s)))
 settled-ending faults c d w {o = full n} h k = record { kept = h .kept }
 
-module _ (k l : Caps) (w : Wider k l) (s : List ℕ) (flags : ℕ) (verdicts : List ℕ) where
-  grow-opening : Stays (opening s flags (declarationCaps k) undeclared) (opening s flags (declarationCaps l) undeclared)
+module _ (k l : Caps) (w : Wider k l) (asked : Request) where
+  grow-opening : Stays (opening (asked .source) (asked .options) (declarationCaps k) undeclared) (opening (asked .source) (asked .options) (declarationCaps l) undeclared)
   unfolding opening
   grow-opening =
       stays-next (stays-onto (withStates undeclared) (stays-written 1 0 (omega arith) (grown-append stateFormat (k .c1) (l .c1) (w .w1) (state 0 0 0 ∷ []) (undeclared .states))))
-      (λ i d. grow-declarations k l w s flags i d)
+      (λ i d. grow-declarations k l w (asked .source) (asked .options) i d)
 
-  grow-file : Settled (file s flags verdicts k) (file s flags verdicts l)
+  grow-file : Settled (file asked k) (file asked l)
   unfolding file rulesFrom
   grow-file =
       settled-ending (λ d. d .faults) (k .c6) (l .c6) (w .w6) grow-opening
-      (λ i d. settled-ending (λ r. r .faults) (k .c6) (l .c6) (w .w6) (grow-rules k l w s flags verdicts (d .states) i (noRules d)) (λ j r. settled-judge (contentsOf d r)))
+      (λ i d. settled-ending (λ r. r .faults) (k .c6) (l .c6) (w .w6) (grow-rules k l w asked (d .states) i (noRules d)) (λ j r. settled-judge (contentsOf d r)))
 
   -- an outcome without a full area is the same in larger areas
-  pub larger : Settled (outcome s flags verdicts k) (outcome s flags verdicts l)
+  pub larger : Settled (outcome asked k) (outcome asked l)
   unfolding outcome
   larger =
-      settled-if (ltb 65535 (length s)) (record { kept = refl })
-      (settled-if (ltb 3 flags) (record { kept = refl }) (settled-if (utf8 s) grow-file (record { kept = refl })))
+      settled-if (ltb 65535 (length (asked .source))) (record { kept = refl })
+      (settled-if (ltb 3 (asked .options .flags)) (record { kept = refl }) (settled-if (utf8 (asked .source)) grow-file (record { kept = refl })))
 
 -- whatever the areas had, an accepted outcome is the file's meaning
-pub accepted-meaning : (s : List ℕ) (flags : ℕ) (verdicts : List ℕ) (k : Caps) (c : Contents) → outcome s flags verdicts k ≡ accepted c → meaning s flags verdicts ≡ accepted c
+pub accepted-meaning : (asked : Request) (k : Caps) (c : Contents) → outcome asked k ≡ accepted c → meaning asked ≡ accepted c
 unfolding meaning
-accepted-meaning s flags verdicts k c e = subst (λ (o : Outcome). Settled o (outcome s flags verdicts limits)) e (larger k limits (limits-wide k) s flags verdicts) .kept
+accepted-meaning asked k c e = subst (λ (o : Outcome). Settled o (outcome asked limits)) e (larger k limits (limits-wide k) asked) .kept

@@ -24,6 +24,7 @@ use Rattle.fault.specs.Step.{Out, go, bad, next, onto, written}
 use Rattle.fault.specs.Faults.{addFault, addRepeat, UnknownStartState, DuplicateName, RegexError, RoutinesNotSupported, VerbatimNotSupported}
 use Rattle.names.specs.Names.{nameOf}
 use Rattle.escape.specs.Escape.{unescaped}
+use Rattle.section.specs.Request.{Request}
 use Rattle.section.specs.Section.{toRule, inSection, hasRoutines}
 use Rattle.rules.specs.declared.Head.{Head}
 use Rattle.rules.specs.declared.Heading.{Heading}
@@ -153,24 +154,24 @@ module _ (s : List ℕ) (m a b : ℕ) where
     target = g .target;
   }
 
-module _ (s : List ℕ) (flags : ℕ) (verdicts : List ℕ) (xs : List State) (k : Caps) (i e : ℕ) where
+module _ (asked : Request) (xs : List State) (k : Caps) (i e : ℕ) where
   abbrev Sheets : ℕ → Sheet → Type 0
-  Sheets j w = SheetHolds s (length xs) k w
+  Sheets j w = SheetHolds (asked .source) (length xs) k w
 
-  module _ (w : Sheet) (holds : SheetHolds s (length xs) k w) (h : Head) (head : HeadHolds s (length xs) (w .rules) h) (c : ℕ) (cl : c ≤ length s) where
+  module _ (w : Sheet) (holds : SheetHolds (asked .source) (length xs) k w) (h : Head) (head : HeadHolds (asked .source) (length xs) (w .rules) h) (c : ℕ) (cl : c ≤ length (asked .source)) where
     -- the rule of a text and a list, behind list entries and text that hold and are no fewer
-    with-kept : (x : Text) (y : StateList) (ids t : List ℕ) → x .place ≤ 1 → x .from + x .length ≤ cond (eqb (x .place) 1) (length t) (length s) → y .from + y .count ≤ length ids
+    with-kept : (x : Text) (y : StateList) (ids t : List ℕ) → x .place ≤ 1 → x .from + x .length ≤ cond (eqb (x .place) 1) (length t) (length (asked .source)) → y .from + y .count ≤ length ids
         → EntriesFrom (length (w .lists)) (length xs) (k .c3) ids → length (w .text) ≤ length t → TextHolds (k .c4) t
-        → Yields Sheets (withRule s flags verdicts xs k i e h c x y (sheet (w .rules) ids t))
+        → Yields Sheets (withRule asked k i e h x y (sheet (w .rules) ids t))
     unfolding withRule
     with-kept x y ids t px tx ly g longer holds-text =
         let a = length ids in
         let b = length t in
         let z = R.ruleOf h (length (w .rules)) x y in
-        yields-onto (λ _ rs. RulesHold s (length xs) a b (k .c2) rs) Sheets (λ rs. sheet rs ids t) (recordRule verdicts (k .c2) i e z (w .rules))
-        (record-kept s (length xs) a b verdicts (k .c2) i e z (w .rules)
-        (rules-weaken s (length xs) (length (w .lists)) (length (w .text)) (k .c2) (w .rules) a b (g .longer) longer (holds .rules))
-        (rule-of s (length xs) a b (w .rules) h head x y px tx ly) (head .unused))
+        yields-onto (λ _ rs. RulesHold (asked .source) (length xs) a b (k .c2) rs) Sheets (λ rs. sheet rs ids t) (recordRule (asked .verdicts) (k .c2) i e z (w .rules))
+        (record-kept (asked .source) (length xs) a b (asked .verdicts) (k .c2) i e z (w .rules)
+        (rules-weaken (asked .source) (length xs) (length (w .lists)) (length (w .text)) (k .c2) (w .rules) a b (g .longer) longer (holds .rules))
+        (rule-of (asked .source) (length xs) a b (w .rules) h head x y px tx ly) (head .unused))
         (λ _ rs r. record { rules = r; lists = g .hold; text = holds-text })
 
     same-entries : EntriesFrom (length (w .lists)) (length xs) (k .c3) (w .lists)
@@ -182,80 +183,80 @@ module _ (s : List ℕ) (flags : ℕ) (verdicts : List ℕ) (xs : List State) (k
     then-kept P f o g h then =
         yields-next (λ j v. Yields Sheets (g j v)) Sheets (onto f o) g (yields-onto P (λ j v. Yields Sheets (g j v)) f o h then) (λ _ _ y. y)
 
-    listed-kept : (g : ℕ) → g < c → Yields Sheets (listedRule s flags verdicts xs k i e h c g w)
+    listed-kept : (g : ℕ) → g < c → Yields Sheets (listedRule asked k i e h c xs g w)
     unfolding listedRule
     listed-kept g gc =
-        then-kept (λ _ ids. EntriesFrom (length (w .lists)) (length xs) (k .c3) ids) (λ ids. sheet (w .rules) ids (w .text)) (entries s (k .c3) xs i g (w .lists))
-        (λ _ v. withRule s flags verdicts xs k i e h c (sourceText (g + 1) c) (listSince w v) v) (entries-kept s (k .c3) (length (w .lists)) xs i g (w .lists) same-entries)
+        then-kept (λ _ ids. EntriesFrom (length (w .lists)) (length xs) (k .c3) ids) (λ ids. sheet (w .rules) ids (w .text)) (entries (asked .source) (k .c3) xs i g (w .lists))
+        (λ _ v. withRule asked k i e h (sourceText (g + 1) c) (listSince w v) v) (entries-kept (asked .source) (k .c3) (length (w .lists)) xs i g (w .lists) same-entries)
         (λ _ ids f. with-kept (sourceText (g + 1) c) (listSince w (sheet (w .rules) ids (w .text))) ids (w .text) (omega arith) (omega arith) (omega (arith, f .longer)) f (le-refl (length (w .text))) (holds .text))
 
-    rewritten-kept : all isByte s ≡ true → Yields Sheets (rewrittenRule s flags verdicts xs k i e h c w)
+    rewritten-kept : all isByte (asked .source) ≡ true → Yields Sheets (rewrittenRule asked k i e h c w)
     unfolding rewrittenRule
     rewritten-kept source =
-        let u = unescaped s flags i c in
+        let u = unescaped (asked .source) (asked .options .flags) i c in
         then-kept (λ _ t. (length (w .text) ≤ length t) × TextHolds (k .c4) t) (λ t. sheet (w .rules) (w .lists) t) (written 4 e (append textFormat (k .c4) u (w .text)))
-        (λ _ v. withRule s flags verdicts xs k i e h c (textSince w v) (noList w) v)
+        (λ _ v. withRule asked k i e h (textSince w v) (noList w) v)
         (yields-append (λ _ t. (length (w .text) ≤ length t) × TextHolds (k .c4) t) textFormat (k .c4) 4 e u (w .text)
-        (λ f. (omega (arith, length-append (w .text) u), record { bytes = all-append isByte (w .text) u (holds .text .bytes) (unescaped-bytes s flags c source i); fits = f })))
+        (λ f. (omega (arith, length-append (w .text) u), record { bytes = all-append isByte (w .text) u (holds .text .bytes) (unescaped-bytes (asked .source) (asked .options .flags) c source i); fits = f })))
         (λ _ t f. with-kept (textSince w (sheet (w .rules) (w .lists) t)) (noList w) (w .lists) t (omega arith) (omega (arith, f .0)) (omega arith) same-entries (f .0) (f .1))
 
-    pattern-kept : all isByte s ≡ true → i ≤ length s → Yields Sheets (pattern s flags verdicts xs k i e h c w)
+    pattern-kept : all isByte (asked .source) ≡ true → i ≤ length (asked .source) → Yields Sheets (pattern asked k i e h c xs w)
     pattern-kept source il =
-        pattern-cases s flags verdicts xs k i e h c w (Yields Sheets) tt (λ g _ gc. listed-kept g gc) (rewritten-kept source)
+        pattern-cases asked k i e h c xs w (Yields Sheets) tt (λ g _ gc. listed-kept g gc) (rewritten-kept source)
         (with-kept (sourceText i c) (noList w) (w .lists) (w .text) (omega arith) (omega arith) (omega arith) same-entries (le-refl (length (w .text))) (holds .text))
 
 -- ---- a line, and the section
 
-module _ (s : List ℕ) (flags : ℕ) (verdicts : List ℕ) (xs : List State) (stated : 0 < length xs) (source : all isByte s ≡ true) (k : Caps) (c6 : ℕ) where
+module _ (asked : Request) (xs : List State) (stated : 0 < length xs) (source : all isByte (asked .source) ≡ true) (k : Caps) (c6 : ℕ) where
   abbrev Lined : ℕ → Ruled → Type 0
-  Lined i r = SheetHolds s (length xs) k (sheetOf r)
+  Lined i r = SheetHolds (asked .source) (length xs) k (sheetOf r)
 
   -- a step that writes faults only
   faults-kept : (e : ℕ) (r : Ruled) (o : Option (List Fault)) → Lined e r → Yields Lined (onto (withFaults r) (written 6 e o))
   faults-kept e r none h = tt
   faults-kept e r (some fs) h = h
 
-  as-kept : (i e : ℕ) → i ≤ e → e ≤ length s → (r : Ruled) → Lined i r → (x : Heading) → headingOf s i (trimEnd s i e) xs (r .rules) ≡ x → Yields Lined (ruleAs s flags verdicts xs k c6 i e x r)
+  as-kept : (i e : ℕ) → i ≤ e → e ≤ length (asked .source) → (r : Ruled) → Lined i r → (x : Heading) → headingOf (asked .source) i (trimEnd (asked .source) i e) xs (r .rules) ≡ x → Yields Lined (ruleAs asked xs k c6 i e x r)
   unfolding ruleAs trimEnd
   as-kept i e a l r h (Faulty kind at) q = tt
   as-kept i e a l r h (Repeated c d b z) q = faults-kept e r (addRepeat c6 DuplicateName c d b z (r .faults)) h
   as-kept i e a l r h (Fresh b hd) q =
-      let t = trimEnd s i e in
+      let t = trimEnd (asked .source) i e in
       let tl : t ≤ e = first-to _ i e a in
-      let bi : i ≤ b = fresh-from s i t xs (r .rules) (Fresh b hd) (sym q) b hd refl in
-      let bt : b < t = fresh-to s i t xs (r .rules) (Fresh b hd) (sym q) b hd refl in
-      let c = trimEndUnescaped s i b in
-      yields-onto (Sheets s flags verdicts xs k i e) Lined (withSheet r) (pattern s flags verdicts xs k i e hd c (sheetOf r))
-      (pattern-kept s flags verdicts xs k i e (sheetOf r) h hd (heading-holds s xs stated (r .rules) i t (omega arith) b hd q) c (pattern-to s i b bi (omega arith)) source (omega arith))
+      let bi : i ≤ b = fresh-from (asked .source) i t xs (r .rules) (Fresh b hd) (sym q) b hd refl in
+      let bt : b < t = fresh-to (asked .source) i t xs (r .rules) (Fresh b hd) (sym q) b hd refl in
+      let c = trimEndUnescaped (asked .source) i b in
+      yields-onto (Sheets asked xs k i e) Lined (withSheet r) (pattern asked k i e hd c xs (sheetOf r))
+      (pattern-kept asked xs k i e (sheetOf r) h hd (heading-holds (asked .source) xs stated (r .rules) i t (omega arith) b hd q) c (pattern-to (asked .source) i b bi (omega arith)) source (omega arith))
       (λ _ w g. g)
 
-  line-kept : (i e : ℕ) → i ≤ e → e ≤ length s → (r : Ruled) → Lined i r → Yields Lined (line s flags verdicts xs k c6 i e r)
+  line-kept : (i e : ℕ) → i ≤ e → e ≤ length (asked .source) → (r : Ruled) → Lined i r → Yields Lined (line asked xs k c6 i e r)
   unfolding line rule
   line-kept i e a l r h =
-      by-test (Yields Lined) (atWhitespace s i) (onto (withFaults r) (written 6 e (addFault c6 VerbatimNotSupported i e (r .faults)))) (rule s flags verdicts xs k c6 i e r)
+      by-test (Yields Lined) (atWhitespace (asked .source) i) (onto (withFaults r) (written 6 e (addFault c6 VerbatimNotSupported i e (r .faults)))) (rule asked xs k c6 i e r)
       (λ _. faults-kept e r (addFault c6 VerbatimNotSupported i e (r .faults)) h)
-      (λ _. as-kept i e a l r h (headingOf s i (trimEnd s i e) xs (r .rules)) refl)
+      (λ _. as-kept i e a l r h (headingOf (asked .source) i (trimEnd (asked .source) i e) xs (r .rules)) refl)
 
   -- between two lines, and at the section's end, the place is within the source
   abbrev Placed : ℕ → Ruled → Type 0
-  Placed i r = (i ≤ length s) × SheetHolds s (length xs) k (sheetOf r)
+  Placed i r = (i ≤ length (asked .source)) × SheetHolds (asked .source) (length xs) k (sheetOf r)
 
-  rule-kept : (i : ℕ) (r : Ruled) → Placed i r → Yields Placed (nextRule s flags verdicts xs k c6 i r)
+  rule-kept : (i : ℕ) (r : Ruled) → Placed i r → Yields Placed (nextRule asked xs k c6 i r)
   unfolding nextRule
   rule-kept i r h =
-      let e = lineEnd s i in
-      let l : e ≤ length s = first-to (atLineEnd s) i (length s) (h .0) in
-      yields-next Lined Placed (line s flags verdicts xs k c6 i e r) (λ _ t. go (toRule s flags e) t) (line-kept i e (first-from (atLineEnd s) i (length s)) l r (h .1))
-      (λ _ t g. (rule-to s flags e l, g))
+      let e = lineEnd (asked .source) i in
+      let l : e ≤ length (asked .source) = first-to (atLineEnd (asked .source)) i (length (asked .source)) (h .0) in
+      yields-next Lined Placed (line asked xs k c6 i e r) (λ _ t. go (toRule (asked .source) (asked .options .flags) e) t) (line-kept i e (first-from (atLineEnd (asked .source)) i (length (asked .source))) l r (h .1))
+      (λ _ t g. (rule-to (asked .source) (asked .options .flags) e l, g))
 
-  routines-kept : (i : ℕ) (r : Ruled) → Placed i r → Yields Lined (routines s i r)
+  routines-kept : (i : ℕ) (r : Ruled) → Placed i r → Yields Lined (routines (asked .source) i r)
   unfolding routines
-  routines-kept i r h = by-test (Yields Lined) (hasRoutines s i) (bad RoutinesNotSupported i r) (go i r) (λ _. tt) (λ _. h .1)
+  routines-kept i r h = by-test (Yields Lined) (hasRoutines (asked .source) i) (bad RoutinesNotSupported i r) (go i r) (λ _. tt) (λ _. h .1)
 
   -- the section keeps what holds at its start
-  pub rules-hold : (i : ℕ) (r : Ruled) → i ≤ length s → SheetHolds s (length xs) k (sheetOf r) → Yields (λ _ t. SheetHolds s (length xs) k (sheetOf t)) (rulesSection s flags verdicts xs k c6 i r)
+  pub rules-hold : (i : ℕ) (r : Ruled) → i ≤ length (asked .source) → SheetHolds (asked .source) (length xs) k (sheetOf r) → Yields (λ _ t. SheetHolds (asked .source) (length xs) k (sheetOf t)) (rulesSection asked xs k c6 i r)
   unfolding rulesSection rules
   rules-hold i r l h =
-      yields-next Placed Lined (rules s flags verdicts xs k c6 i r) (routines s)
-      (yields-loop Placed (inSection s) (nextRule s flags verdicts xs k c6) (λ j t _ g. rule-kept j t g) (length s) (toRule s flags i) r (rule-to s flags i l, h))
+      yields-next Placed Lined (rules asked xs k c6 i r) (routines (asked .source))
+      (yields-loop Placed (inSection (asked .source)) (nextRule asked xs k c6) (λ j t _ g. rule-kept j t g) (length (asked .source)) (toRule (asked .source) (asked .options .flags) i) r (rule-to (asked .source) (asked .options .flags) i l, h))
       routines-kept

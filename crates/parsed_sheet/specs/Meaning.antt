@@ -1,7 +1,7 @@
 -- The meaning of a file, whatever areas a parse is lent: its outcome where each area has as many bytes as its limit allows (01, Areas).
 use Prim.Native.Nat.{ℕ, _*_}
-use mathlib.Core.List.{List}
 use Rattle.area.specs.Contents.{Format, stateFormat, ruleFormat, entryFormat, textFormat, expectedFormat, faultFormat}
+use Rattle.section.specs.Request.{Request}
 use Rattle.parse.specs.Parse.{Caps, caps, Outcome, outcome}
 
 -- the bytes of as many records as an area may have
@@ -11,5 +11,5 @@ whole F = F .most * F .width
 abbrev pub limits : Caps
 limits = caps (whole stateFormat) (whole ruleFormat) (whole entryFormat) (whole textFormat) (whole expectedFormat) (whole faultFormat)
 
-unfoldable pub meaning : List ℕ → ℕ → List ℕ → Outcome
-meaning s flags verdicts = outcome s flags verdicts limits
+unfoldable pub meaning : Request → Outcome
+meaning q = outcome q limits

@@ -7,6 +7,7 @@ use native.Mathlib.Omega.{arith}
 use lib.ListN.{length}
 use lib.Seq.{length-take-le, take-at}
 use borrow.Rule.Slice.PartMut.{midOf, putMid, postOf}
+use Rattle.section.specs.Request.{Request}
 use Rattle.parse.specs.Parse.{Outcome, Caps, caps, longFile, unknownFlag, invalidUtf8, areaFull, faulty, accepted, outcome, leaves, parseCall}
 use Rattle.troymantle.specs.Words.{LeftInWords, leftInWords, inWords}
 use Rattle.recorded.specs.Records.{lentAt}
@@ -23,9 +24,9 @@ leaves-six k (areaFull n) = refl
 leaves-six k (faulty fs) = refl
 leaves-six k (accepted b) = refl
 
-call-six : (s : List ℕ) (flags : ℕ) (verdicts : List ℕ) (k : Caps) (y : LeftInWords) → y ≡ inWords (parseCall s flags verdicts k) → length (y .counts) ≡ 6
+call-six : (asked : Request) (k : Caps) (y : LeftInWords) → y ≡ inWords (parseCall asked k) → length (y .counts) ≡ 6
 unfolding parseCall
-call-six s flags verdicts k y e = ap (λ (z : LeftInWords). length (z .counts)) e ∙ leaves-six k (outcome s flags verdicts k)
+call-six asked k y e = ap (λ (z : LeftInWords). length (z .counts)) e ∙ leaves-six k (outcome asked k)
 
 -- ---- a part of a buffer that was lent, and came back
 
@@ -50,19 +51,19 @@ module _ {l : List ℕ} {at k : ℕ} {b x : List ℕ} {c : ℕ} (h : Returned l 
   front-back : front l at k (withPart c b x) ≡ x
   front-back = take-at x (postOf 0 (c - 0) b) _ (h .kept .0 ∙ part-length)
 
-module _ (s : List ℕ) (flags : ℕ) (verdicts l : List ℕ) (at word : ℕ) (n : List ℕ)
+module _ (asked : Request) (l : List ℕ) (at word : ℕ) (n : List ℕ)
     (b1 b2 b3 b4 b5 b6 x1 x2 x3 x4 x5 x6 : List ℕ) (c1 c2 c3 c4 c5 c6 : ℕ) where
   pub called : leftInWords word n x1 x2 x3 x4 x5 x6
-      ≡ inWords (parseCall s flags verdicts (caps (length (lentPart c1 b1)) (length (lentPart c2 b2)) (length (lentPart c3 b3))
+      ≡ inWords (parseCall asked (caps (length (lentPart c1 b1)) (length (lentPart c2 b2)) (length (lentPart c3 b3))
       (length (lentPart c4 b4)) (length (lentPart c5 b5)) (length (lentPart c6 b6))))
       → Returned l at 0 b1 x1 c1 → Returned l at 1 b2 x2 c2 → Returned l at 2 b3 x3 c3
       → Returned l at 3 b4 x4 c4 → Returned l at 4 b5 x5 c5 → Returned l at 5 b6 x6 c6
-      → Called s flags verdicts l at word n (withPart c1 b1 x1) (withPart c2 b2 x2) (withPart c3 b3 x3)
+      → Called asked l at word n (withPart c1 b1 x1) (withPart c2 b2 x2) (withPart c3 b3 x3)
       (withPart c4 b4 x4) (withPart c5 b5 x5) (withPart c6 b6 x6)
   called e h1 h2 h3 h4 h5 h6 = record {
-    six = call-six s flags verdicts _ _ e;
+    six = call-six asked _ _ e;
     left-is = (λ i. leftInWords word n (front-back h1 i) (front-back h2 i) (front-back h3 i) (front-back h4 i) (front-back h5 i) (front-back h6 i))
         ∙ e
-        ∙ (λ i. inWords (parseCall s flags verdicts
+        ∙ (λ i. inWords (parseCall asked
         (caps (part-length h1 i) (part-length h2 i) (part-length h3 i) (part-length h4 i) (part-length h5 i) (part-length h6 i))));
   }

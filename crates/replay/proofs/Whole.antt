@@ -11,6 +11,7 @@ use lib.Seq.{take-all}
 use borrow.Author.Tests.{leb-true, leb-false}
 use Rattle.text.specs.Range.{part}
 use Rattle.area.proofs.Contents.{listOf-is}
+use Rattle.section.specs.Request.{Request, request, options}
 use Rattle.parse.specs.Parse.{Caps, caps, parseCall}
 use Rattle.troymantle.specs.Words.{leftInWords, inWords}
 use Rattle.recorded.specs.declared.compared.Compared.{Compared}
@@ -25,10 +26,10 @@ counts-listed : (l : List ℕ) (lengths word : ℕ) (counts : List ℕ) → leng
     → countsAt l lengths ≡ counts
 counts-listed l lengths word counts h n = listOf-is _ 0 counts 6 (sym h) (λ k g. sym (n .counts-are .are k (omega (arith, h))))
 
-module _ (src : List ℕ) (flags : ℕ) (verdicts l : List ℕ) (lengths word : ℕ) (counts e1 e2 e3 e4 e5 e6 : List ℕ) where
-  left-agrees : Called src flags verdicts l lengths word counts e1 e2 e3 e4 e5 e6 → LeftIs l lengths word counts e1 e2 e3 e4 e5 e6
+module _ (asked : Request) (l : List ℕ) (lengths word : ℕ) (counts e1 e2 e3 e4 e5 e6 : List ℕ) where
+  left-agrees : Called asked l lengths word counts e1 e2 e3 e4 e5 e6 → LeftIs l lengths word counts e1 e2 e3 e4 e5 e6
       → recorded l lengths (sizes e1 e2 e3 e4 e5 e6)
-      ≡ inWords (parseCall src flags verdicts (recordedCaps l lengths (sizes e1 e2 e3 e4 e5 e6)))
+      ≡ inWords (parseCall asked (recordedCaps l lengths (sizes e1 e2 e3 e4 e5 e6)))
   left-agrees d q =
       let listed = counts-listed l lengths word counts (d .six) (q .numbers) in
       let first = q .first in
@@ -39,7 +40,7 @@ module _ (src : List ℕ) (flags : ℕ) (verdicts l : List ℕ) (lengths word : 
 
 module _ (src l : List ℕ) (at flags v from lengths word : ℕ) (counts e1 e2 e3 e4 e5 e6 : List ℕ) (m1 m2 m3 m4 m5 m6 : ℕ) (r : Compared) where
   pub record-compared : at ≤ length l → flags ≡ longAt l at → Skips l at 8 v → Skips l v 4 from → Ends l v lengths
-      → Called src flags (take (lengths - from) (drop from l)) l lengths word counts e1 e2 e3 e4 e5 e6
+      → Called (request src (options flags) (take (lengths - from) (drop from l))) l lengths word counts e1 e2 e3 e4 e5 e6
       → length e1 ≡ m1 → length e2 ≡ m2 → length e3 ≡ m3 → length e4 ≡ m4 → length e5 ≡ m5 → length e6 ≡ m6
       → Compares (LeftIs l lengths word counts e1 e2 e3 e4 e5 e6) l lengths (areasEnd l lengths) r
       → Compares (Agrees src l at (caps m1 m2 m3 m4 m5 m6)) l at (recordEnd l at) r
@@ -49,13 +50,13 @@ module _ (src l : List ℕ) (at flags v from lengths word : ℕ) (counts e1 e2 e
       let zl : lengths ≡ lengthsAt l at = ql .is ∙ ap (bytesEnd l) zv in
       let zm : from ≡ skipTo l (skipTo l at 8) 4 = qm .is ∙ ap (λ (j : ℕ). skipTo l j 4) zv in
       let zs : sizes e1 e2 e3 e4 e5 e6 ≡ caps m1 m2 m3 m4 m5 m6 = λ i. caps (h1 i) (h2 i) (h3 i) (h4 i) (h5 i) (h6 i) in
-      let left = left-agrees src flags (take (lengths - from) (drop from l)) l lengths word counts e1 e2 e3 e4 e5 e6 d in
+      let left = left-agrees (request src (options flags) (take (lengths - from) (drop from l))) l lengths word counts e1 e2 e3 e4 e5 e6 d in
       record {
         equal = record {
           holds = λ t. record {
             is = sym (λ i. recorded l (zl i) (zs i))
                 ∙ left (x .equal .holds t)
-                ∙ (λ i. inWords (parseCall src (qf i) (take (zl i - zm i) (drop (zm i) l)) (recordedCaps l (zl i) (zs i))));
+                ∙ (λ i. inWords (parseCall (request src (options (qf i)) (take (zl i - zm i) (drop (zm i) l))) (recordedCaps l (zl i) (zs i))));
           };
         };
         is = x .is ∙ ap (λ (j : ℕ). areasEnd l j) zl;

@@ -5,6 +5,7 @@ use mathlib.Core.List.{List}
 use lib.ListN.{length, take}
 use Rattle.area.specs.Bytes.{fieldAt, pad}
 use Rattle.area.specs.Contents.{listOf}
+use Rattle.section.specs.Request.{Request, request, options}
 use Rattle.parse.specs.Parse.{Caps, caps, parseCall}
 use Rattle.troymantle.specs.Words.{LeftInWords, leftInWords, inWords}
 use Rattle.recorded.specs.Records.{numberAt, longAt, skipTo, bytesEnd, bytesAt, lentAt, wordAt, countsFrom, areasAt, fourthAt, areasEnd}
@@ -30,11 +31,11 @@ abbrev pub front : List ℕ → ℕ → ℕ → List ℕ → List ℕ
 front l lengths k e = take (lentAt l lengths k (length e)) e
 
 -- the call was made with these parts of the buffers, and left what the parse call leaves
-pub record Called (src : List ℕ) (flags : ℕ) (verdicts l : List ℕ) (lengths word : ℕ) (counts e1 e2 e3 e4 e5 e6 : List ℕ) : Type 0 where
+pub record Called (asked : Request) (l : List ℕ) (lengths word : ℕ) (counts e1 e2 e3 e4 e5 e6 : List ℕ) : Type 0 where
   pub six : length counts ≡ 6
   pub left-is : leftInWords word counts
       (front l lengths 0 e1) (front l lengths 1 e2) (front l lengths 2 e3) (front l lengths 3 e4) (front l lengths 4 e5) (front l lengths 5 e6)
-      ≡ inWords (parseCall src flags verdicts (recordedCaps l lengths (sizes e1 e2 e3 e4 e5 e6)))
+      ≡ inWords (parseCall asked (recordedCaps l lengths (sizes e1 e2 e3 e4 e5 e6)))
 
 -- ---- a record as a whole, from the place behind its source on
 
@@ -64,7 +65,7 @@ recorded l lengths m =
 -- what is recorded behind the source src is what the parse call leaves
 pub record Agrees (src l : List ℕ) (at : ℕ) (m : Caps) : Type 0 where
   pub is : recorded l (lengthsAt l at) m
-      ≡ inWords (parseCall src (longAt l at) (bytesAt l (skipTo l at 8)) (recordedCaps l (lengthsAt l at) m))
+      ≡ inWords (parseCall (request src (options (longAt l at)) (bytesAt l (skipTo l at 8))) (recordedCaps l (lengthsAt l at) m))
 
 -- where the next record stands
 abbrev pub recordEnd : List ℕ → ℕ → ℕ

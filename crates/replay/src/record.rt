@@ -1,6 +1,7 @@
 // A record replayed: its file is parsed anew, and what the call left is compared with what was recorded.
 ghost use Prim.Native.Nat.{_+_, _≤_, _<_};
 ghost use lib.ListN.{length, take};
+ghost use Rattle.section.specs.Request.{request, options};
 ghost use Rattle.output.specs.Contracts.{before, after};
 ghost use Rattle.recorded.specs.Comparison.{Compares};
 ghost use Rattle.recorded.specs.Records.{sourceAt, sourceEnd};
@@ -32,7 +33,7 @@ fn call(
 ) -> u64
     requires { ⌜ at ≤ length (now answers) ⌝ }
     ensures { λ r. ⌜
-        Called (before src) flags (before verdicts) (before answers) at r (after counts)
+        Called (request (before src) (options flags) (before verdicts)) (before answers) at r (after counts)
         (after area1) (after area2) (after area3) (after area4) (after area5) (after area6)
         ⌝ }
 {

@@ -2,6 +2,7 @@
 ghost use mathlib.Core.Path.{_≡_};
 ghost use Prim.Native.Nat.{_≤_};
 ghost use lib.ListN.{length};
+ghost use Rattle.area.specs.Contracts.{before};
 ghost use Rattle.rules.specs.Heading.{bodyOf};
 use crate::Body;
 use escape::is_rewritten;
@@ -11,7 +12,7 @@ use text::whitespace::byte_at;
 // The pattern from i to c. An empty one has no list, whatever byte stands behind it.
 pub fn body_of(src: &[u8], i: usize, c: usize) -> Body
     requires { ⌜ (i ≤ c) × (c ≤ length (now src)) ⌝ }
-    ensures { λ k. ⌜ k ≡ bodyOf (now (src .entry)) i c ⌝ }
+    ensures { λ k. ⌜ k ≡ bodyOf (before src) i c ⌝ }
 {
     if (i < c) & (byte_at(src, i) == b'<') {
         let g = find_byte(src, i, c, b'>');

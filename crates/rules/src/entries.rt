@@ -3,7 +3,8 @@ ghost use Prim.Native.Nat.{_≤_, _<_};
 ghost use lib.ListN.{length};
 ghost use Rattle.text.specs.Walk.{Between};
 ghost use Rattle.area.specs.Contents.{stateFormat, entryFormat, contents, Held};
-ghost use Rattle.fault.specs.Step.{Does, progress};
+ghost use Rattle.area.specs.Contracts.{before};
+ghost use Rattle.fault.specs.Contracts.{DoesRecords};
 ghost use Rattle.rules.specs.Rules.{entryId, nextEntry, entries};
 use area::Appended;
 use area::ENTRY_AREA;
@@ -19,7 +20,7 @@ use text::scan::trim_start;
 fn state_between(src: &[u8], a: usize, e: usize, area1: &[u8], n1: u16) -> usize
     requires { ⌜ (a ≤ e) × (e ≤ length (now src)) ⌝ }
     requires { ⌜ Held stateFormat (now area1) n1 ⌝ }
-    ensures { λ r. ⌜ Between 0 n1 (entryId (now (src .entry)) (contents stateFormat (now (area1 .entry)) n1) a e) r ⌝ }
+    ensures { λ r. ⌜ Between 0 n1 (entryId (before src) (contents stateFormat (before area1) n1) a e) r ⌝ }
 {
     let x = trim_start(src, a, e);
     get_start_state_by_name(src, x, trim_end(src, x, e), area1, n1)
@@ -39,7 +40,9 @@ fn next_entry(
     requires { ⌜ (a ≤ g) × (g < length (now src)) ⌝ }
     requires { ⌜ Held stateFormat (now area1) n1 ⌝ }
     requires { ⌜ Held entryFormat (now area3) n3 ⌝ }
-    ensures { λ r. ⌜ Does (Held entryFormat (now (area3 .exit))) (nextEntry (now (src .entry)) (length (now (area3 .entry))) (contents stateFormat (now (area1 .entry)) n1) i g a) (contents entryFormat (now (area3 .entry)) n3) (contents entryFormat (now (area3 .exit))) (progress r) ⌝ }
+    ensures { λ r. ⌜
+        DoesRecords entryFormat (λ c3. nextEntry (before src) c3 (contents stateFormat (before area1) n1) i g a) area3 n3 r
+        ⌝ }
 {
     let e = find_byte(src, a, g, b',');
     let j = state_between(src, a, e, area1, n1);
@@ -65,7 +68,7 @@ pub fn parse_start_states(
     requires { ⌜ ((i ≤ g) × (g < length (now src))) × (length (now src) ≤ 65535) ⌝ }
     requires { ⌜ Held stateFormat (now area1) n1 ⌝ }
     requires { ⌜ Held entryFormat (now area3) n3 ⌝ }
-    ensures { λ r. ⌜ Does (Held entryFormat (now (area3 .exit))) (entries (now (src .entry)) (length (now (area3 .entry))) (contents stateFormat (now (area1 .entry)) n1) i g) (contents entryFormat (now (area3 .entry)) n3) (contents entryFormat (now (area3 .exit))) (progress r) ⌝ }
+    ensures { λ r. ⌜ DoesRecords entryFormat (λ c3. entries (before src) c3 (contents stateFormat (before area1) n1) i g) area3 n3 r ⌝ }
 {
     let mut a = i + 1;
     let mut count = n3;

@@ -4,6 +4,7 @@ ghost use Prim.Native.Nat.{_+_, _-_, _≤_, _<_};
 ghost use lib.ListN.{length};
 ghost use Rattle.text.specs.Walk.{Between};
 ghost use Rattle.area.specs.Contents.{stateFormat, ruleFormat, contents, Held};
+ghost use Rattle.area.specs.Contracts.{before};
 ghost use Rattle.names.specs.Names.{findState};
 ghost use Rattle.names.specs.Marks.{Marked};
 ghost use Rattle.rules.specs.declared.Label.the-variants.{Named};
@@ -43,7 +44,7 @@ fn parse_start_state_ops(x: u8) -> u16
 // The operation of a target.
 fn target_operation(src: &[u8], r: usize) -> u16
     requires { ⌜ r < 65535 ⌝ }
-    ensures { λ k. ⌜ k ≡ targetOperation (now (src .entry)) r ⌝ }
+    ensures { λ k. ⌜ k ≡ targetOperation (before src) r ⌝ }
 {
     parse_start_state_ops(byte_at(src, r + 2))
 }
@@ -53,7 +54,7 @@ fn target_id(src: &[u8], r: usize, g: usize, operation: u16, area1: &[u8], n1: u
     requires { ⌜ ((r ≤ g) × (g < length (now src))) × (length (now src) ≤ 65535) ⌝ }
     requires { ⌜ operation ≡ targetOperation (now src) r ⌝ }
     requires { ⌜ Held stateFormat (now area1) n1 ⌝ }
-    ensures { λ k. ⌜ Between 0 n1 (findState (now (src .entry)) (targetName (now (src .entry)) r) g (contents stateFormat (now (area1 .entry)) n1)) k ⌝ }
+    ensures { λ k. ⌜ Between 0 n1 (findState (before src) (targetName (before src) r) g (contents stateFormat (before area1) n1)) k ⌝ }
 {
     if operation == 1 {
         return get_start_state_by_name(src, r + 2, g, area1, n1);
@@ -64,7 +65,7 @@ fn target_id(src: &[u8], r: usize, g: usize, operation: u16, area1: &[u8], n1: u
 fn target_of(src: &[u8], r: usize, t: usize, area1: &[u8], n1: u16) -> Target
     requires { ⌜ ((r < t) × (t ≤ length (now src))) × (length (now src) ≤ 65535) ⌝ }
     requires { ⌜ Held stateFormat (now area1) n1 ⌝ }
-    ensures { λ k. ⌜ k ≡ targetOf (now (src .entry)) r t (contents stateFormat (now (area1 .entry)) n1) ⌝ }
+    ensures { λ k. ⌜ k ≡ targetOf (before src) r t (contents stateFormat (before area1) n1) ⌝ }
 {
     if byte_at(src, r + 1) != b'<' {
         return Target::To(
@@ -112,7 +113,7 @@ fn label_by(n: usize, x: u8, y: u8) -> Label
 // What stands from p to t.
 fn label_of(src: &[u8], p: usize, t: usize) -> Label
     requires { ⌜ (1 ≤ t) × (p ≤ t) ⌝ }
-    ensures { λ k. ⌜ k ≡ labelOf (now (src .entry)) (span p t) ⌝ }
+    ensures { λ k. ⌜ k ≡ labelOf (before src) (span p t) ⌝ }
 {
     label_by(t - p, byte_at(src, p), byte_at(src, t - 1))
 }
@@ -166,7 +167,7 @@ fn heading_named(
     requires { ⌜ labelOf (now src) (span p t) ≡ Named ⌝ }
     requires { ⌜ Held ruleFormat (now area2) n2 ⌝ }
     requires { ⌜ Marked (now src) (contents ruleFormat (now area2) n2) (now marks) ⌝ }
-    ensures { λ k. ⌜ k ≡ headingBehind (now (src .entry)) r x (span p t) (contents ruleFormat (now (area2 .entry)) n2) ⌝ }
+    ensures { λ k. ⌜ k ≡ headingBehind (before src) r x (span p t) (contents ruleFormat (before area2) n2) ⌝ }
 {
     let h = head_named(r, p, t, x);
     let j = find_rule(src, p + 1, t - 1, area2, n2, marks);
@@ -191,7 +192,7 @@ fn heading_behind(
     requires { ⌜ ((r < p) × (p ≤ t)) × ((t ≤ length (now src)) × (length (now src) ≤ 65535)) ⌝ }
     requires { ⌜ Held ruleFormat (now area2) n2 ⌝ }
     requires { ⌜ Marked (now src) (contents ruleFormat (now area2) n2) (now marks) ⌝ }
-    ensures { λ k. ⌜ k ≡ headingBehind (now (src .entry)) r x (span p t) (contents ruleFormat (now (area2 .entry)) n2) ⌝ }
+    ensures { λ k. ⌜ k ≡ headingBehind (before src) r x (span p t) (contents ruleFormat (before area2) n2) ⌝ }
 {
     match label_of(src, p, t) {
         Label::Unnamed => Heading::Fresh(r, head_unnamed(r, x)),
@@ -215,7 +216,9 @@ pub fn heading_of(
     requires { ⌜ Held stateFormat (now area1) n1 ⌝ }
     requires { ⌜ Held ruleFormat (now area2) n2 ⌝ }
     requires { ⌜ Marked (now src) (contents ruleFormat (now area2) n2) (now marks) ⌝ }
-    ensures { λ k. ⌜ k ≡ headingOf (now (src .entry)) i t (contents stateFormat (now (area1 .entry)) n1) (contents ruleFormat (now (area2 .entry)) n2) ⌝ }
+    ensures { λ k. ⌜
+        k ≡ headingOf (before src) i t (contents stateFormat (before area1) n1) (contents ruleFormat (before area2) n2)
+        ⌝ }
 {
     match last_blank(src, i, t) {
         Found::Nothing => Heading::Faulty(MISSING_SPACE, i as u16),

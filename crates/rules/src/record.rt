@@ -1,8 +1,8 @@
 // The record of a rule: the engine's verdict, then the record (01, Rules).
 ghost use mathlib.Core.Path.{_≡_};
-ghost use lib.ListN.{length};
-ghost use Rattle.area.specs.Contents.{ruleFormat, contents, Held};
-ghost use Rattle.fault.specs.Step.{Does, progress};
+ghost use Rattle.area.specs.Contents.{ruleFormat, Held};
+ghost use Rattle.area.specs.Contracts.{before};
+ghost use Rattle.fault.specs.Contracts.{DoesRecords};
 ghost use Rattle.rules.specs.Rules.{refuses, recordRule};
 use area::Appended;
 use area::RULE_AREA;
@@ -14,7 +14,7 @@ use text::whitespace::byte_at;
 
 // Whether the engine refuses the rule at the position k. Past the end of the verdicts it passes.
 fn refuses(verdicts: &[u8], k: usize) -> bool
-    ensures { λ r. ⌜ r ≡ refuses (now (verdicts .entry)) k ⌝ }
+    ensures { λ r. ⌜ r ≡ refuses (before verdicts) k ⌝ }
 {
     byte_at(verdicts, k) != 0
 }
@@ -29,7 +29,7 @@ pub fn record_rule(
     n2: u16,
 ) -> Progress
     requires { ⌜ Held ruleFormat (now area2) n2 ⌝ }
-    ensures { λ r. ⌜ Does (Held ruleFormat (now (area2 .exit))) (recordRule (now (verdicts .entry)) (length (now (area2 .entry))) i e x) (contents ruleFormat (now (area2 .entry)) n2) (contents ruleFormat (now (area2 .exit))) (progress r) ⌝ }
+    ensures { λ r. ⌜ DoesRecords ruleFormat (λ c2. recordRule (before verdicts) c2 i e x) area2 n2 r ⌝ }
 {
     if refuses(verdicts, n2 as usize) {
         return Progress::Bad(REGEX_ERROR, i, n2);

@@ -19,6 +19,7 @@ use Rattle.fault.specs.Step.{Out, go, bad, full, next, onto, written, Does}
 use Rattle.fault.specs.Faults.{addFault, addRepeat, DuplicateName, RegexError, VerbatimNotSupported}
 use Rattle.fault.proofs.Steps.{was-go}
 use Rattle.fault.proofs.Yielding.{Yields, yields-onto}
+use Rattle.section.specs.Request.{Request}
 use Rattle.escape.specs.Escape.{unescaped}
 use Rattle.rules.specs.declared.Head.{Head}
 use Rattle.rules.specs.declared.Heading.{Heading}
@@ -46,34 +47,34 @@ record-keeps ids text verdicts c2 i e x rs =
     (λ _. by-test (λ o. Keeps rs (λ v. v .rules) (onto (λ ys. sheet ys ids text) (written 2 e o))) (room (ruleFormat .width) (ruleFormat .most) c2 (length rs) 1) (some (rs ++ (x ∷ []))) none
     (λ _. take-append-seam rs (x ∷ [])) (λ _. tt))
 
-module _ (s : List ℕ) (flags : ℕ) (verdicts : List ℕ) (xs : List State) (k : Caps) (i e : ℕ) (h : Head) (c : ℕ) (w : Sheet) where
+module _ (asked : Request) (k : Caps) (i e : ℕ) (h : Head) (c : ℕ) (xs : List State) (w : Sheet) where
   abbrev Sheets : Out Sheet → Type 0
   Sheets o = Keeps (w .rules) (λ v. v .rules) o
 
-  with-keeps : (t : Text) (l : StateList) (ids text : List ℕ) → Sheets (withRule s flags verdicts xs k i e h c t l (sheet (w .rules) ids text))
+  with-keeps : (t : Text) (l : StateList) (ids text : List ℕ) → Sheets (withRule asked k i e h t l (sheet (w .rules) ids text))
   unfolding withRule
-  with-keeps t l ids text = record-keeps ids text verdicts (k .c2) i e _ (w .rules)
+  with-keeps t l ids text = record-keeps ids text (asked .verdicts) (k .c2) i e _ (w .rules)
 
   -- the rule follows a step that writes list entries, or text
-  list-keeps : (o : Out (List ℕ)) (t : Text) (l : Sheet → StateList) → Sheets (next (onto (λ ids. sheet (w .rules) ids (w .text)) o) (λ _ v. withRule s flags verdicts xs k i e h c t (l v) v))
+  list-keeps : (o : Out (List ℕ)) (t : Text) (l : Sheet → StateList) → Sheets (next (onto (λ ids. sheet (w .rules) ids (w .text)) o) (λ _ v. withRule asked k i e h t (l v) v))
   list-keeps (go j ids) t l = with-keeps t (l (sheet (w .rules) ids (w .text))) ids (w .text)
   list-keeps (bad kind at ids) t l = tt
   list-keeps (full n) t l = tt
 
-  text-keeps : (o : Out (List ℕ)) (t : Sheet → Text) (l : StateList) → Sheets (next (onto (λ u. sheet (w .rules) (w .lists) u) o) (λ _ v. withRule s flags verdicts xs k i e h c (t v) l v))
+  text-keeps : (o : Out (List ℕ)) (t : Sheet → Text) (l : StateList) → Sheets (next (onto (λ u. sheet (w .rules) (w .lists) u) o) (λ _ v. withRule asked k i e h (t v) l v))
   text-keeps (go j u) t l = with-keeps (t (sheet (w .rules) (w .lists) u)) l (w .lists) u
   text-keeps (bad kind at u) t l = tt
   text-keeps (full n) t l = tt
 
-  pattern-keeps : Sheets (pattern s flags verdicts xs k i e h c w)
+  pattern-keeps : Sheets (pattern asked k i e h c xs w)
   unfolding listedRule rewrittenRule
   pattern-keeps =
-      pattern-cases s flags verdicts xs k i e h c w Sheets tt (λ g _ _. list-keeps (entries s (k .c3) xs i g (w .lists)) (sourceText (g + 1) c) (listSince w))
-      (text-keeps (written 4 e (append textFormat (k .c4) (unescaped s flags i c) (w .text))) (textSince w) (noList w)) (with-keeps (sourceText i c) (noList w) (w .lists) (w .text))
+      pattern-cases asked k i e h c xs w Sheets tt (λ g _ _. list-keeps (entries (asked .source) (k .c3) xs i g (w .lists)) (sourceText (g + 1) c) (listSince w))
+      (text-keeps (written 4 e (append textFormat (k .c4) (unescaped (asked .source) (asked .options .flags) i c) (w .text))) (textSince w) (noList w)) (with-keeps (sourceText i c) (noList w) (w .lists) (w .text))
 
 -- ---- a line
 
-module _ (s : List ℕ) (flags : ℕ) (verdicts : List ℕ) (xs : List State) (k : Caps) (c6 i e : ℕ) (r : Ruled) where
+module _ (asked : Request) (xs : List State) (k : Caps) (c6 i e : ℕ) (r : Ruled) where
   abbrev Lines : Out Ruled → Type 0
   Lines o = Keeps (r .rules) (λ t. t .rules) o
 
@@ -82,25 +83,25 @@ module _ (s : List ℕ) (flags : ℕ) (verdicts : List ℕ) (xs : List State) (k
   faults-keep none = tt
   faults-keep (some fs) = take-length (r .rules)
 
-  as-keeps : (x : Heading) → Lines (ruleAs s flags verdicts xs k c6 i e x r)
+  as-keeps : (x : Heading) → Lines (ruleAs asked xs k c6 i e x r)
   unfolding ruleAs
   as-keeps (Faulty kind at) = tt
   as-keeps (Repeated c d a z) = faults-keep (addRepeat c6 DuplicateName c d a z (r .faults))
   as-keeps (Fresh b h) =
-      let c = trimEndUnescaped s i b in
-      yields-onto (λ _ w. take (length (r .rules)) (w .rules) ≡ r .rules) (λ _ t. take (length (r .rules)) (t .rules) ≡ r .rules) (withSheet r) (pattern s flags verdicts xs k i e h c (sheetOf r))
-      (pattern-keeps s flags verdicts xs k i e h c (sheetOf r)) (λ _ w kept. kept)
+      let c = trimEndUnescaped (asked .source) i b in
+      yields-onto (λ _ w. take (length (r .rules)) (w .rules) ≡ r .rules) (λ _ t. take (length (r .rules)) (t .rules) ≡ r .rules) (withSheet r) (pattern asked k i e h c xs (sheetOf r))
+      (pattern-keeps asked k i e h c xs (sheetOf r)) (λ _ w kept. kept)
 
-  line-keeps : Lines (line s flags verdicts xs k c6 i e r)
+  line-keeps : Lines (line asked xs k c6 i e r)
   unfolding line rule
   line-keeps =
-      by-test Lines (atWhitespace s i) (onto (withFaults r) (written 6 e (addFault c6 VerbatimNotSupported i e (r .faults)))) (rule s flags verdicts xs k c6 i e r)
-      (λ _. faults-keep (addFault c6 VerbatimNotSupported i e (r .faults))) (λ _. as-keeps (headingOf s i (trimEnd s i e) xs (r .rules)))
+      by-test Lines (atWhitespace (asked .source) i) (onto (withFaults r) (written 6 e (addFault c6 VerbatimNotSupported i e (r .faults)))) (rule asked xs k c6 i e r)
+      (λ _. faults-keep (addFault c6 VerbatimNotSupported i e (r .faults))) (λ _. as-keeps (headingOf (asked .source) i (trimEnd (asked .source) i e) xs (r .rules)))
 
 -- after a line, the rules that were there before it are the first ones
-pub rules-kept : (s : List ℕ) (flags : ℕ) (verdicts : List ℕ) (xs : List State) (k : Caps) (c6 i e : ℕ) {l2 l3 l4 l6 v2 v3 v4 v6 : List ℕ} {q : RuleCounts} → HeldRuled l2 l3 l4 l6 q → (r : RuleProgress)
-    → Does (HeldRuled v2 v3 v4 v6) (line s flags verdicts xs k c6 i e) (ruledIn l2 l3 l4 l6 q) (ruledIn v2 v3 v4 v6) (ruleProgress r) → (j : ℕ) (p : RuleCounts) → r ≡ Go j p
+pub rules-kept : (asked : Request) (xs : List State) (k : Caps) (c6 i e : ℕ) {l2 l3 l4 l6 v2 v3 v4 v6 : List ℕ} {q : RuleCounts} → HeldRuled l2 l3 l4 l6 q → (r : RuleProgress)
+    → Does (HeldRuled v2 v3 v4 v6) (line asked xs k c6 i e) (ruledIn l2 l3 l4 l6 q) (ruledIn v2 v3 v4 v6) (ruleProgress r) → (j : ℕ) (p : RuleCounts) → r ≡ Go j p
     → take (q .rules) (contents ruleFormat v2 (p .rules)) ≡ contents ruleFormat l2 (q .rules)
-rules-kept s flags verdicts xs k c6 i e {l2} {l3} {l4} {l6} {v2} {v3} {v4} {v6} {q} h r d j p z =
+rules-kept asked xs k c6 i e {l2} {l3} {l4} {l6} {v2} {v3} {v4} {v6} {q} h r d j p z =
     ap (λ (n : ℕ). take n (contents ruleFormat v2 (p .rules))) (sym (contents-length rule-sound (h .rules)))
-    ∙ subst (Lines s flags verdicts xs k c6 i e (ruledIn l2 l3 l4 l6 q)) (was-go d (ap ruleProgress z)) (line-keeps s flags verdicts xs k c6 i e (ruledIn l2 l3 l4 l6 q))
+    ∙ subst (Lines asked xs k c6 i e (ruledIn l2 l3 l4 l6 q)) (was-go d (ap ruleProgress z)) (line-keeps asked xs k c6 i e (ruledIn l2 l3 l4 l6 q))

@@ -19,6 +19,7 @@ use Rattle.fault.specs.declared.Progress.the-variants as Progress
 use Rattle.fault.specs.Step.{Out, bad, full, next, onto, written, Does, progress}
 use Rattle.fault.specs.Faults.{InvalidStartState}
 use Rattle.fault.proofs.Steps.{does-bad, does-full, does-onto, was-go, was-bad, was-full, written-next, written-full}
+use Rattle.section.specs.Request.{Request}
 use Rattle.escape.specs.Escape.{unescaped}
 use Rattle.rules.specs.declared.Head.{Head}
 use Rattle.rules.specs.declared.Body.{Body}
@@ -34,31 +35,31 @@ use Rattle.rules_section.specs.Answers.{sheetProgress, sheetIn, HeldShee
 
 -- ---- what becomes of a pattern, by what it is
 
-module _ (s : List ℕ) (flags : ℕ) (verdicts : List ℕ) (xs : List State) (k : Caps) (i e : ℕ) (h : Head) (c : ℕ) (w : Sheet) where
-  pub pattern-is-unclosed : bodyOf s i c ≡ Unclosed → pattern s flags verdicts xs k i e h c w ≡ bad InvalidStartState i w
+module _ (asked : Request) (k : Caps) (i e : ℕ) (h : Head) (c : ℕ) (xs : List State) (w : Sheet) where
+  pub pattern-is-unclosed : bodyOf (asked .source) i c ≡ Unclosed → pattern asked k i e h c xs w ≡ bad InvalidStartState i w
   unfolding pattern
   pattern-is-unclosed q = rw (q, pattern)
 
-  pub pattern-is-listed : (g : ℕ) → bodyOf s i c ≡ Listed g → pattern s flags verdicts xs k i e h c w ≡ listedRule s flags verdicts xs k i e h c g w
+  pub pattern-is-listed : (g : ℕ) → bodyOf (asked .source) i c ≡ Listed g → pattern asked k i e h c xs w ≡ listedRule asked k i e h c xs g w
   unfolding pattern
   pattern-is-listed g q = rw (q, pattern)
 
-  pub pattern-is-rewritten : bodyOf s i c ≡ Rewritten → pattern s flags verdicts xs k i e h c w ≡ rewrittenRule s flags verdicts xs k i e h c w
+  pub pattern-is-rewritten : bodyOf (asked .source) i c ≡ Rewritten → pattern asked k i e h c xs w ≡ rewrittenRule asked k i e h c w
   unfolding pattern
   pattern-is-rewritten q = rw (q, pattern)
 
-  pub pattern-is-plain : bodyOf s i c ≡ Plain → pattern s flags verdicts xs k i e h c w ≡ withRule s flags verdicts xs k i e h c (sourceText i c) (noList w) w
+  pub pattern-is-plain : bodyOf (asked .source) i c ≡ Plain → pattern asked k i e h c xs w ≡ withRule asked k i e h (sourceText i c) (noList w) w
   unfolding pattern
   pattern-is-plain q = rw (q, pattern)
 
   -- what holds of each outcome holds of the pattern
-  pub pattern-cases : (P : Out Sheet → Type 0) → P (bad InvalidStartState i w) → ((g : ℕ) → i ≤ g → g < c → P (listedRule s flags verdicts xs k i e h c g w))
-      → P (rewrittenRule s flags verdicts xs k i e h c w) → P (withRule s flags verdicts xs k i e h c (sourceText i c) (noList w) w) → P (pattern s flags verdicts xs k i e h c w)
-  pattern-cases P unclosed listed rewritten plain = by (bodyOf s i c) refl
+  pub pattern-cases : (P : Out Sheet → Type 0) → P (bad InvalidStartState i w) → ((g : ℕ) → i ≤ g → g < c → P (listedRule asked k i e h c xs g w))
+      → P (rewrittenRule asked k i e h c w) → P (withRule asked k i e h (sourceText i c) (noList w) w) → P (pattern asked k i e h c xs w)
+  pattern-cases P unclosed listed rewritten plain = by (bodyOf (asked .source) i c) refl
     where
-      by : (b : Body) → bodyOf s i c ≡ b → P (pattern s flags verdicts xs k i e h c w)
+      by : (b : Body) → bodyOf (asked .source) i c ≡ b → P (pattern asked k i e h c xs w)
       by Unclosed q = subst P (sym (pattern-is-unclosed q)) unclosed
-      by (Listed g) q = subst P (sym (pattern-is-listed g q)) (listed g (listed-from s i c (Listed g) (sym q) g refl) (listed-to s i c (Listed g) (sym q) g refl))
+      by (Listed g) q = subst P (sym (pattern-is-listed g q)) (listed g (listed-from (asked .source) i c (Listed g) (sym q) g refl) (listed-to (asked .source) i c (Listed g) (sym q) g refl))
       by Rewritten q = subst P (sym (pattern-is-rewritten q)) rewritten
       by Plain q = subst P (sym (pattern-is-plain q)) plain
 
@@ -82,8 +83,8 @@ module _ (s : List ℕ) (i c : ℕ) (b : Body) (is : b ≡ bodyOf s i c) (g : �
 pub rules-held : {l2 l3 l4 : List ℕ} {q : SheetCounts} → HeldSheet l2 l3 l4 q → Held ruleFormat l2 (q .rules)
 rules-held h = h .rules
 
-module _ (s : List ℕ) (flags : ℕ) (verdicts : List ℕ) (xs : List State) (i e : ℕ) (h : Head) (c : ℕ) (l2 l3 l4 : List ℕ) (q : SheetCounts) (held : HeldSheet l2 l3 l4 q)
-    (b : Body) (is : b ≡ bodyOf s i c) where
+module _ (asked : Request) (i e : ℕ) (h : Head) (c : ℕ) (xs : List State) (l2 l3 l4 : List ℕ) (q : SheetCounts) (held : HeldSheet l2 l3 l4 q)
+    (b : Body) (is : b ≡ bodyOf (asked .source) i c) where
   abbrev caps : Caps
   caps = sizesOf (length l2) (length l3) (length l4)
 
@@ -91,11 +92,11 @@ module _ (s : List ℕ) (flags : ℕ) (verdicts : List ℕ) (xs : List State) (i
   before = sheetIn l2 l3 l4 q
 
   abbrev Done : List ℕ → List ℕ → List ℕ → Out SheetCounts → Type 0
-  Done v2 v3 v4 o = Does (HeldSheet v2 v3 v4) (pattern s flags verdicts xs caps i e h c) before (sheetIn v2 v3 v4) o
+  Done v2 v3 v4 o = Does (HeldSheet v2 v3 v4) (pattern asked caps i e h c xs) before (sheetIn v2 v3 v4) o
 
   -- the rule of a text and a list, behind what is written
   abbrev made : Text → StateList → Sheet → Out Sheet
-  made t l v = withRule s flags verdicts xs caps i e h c t l v
+  made t l v = withRule asked caps i e h t l v
 
   -- on behind the list that is closed at g, and behind the rewritten text
   abbrev after-list : ℕ → Out (List ℕ) → Out Sheet
@@ -104,13 +105,13 @@ module _ (s : List ℕ) (flags : ℕ) (verdicts : List ℕ) (xs : List State) (i
   abbrev after-text : Out (List ℕ) → Out Sheet
   after-text o = next (onto (λ t. sheet (before .rules) (before .lists) t) o) (λ _ v. made (textSince before v) (noList before) v)
 
-  is-listed : (g : ℕ) → b ≡ Listed g → pattern s flags verdicts xs caps i e h c before ≡ after-list g (entries s (length l3) xs i g (before .lists))
+  is-listed : (g : ℕ) → b ≡ Listed g → pattern asked caps i e h c xs before ≡ after-list g (entries (asked .source) (length l3) xs i g (before .lists))
   unfolding listedRule
-  is-listed g z = pattern-is-listed s flags verdicts xs caps i e h c before g (sym is ∙ z)
+  is-listed g z = pattern-is-listed asked caps i e h c xs before g (sym is ∙ z)
 
-  is-rewritten : b ≡ Rewritten → pattern s flags verdicts xs caps i e h c before ≡ after-text (written 4 e (append textFormat (length l4) (unescaped s flags i c) (before .text)))
+  is-rewritten : b ≡ Rewritten → pattern asked caps i e h c xs before ≡ after-text (written 4 e (append textFormat (length l4) (unescaped (asked .source) (asked .options .flags) i c) (before .text)))
   unfolding rewrittenRule
-  is-rewritten z = pattern-is-rewritten s flags verdicts xs caps i e h c before (sym is ∙ z)
+  is-rewritten z = pattern-is-rewritten asked caps i e h c xs before (sym is ∙ z)
 
   rule-count : length (contents ruleFormat l2 (q .rules)) ≡ q .rules
   rule-count = contents-length rule-sound (held .rules)
@@ -122,13 +123,13 @@ module _ (s : List ℕ) (flags : ℕ) (verdicts : List ℕ) (xs : List State) (i
   text-count = contents-length text-sound (held .text)
 
   pub pattern-unclosed : b ≡ Unclosed → Done l2 l3 l4 (bad InvalidStartState i q)
-  pattern-unclosed z = does-bad (pattern-is-unclosed s flags verdicts xs caps i e h c before (sym is ∙ z)) held
+  pattern-unclosed z = does-bad (pattern-is-unclosed asked caps i e h c xs before (sym is ∙ z)) held
 
   -- the record was made, of the rule x
   module _ (x : Rule) (p : Progress) {v2 : List ℕ}
-      (d : Does (Held ruleFormat v2) (recordRule verdicts (length l2) i e x) (contents ruleFormat l2 (q .rules)) (contents ruleFormat v2) (progress p)) (r : SheetProgress) where
+      (d : Does (Held ruleFormat v2) (recordRule (asked .verdicts) (length l2) i e x) (contents ruleFormat l2 (q .rules)) (contents ruleFormat v2) (progress p)) (r : SheetProgress) where
     recorded : (l3′ l4′ : List ℕ) (m t : ℕ) → Held entryFormat l3′ m → Held textFormat l4′ t → sheetProgress r ≡ onto (λ n. sheetCounts n m t) (progress p)
-        → pattern s flags verdicts xs caps i e h c before ≡ onto (λ rs. sheet rs (contents entryFormat l3′ m) (contents textFormat l4′ t)) (recordRule verdicts (length l2) i e x (contents ruleFormat l2 (q .rules)))
+        → pattern asked caps i e h c xs before ≡ onto (λ rs. sheet rs (contents entryFormat l3′ m) (contents textFormat l4′ t)) (recordRule (asked .verdicts) (length l2) i e x (contents ruleFormat l2 (q .rules)))
         → Done v2 l3′ l4′ (sheetProgress r)
     recorded l3′ l4′ m t he ht z y =
         subst (Done v2 l3′ l4′) (sym z)
@@ -139,10 +140,10 @@ module _ (s : List ℕ) (flags : ℕ) (verdicts : List ℕ) (xs : List State) (i
     unfolding withRule
     pattern-plain z y w =
         recorded l3 l4 (q .entries) (q .text) (held .entries) (held .text) w
-        (pattern-is-plain s flags verdicts xs caps i e h c before (sym is ∙ z) ∙ rw (rule-count, entry-count, ← y))
+        (pattern-is-plain asked caps i e h c xs before (sym is ∙ z) ∙ rw (rule-count, entry-count, ← y))
 
     module _ (g : ℕ) (z : b ≡ Listed g) {v3 : List ℕ} (o : Progress)
-        (n : Does (Held entryFormat v3) (entries s (length l3) xs i g) (contents entryFormat l3 (q .entries)) (contents entryFormat v3) (progress o)) (j m : ℕ) (went : o ≡ Progress.Go j m) where
+        (n : Does (Held entryFormat v3) (entries (asked .source) (length l3) xs i g) (contents entryFormat l3 (q .entries)) (contents entryFormat v3) (progress o)) (j m : ℕ) (went : o ≡ Progress.Go j m) where
       pub pattern-listed : (k : ℕ) → x ≡ ruleOf h (q .rules) (sourceText (g + 1) c) (record { from = q .entries; count = k }) → k ≡ m - q .entries → sheetProgress r ≡ onto (λ n. sheetCounts n m (q .text)) (progress p) → Done v2 v3 l4 (sheetProgress r)
       unfolding withRule
       pattern-listed k y u w =
@@ -150,7 +151,7 @@ module _ (s : List ℕ) (flags : ℕ) (verdicts : List ℕ) (xs : List State) (i
           recorded v3 l4 m (q .text) (n .goes j m (ap progress went)) (held .text) w
           (is-listed g z ∙ ap (after-list g) (was-go n (ap progress went)) ∙ rw (more, rule-count, entry-count, ← u, ← y))
 
-    module _ (z : b ≡ Rewritten) (o : Appended) {v4 : List ℕ} (n : Grows textFormat (append textFormat (length l4) (unescaped s flags i c)) l4 (q .text) o v4) (m : ℕ) (went : o ≡ Appended.Next m) where
+    module _ (z : b ≡ Rewritten) (o : Appended) {v4 : List ℕ} (n : Grows textFormat (append textFormat (length l4) (unescaped (asked .source) (asked .options .flags) i c)) l4 (q .text) o v4) (m : ℕ) (went : o ≡ Appended.Next m) where
       pub pattern-rewritten : (k : ℕ) → x ≡ ruleOf h (q .rules) (record { place = 1; from = q .text; length = k }) (record { from = q .entries; count = 0 }) → k ≡ m - q .text → sheetProgress r ≡ onto (λ n. sheetCounts n (q .entries) m) (progress p) → Done v2 l3 v4 (sheetProgress r)
       unfolding withRule
       pattern-rewritten k y u w =
@@ -159,7 +160,7 @@ module _ (s : List ℕ) (flags : ℕ) (verdicts : List ℕ) (xs : List State) (i
           (is-rewritten z ∙ ap after-text (written-next textFormat 4 e _ v4 o (n .says) went) ∙ rw (more, rule-count, entry-count, text-count, ← u, ← y))
 
   module _ (g : ℕ) (z : b ≡ Listed g) {v3 : List ℕ} (o : Progress)
-      (n : Does (Held entryFormat v3) (entries s (length l3) xs i g) (contents entryFormat l3 (q .entries)) (contents entryFormat v3) (progress o)) where
+      (n : Does (Held entryFormat v3) (entries (asked .source) (length l3) xs i g) (contents entryFormat l3 (q .entries)) (contents entryFormat v3) (progress o)) where
     pub pattern-list-bad : (kind at m : ℕ) → o ≡ Progress.Bad kind at m → Done l2 v3 l4 (bad kind at (sheetCounts (q .rules) m (q .text)))
     pattern-list-bad kind at m y =
         does-bad (is-listed g z ∙ ap (after-list g) (was-bad n (ap progress y)))
@@ -168,7 +169,7 @@ module _ (s : List ℕ) (flags : ℕ) (verdicts : List ℕ) (xs : List State) (i
     pub pattern-list-full : (k : ℕ) → o ≡ Progress.Full k → Done l2 v3 l4 (full k)
     pattern-list-full k y = does-full (is-listed g z ∙ ap (after-list g) (was-full n (ap progress y)))
 
-  module _ (z : b ≡ Rewritten) (o : Appended) {v4 : List ℕ} (n : Grows textFormat (append textFormat (length l4) (unescaped s flags i c)) l4 (q .text) o v4) where
+  module _ (z : b ≡ Rewritten) (o : Appended) {v4 : List ℕ} (n : Grows textFormat (append textFormat (length l4) (unescaped (asked .source) (asked .options .flags) i c)) l4 (q .text) o v4) where
     pub pattern-text-full : o ≡ Appended.Full → Done l2 l3 v4 (full 4)
     pattern-text-full y = does-full (is-rewritten z ∙ ap after-text (written-full textFormat 4 e _ v4 o (n .says) y))
 

@@ -1,2 +1,3 @@
 pub mod RulesSection
 pub mod Answers
+pub mod Contracts

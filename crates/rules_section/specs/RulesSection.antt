@@ -12,6 +12,7 @@ use Rattle.area.specs.Contents.{append, textFormat}
 use Rattle.fault.specs.Step.{Out, go, bad, next, onto, written, loop}
 use Rattle.fault.specs.Faults.{addFault, addRepeat, RoutinesNotSupported, InvalidStartState, DuplicateName, VerbatimNotSupported}
 use Rattle.escape.specs.Escape.{unescaped}
+use Rattle.section.specs.Request.{Request}
 use Rattle.section.specs.Section.{toRule, inSection, hasRoutines}
 use Rattle.rules.specs.declared.Head.{Head}
 use Rattle.rules.specs.declared.Heading.{Heading}
@@ -88,35 +89,37 @@ listSince w v = record { from = length (w .lists); count = length (v .lists) - l
 
 -- ---- the pattern from i to c of the line from i to e, whose head is h
 
-module _ (s : List ℕ) (flags : ℕ) (verdicts : List ℕ) (xs : List State) (k : Caps) (i e : ℕ) (h : Head) (c : ℕ) where
+module _ (q : Request) (k : Caps) (i e : ℕ) (h : Head) where
   -- the verdict, and the record of the rule with this text and list (01, Rules)
   unfoldable pub withRule : Text → StateList → Sheet → Out Sheet
   withRule t l w =
-      onto (λ rs. sheet rs (w .lists) (w .text)) (recordRule verdicts (k .c2) i e (ruleOf h (length (w .rules)) t l) (w .rules))
+      onto (λ rs. sheet rs (w .lists) (w .text)) (recordRule (q .verdicts) (k .c2) i e (ruleOf h (length (w .rules)) t l) (w .rules))
 
-  -- the names of a list that is closed at g; then the rule, with the rest of the pattern as it stands (01, Rules)
-  unfoldable pub listedRule : ℕ → Sheet → Out Sheet
-  listedRule g w =
-      next (onto (λ ids. sheet (w .rules) ids (w .text)) (entries s (k .c3) xs i g (w .lists)))
-      (λ _ v. withRule (sourceText (g + 1) c) (listSince w v) v)
+  module _ (c : ℕ) where
+    -- the rewritten text; then the rule (01, Rules)
+    unfoldable pub rewrittenRule : Sheet → Out Sheet
+    rewrittenRule w =
+        next (onto (λ t. sheet (w .rules) (w .lists) t) (written 4 e (append textFormat (k .c4) (unescaped (q .source) (q .options .flags) i c) (w .text))))
+        (λ _ v. withRule (textSince w v) (noList w) v)
 
-  -- the rewritten text; then the rule (01, Rules)
-  unfoldable pub rewrittenRule : Sheet → Out Sheet
-  rewrittenRule w =
-      next (onto (λ t. sheet (w .rules) (w .lists) t) (written 4 e (append textFormat (k .c4) (unescaped s flags i c) (w .text))))
-      (λ _ v. withRule (textSince w v) (noList w) v)
+    module _ (xs : List State) where
+      -- the names of a list that is closed at g; then the rule, with the rest of the pattern as it stands (01, Rules)
+      unfoldable pub listedRule : ℕ → Sheet → Out Sheet
+      listedRule g w =
+          next (onto (λ ids. sheet (w .rules) ids (w .text)) (entries (q .source) (k .c3) xs i g (w .lists)))
+          (λ _ v. withRule (sourceText (g + 1) c) (listSince w v) v)
 
-  -- a list that is not closed is a fault at the line; a list; escapes to rewrite; or text as it stands (01, Rules)
-  unfoldable pub pattern : Sheet → Out Sheet
-  pattern w =
-      elim (bodyOf s i c) [
-        | Unclosed ↦ bad InvalidStartState i w
-        | Listed g ↦ listedRule g w
-        | Rewritten ↦ rewrittenRule w
-        | Plain ↦ withRule (sourceText i c) (noList w) w
-      ]
+      -- a list that is not closed is a fault at the line; a list; escapes to rewrite; or text as it stands (01, Rules)
+      unfoldable pub pattern : Sheet → Out Sheet
+      pattern w =
+          elim (bodyOf (q .source) i c) [
+            | Unclosed ↦ bad InvalidStartState i w
+            | Listed g ↦ listedRule g w
+            | Rewritten ↦ rewrittenRule w
+            | Plain ↦ withRule (sourceText i c) (noList w) w
+          ]
 
--- ---- a line
+-- ---- what a line writes
 
 -- what the section writes: the above, and faults
 pub record Ruled : Type 0 where
@@ -137,36 +140,36 @@ withSheet r w = record { rules = w .rules; lists = w .lists; text = w .text; fau
 abbrev pub withFaults : Ruled → List Fault → Ruled
 withFaults r fs = record { rules = r .rules; lists = r .lists; text = r .text; faults = fs }
 
-module _ (s : List ℕ) (flags : ℕ) (verdicts : List ℕ) (xs : List State) (k : Caps) (c6 : ℕ) where
-  -- what becomes of the line from i to e: a fault; a repeated name, whose pattern is not read; or a rule (01, Rules)
-  unfoldable pub ruleAs : ℕ → ℕ → Heading → Ruled → Out Ruled
-  ruleAs i e (Faulty kind at) r = bad kind at r
-  ruleAs i e (Repeated c d a z) r = onto (withFaults r) (written 6 e (addRepeat c6 DuplicateName c d a z (r .faults)))
-  ruleAs i e (Fresh b h) r = onto (withSheet r) (pattern s flags verdicts xs k i e h (trimEndUnescaped s i b) (sheetOf r))
-
-  -- a rule, whose line is read without its trailing whitespace (01, Rules)
-  unfoldable pub rule : ℕ → ℕ → Ruled → Out Ruled
-  rule i e r = ruleAs i e (headingOf s i (trimEnd s i e) xs (r .rules)) r
-
-  -- a line: one that starts with whitespace is a fault whose span is the line; any other is a rule (01, Rules)
-  unfoldable pub line : ℕ → ℕ → Ruled → Out Ruled
-  line i e r =
-      cond (atWhitespace s i) (onto (withFaults r) (written 6 e (addFault c6 VerbatimNotSupported i e (r .faults)))) (rule i e r)
-
-  -- a line, and on from its end to the next (01, Rules)
-  unfoldable pub nextRule : ℕ → Ruled → Out Ruled
-  nextRule i r = next (line i (lineEnd s i) r) (λ _ t. go (toRule s flags (lineEnd s i)) t)
-
-  -- the rules from i on (01, Rules)
-  unfoldable pub rules : ℕ → Ruled → Out Ruled
-  rules i r = loop (length s) (inSection s) nextRule (toRule s flags i) r
-
--- ---- the section
+-- ---- the lines of the section
 
 -- the `%%` at i, if there is one, is a fault unless only whitespace follows it (01, Rules)
 unfoldable pub routines : List ℕ → ℕ → Ruled → Out Ruled
 routines s i r = cond (hasRoutines s i) (bad RoutinesNotSupported i r) (go i r)
 
--- the rules from i on, and what follows them (01, Rules)
-unfoldable pub rulesSection : List ℕ → ℕ → List ℕ → List State → Caps → ℕ → ℕ → Ruled → Out Ruled
-rulesSection s flags verdicts xs k c6 i r = next (rules s flags verdicts xs k c6 i r) (routines s)
+module _ (q : Request) (xs : List State) (k : Caps) (c6 : ℕ) where
+  -- what becomes of the line from i to e: a fault; a repeated name, whose pattern is not read; or a rule (01, Rules)
+  unfoldable pub ruleAs : ℕ → ℕ → Heading → Ruled → Out Ruled
+  ruleAs i e (Faulty kind at) r = bad kind at r
+  ruleAs i e (Repeated c d a z) r = onto (withFaults r) (written 6 e (addRepeat c6 DuplicateName c d a z (r .faults)))
+  ruleAs i e (Fresh b h) r = onto (withSheet r) (pattern q k i e h (trimEndUnescaped (q .source) i b) xs (sheetOf r))
+
+  -- a rule, whose line is read without its trailing whitespace (01, Rules)
+  unfoldable pub rule : ℕ → ℕ → Ruled → Out Ruled
+  rule i e r = ruleAs i e (headingOf (q .source) i (trimEnd (q .source) i e) xs (r .rules)) r
+
+  -- a line: one that starts with whitespace is a fault whose span is the line; any other is a rule (01, Rules)
+  unfoldable pub line : ℕ → ℕ → Ruled → Out Ruled
+  line i e r =
+      cond (atWhitespace (q .source) i) (onto (withFaults r) (written 6 e (addFault c6 VerbatimNotSupported i e (r .faults)))) (rule i e r)
+
+  -- a line, and on from its end to the next (01, Rules)
+  unfoldable pub nextRule : ℕ → Ruled → Out Ruled
+  nextRule i r = next (line i (lineEnd (q .source) i) r) (λ _ t. go (toRule (q .source) (q .options .flags) (lineEnd (q .source) i)) t)
+
+  -- the rules from i on (01, Rules)
+  unfoldable pub rules : ℕ → Ruled → Out Ruled
+  rules i r = loop (length (q .source)) (inSection (q .source)) nextRule (toRule (q .source) (q .options .flags) i) r
+
+  -- the rules from i on, and what follows them (01, Rules)
+  unfoldable pub rulesSection : ℕ → Ruled → Out Ruled
+  rulesSection i r = next (rules i r) (routines (q .source))

@@ -3,10 +3,12 @@ ghost use mathlib.Core.Path.{_≡_};
 ghost use Prim.Native.Nat.{_≤_};
 ghost use lib.ListN.{length};
 ghost use Rattle.area.specs.Contents.{stateFormat, ruleFormat, contents, Held};
-ghost use Rattle.fault.specs.Step.{Does, onto};
+ghost use Rattle.area.specs.Contracts.{before};
+ghost use Rattle.fault.specs.Step.{onto};
 ghost use Rattle.names.specs.Marks.{Marked};
 ghost use Rattle.rules_section.specs.RulesSection.{rule, line};
-ghost use Rattle.rules_section.specs.Answers.{sheetProgress, ruleProgress, ruledIn, HeldRuled, ruleCounts, sizesOf, afterFaults};
+ghost use Rattle.rules_section.specs.Answers.{sheetProgress, ruleProgress, HeldRuled, ruleCounts, afterFaults};
+ghost use Rattle.rules_section.specs.Contracts.{asked, DoesRuled};
 use crate::RuleCounts;
 use crate::RuleProgress;
 use crate::SheetCounts;
@@ -91,7 +93,9 @@ fn parse_rule(
     requires { ⌜ Held stateFormat (now area1) n1 ⌝ }
     requires { ⌜ HeldRuled (now area2) (now area3) (now area4) (now area6) q ⌝ }
     requires { ⌜ Marked (now src) (contents ruleFormat (now area2) (q .rules)) (now marks) ⌝ }
-    ensures { λ r. ⌜ Does (HeldRuled (now (area2 .exit)) (now (area3 .exit)) (now (area4 .exit)) (now (area6 .exit))) (rule (now (src .entry)) flags (now (verdicts .entry)) (contents stateFormat (now (area1 .entry)) n1) (sizesOf (length (now (area2 .entry))) (length (now (area3 .entry))) (length (now (area4 .entry)))) (length (now (area6 .entry))) i e) (ruledIn (now (area2 .entry)) (now (area3 .entry)) (now (area4 .entry)) (now (area6 .entry)) q) (ruledIn (now (area2 .exit)) (now (area3 .exit)) (now (area4 .exit)) (now (area6 .exit))) (ruleProgress r) ⌝ }
+    ensures { λ r. ⌜
+        DoesRuled (λ k c6. rule (asked src flags verdicts) (contents stateFormat (before area1) n1) k c6 i e) area2 area3 area4 area6 q r
+        ⌝ }
 {
     let faults = q.faults;
     let w = SheetCounts {
@@ -155,7 +159,9 @@ pub fn parse_line(
     requires { ⌜ Held stateFormat (now area1) n1 ⌝ }
     requires { ⌜ HeldRuled (now area2) (now area3) (now area4) (now area6) q ⌝ }
     requires { ⌜ Marked (now src) (contents ruleFormat (now area2) (q .rules)) (now marks) ⌝ }
-    ensures { λ r. ⌜ Does (HeldRuled (now (area2 .exit)) (now (area3 .exit)) (now (area4 .exit)) (now (area6 .exit))) (line (now (src .entry)) flags (now (verdicts .entry)) (contents stateFormat (now (area1 .entry)) n1) (sizesOf (length (now (area2 .entry))) (length (now (area3 .entry))) (length (now (area4 .entry)))) (length (now (area6 .entry))) i e) (ruledIn (now (area2 .entry)) (now (area3 .entry)) (now (area4 .entry)) (now (area6 .entry)) q) (ruledIn (now (area2 .exit)) (now (area3 .exit)) (now (area4 .exit)) (now (area6 .exit))) (ruleProgress r) ⌝ }
+    ensures { λ r. ⌜
+        DoesRuled (λ k c6. line (asked src flags verdicts) (contents stateFormat (before area1) n1) k c6 i e) area2 area3 area4 area6 q r
+        ⌝ }
 {
     if matches_whitespace(src, i) {
         let faults = q.faults;

@@ -2,9 +2,10 @@
 ghost use Prim.Native.Nat.{_≤_};
 ghost use lib.ListN.{length};
 ghost use Rattle.area.specs.Contents.{stateFormat, contents, Held};
-ghost use Rattle.fault.specs.Step.{Does};
+ghost use Rattle.area.specs.Contracts.{before};
 ghost use Rattle.rules_section.specs.RulesSection.{rulesSection};
-ghost use Rattle.rules_section.specs.Answers.{ruleProgress, ruledIn, HeldRuled, sizesOf};
+ghost use Rattle.rules_section.specs.Answers.{HeldRuled};
+ghost use Rattle.rules_section.specs.Contracts.{asked, DoesRuled};
 use crate::RuleCounts;
 use crate::RuleProgress;
 use crate::line::parse_line;
@@ -32,7 +33,9 @@ pub fn parse_rules(
     requires { ⌜ (i ≤ length (now src)) × (length (now src) ≤ 65535) ⌝ }
     requires { ⌜ Held stateFormat (now area1) n1 ⌝ }
     requires { ⌜ HeldRuled (now area2) (now area3) (now area4) (now area6) q ⌝ }
-    ensures { λ r. ⌜ Does (HeldRuled (now (area2 .exit)) (now (area3 .exit)) (now (area4 .exit)) (now (area6 .exit))) (rulesSection (now (src .entry)) flags (now (verdicts .entry)) (contents stateFormat (now (area1 .entry)) n1) (sizesOf (length (now (area2 .entry))) (length (now (area3 .entry))) (length (now (area4 .entry)))) (length (now (area6 .entry))) i) (ruledIn (now (area2 .entry)) (now (area3 .entry)) (now (area4 .entry)) (now (area6 .entry)) q) (ruledIn (now (area2 .exit)) (now (area3 .exit)) (now (area4 .exit)) (now (area6 .exit))) (ruleProgress r) ⌝ }
+    ensures { λ r. ⌜
+        DoesRuled (λ k c6. rulesSection (asked src flags verdicts) (contents stateFormat (before area1) n1) k c6 i) area2 area3 area4 area6 q r
+        ⌝ }
 {
     let mut line = next_rule(src, flags, i);
     let mut counts = q;

@@ -3,9 +3,11 @@ ghost use mathlib.Core.Path.{_≡_};
 ghost use Prim.Native.Nat.{_-_, _≤_};
 ghost use lib.ListN.{length};
 ghost use Rattle.area.specs.Contents.{stateFormat, contents, Held};
-ghost use Rattle.fault.specs.Step.{Does, onto, progress};
+ghost use Rattle.area.specs.Contracts.{before};
+ghost use Rattle.fault.specs.Step.{onto, progress};
 ghost use Rattle.rules_section.specs.RulesSection.{ruleOf, pattern};
-ghost use Rattle.rules_section.specs.Answers.{sheetProgress, sheetIn, HeldSheet, sheetCounts, sizesOf};
+ghost use Rattle.rules_section.specs.Answers.{sheetProgress, HeldSheet, sheetCounts};
+ghost use Rattle.rules_section.specs.Contracts.{asked, DoesSheet};
 use crate::SheetCounts;
 use crate::SheetProgress;
 use area::Appended;
@@ -31,7 +33,10 @@ pub struct Text {
 
 // The rule of a heading and a text, at the next position: its id is the position.
 fn rule_with(h: Head, k: u16, t: Text) -> Rule
-    ensures { λ r. ⌜ r ≡ ruleOf h k (record { place = t .place; from = t .from; length = t .length }) (record { from = t .«list_from»; count = t .«list_count» }) ⌝ }
+    ensures { λ r. ⌜
+        r
+        ≡ ruleOf h k (record { place = t .place; from = t .from; length = t .length }) (record { from = t .«list_from»; count = t .«list_count» })
+        ⌝ }
 {
     Rule {
         has_id: 1,
@@ -106,7 +111,9 @@ pub fn parse_pattern(
     requires { ⌜ ((i ≤ c) × (c ≤ length (now src))) × (length (now src) ≤ 65535) ⌝ }
     requires { ⌜ Held stateFormat (now area1) n1 ⌝ }
     requires { ⌜ HeldSheet (now area2) (now area3) (now area4) q ⌝ }
-    ensures { λ r. ⌜ Does (HeldSheet (now (area2 .exit)) (now (area3 .exit)) (now (area4 .exit))) (pattern (now (src .entry)) flags (now (verdicts .entry)) (contents stateFormat (now (area1 .entry)) n1) (sizesOf (length (now (area2 .entry))) (length (now (area3 .entry))) (length (now (area4 .entry)))) i e h c) (sheetIn (now (area2 .entry)) (now (area3 .entry)) (now (area4 .entry)) q) (sheetIn (now (area2 .exit)) (now (area3 .exit)) (now (area4 .exit))) (sheetProgress r) ⌝ }
+    ensures { λ r. ⌜
+        DoesSheet (λ k. pattern (asked src flags verdicts) k i e h c (contents stateFormat (before area1) n1)) area2 area3 area4 q r
+        ⌝ }
 {
     let place = i as u16;
     let rules = q.rules;

@@ -23,7 +23,7 @@ use Rattle.parse.specs.Parse.{Left, left, leaves, Outcome, Caps, caps, longFile
 use Rattle.output.specs.Output.{Appends, Written, joined}
 use Rattle.output.proofs.Appending.{appends-first}
 use Rattle.sheet_lines.specs.Lines.{stateLine, ruleLine, faultLine, stateLines, ruleLines, faultLines, sheetLines, refusedLine, fullLine}
-use Rattle.sheet_print.specs.Lines.{answerText, textOf, sheetText, lent}
+use Rattle.sheet_print.specs.Lines.{answerText, textOf, sheetRequest, sheetText, lent}
 
 -- ---- the lines of an answer
 
@@ -117,18 +117,18 @@ leaves-tells s k (faulty fs) h = faults-told s (k .c6) _ (h .six) fs refl
 leaves-tells s k (accepted b) h =
     ap₂ (λ (x y : List ℕ). x ++ y) (states-told s (k .c1) _ (h .one) (b .states) refl) (rules-told s (k .c2) _ (h .two) (b .rules) refl)
 
-module _ (s : List ℕ) (k : Caps) (a : Answer) (n x1 x2 x3 x4 x5 x6 : List ℕ) (e : left a n x1 x2 x3 x4 x5 x6 ≡ parseCall s 0 [] k) where
-  pub call-tells : length x1 ≡ k .c1 → length x2 ≡ k .c2 → length x6 ≡ k .c6 → answerText s a (getD n 0 0) (getD n 1 0) x1 x2 x6 ≡ textOf s (outcome s 0 [] k)
+module _ (s : List ℕ) (k : Caps) (a : Answer) (n x1 x2 x3 x4 x5 x6 : List ℕ) (e : left a n x1 x2 x3 x4 x5 x6 ≡ parseCall (sheetRequest s) k) where
+  pub call-tells : length x1 ≡ k .c1 → length x2 ≡ k .c2 → length x6 ≡ k .c6 → answerText s a (getD n 0 0) (getD n 1 0) x1 x2 x6 ≡ textOf s (outcome (sheetRequest s) k)
   unfolding parseCall
-  call-tells h1 h2 h6 = ap (tells s) e ∙ leaves-tells s k (outcome s 0 [] k) (subst (λ (y : Left). Kept k y) e (record { one = h1; two = h2; six = h6 }))
+  call-tells h1 h2 h6 = ap (tells s) e ∙ leaves-tells s k (outcome (sheetRequest s) k) (subst (λ (y : Left). Kept k y) e (record { one = h1; two = h2; six = h6 }))
 
 -- the areas that the program lends
 pub sheet-written : (s : List ℕ) (a : Answer) (n x1 x2 x3 x4 x5 x6 : List ℕ) (c1 c2 c3 c4 c5 c6 : ℕ) {e : List ℕ} {r : ℕ}
-    → left a n x1 x2 x3 x4 x5 x6 ≡ parseCall s 0 [] (caps c1 c2 c3 c4 c5 c6)
+    → left a n x1 x2 x3 x4 x5 x6 ≡ parseCall (sheetRequest s) (caps c1 c2 c3 c4 c5 c6)
     → c1 ≡ 384 → c2 ≡ 57344 → c3 ≡ 32768 → c4 ≡ 32768 → c5 ≡ 32768 → c6 ≡ 32768
     → length x1 ≡ 384 → length x2 ≡ 57344 → length x6 ≡ 32768
     → Written (answerText s a (getD n 0 0) (getD n 1 0) x1 x2 x6) e r → Written (sheetText s) e r
 unfolding sheetText lent
 sheet-written s a n x1 x2 x3 x4 x5 x6 c1 c2 c3 c4 c5 c6 {e} {r} p q1 q2 q3 q4 q5 q6 h1 h2 h6 w =
     let z : caps c1 c2 c3 c4 c5 c6 ≡ caps 384 57344 32768 32768 32768 32768 = λ i. caps (q1 i) (q2 i) (q3 i) (q4 i) (q5 i) (q6 i) in
-    subst (λ (t : List ℕ). Written t e r) (call-tells s (caps 384 57344 32768 32768 32768 32768) a n x1 x2 x3 x4 x5 x6 (p ∙ ap (parseCall s 0 []) z) h1 h2 h6) w
+    subst (λ (t : List ℕ). Written t e r) (call-tells s (caps 384 57344 32768 32768 32768 32768) a n x1 x2 x3 x4 x5 x6 (p ∙ ap (parseCall (sheetRequest s)) z) h1 h2 h6) w

@@ -17,7 +17,7 @@ use Rattle.output.specs.Output.{Written, AllWritten, joined}
 use Rattle.output.proofs.Lengths.{joined-most}
 use Rattle.sheet_lines.specs.Lines.{stateLine, ruleLine, faultLine}
 use Rattle.sheet_lines.proofs.Lengths.{state-most, rule-most, fault-most, refused-most, full-most}
-use Rattle.sheet_print.specs.Lines.{textOf, lent, sheetText, sheetRoom}
+use Rattle.sheet_print.specs.Lines.{textOf, lent, sheetRequest, sheetText, sheetRoom}
 
 -- texts joined, each of which has a bound
 joined-total : (f : ℕ → List ℕ) (g : ℕ → ℕ) → ((k : ℕ) → length (f k) ≤ g k) → (n : ℕ) → length (joined f n) ≤ total g n
@@ -33,7 +33,7 @@ states-most s xs =
     let g : ℕ → ℕ = λ k. nameLength (nthState xs k) in
     omega (arith, joined-total (λ k. stateLine s k (nthState xs k)) (λ k. 38 + g k) (λ k. state-most s k (nthState xs k)) (length xs), total-plus 38 g (length xs))
 
-outcome-most : (s : List ℕ) (o : Outcome) → outcome s 0 [] lent ≡ o → Bounded s 32768 o → length (textOf s o) ≤ sheetRoom
+outcome-most : (s : List ℕ) (o : Outcome) → outcome (sheetRequest s) lent ≡ o → Bounded s 32768 o → length (textOf s o) ≤ sheetRoom
 unfolding textOf lent
 outcome-most s longFile q h = omega (arith, refused-most longFileNumber .most)
 outcome-most s unknownFlag q h = omega (arith, refused-most unknownFlagNumber .most)
@@ -43,16 +43,16 @@ outcome-most s (faulty fs) q h =
     let f : length (joined (λ k. faultLine (nthFault fs k)) (length fs)) ≤ length fs * 30 = joined-most (λ k. faultLine (nthFault fs k)) 30 (λ k. fault-most (nthFault fs k) .most) (length fs) in
     omega (arith, f, h .fits)
 outcome-most s (accepted c) q h =
-    let g = accepted-holds s 0 [] lent c q in
+    let g = accepted-holds (sheetRequest s) lent c q in
     let states = joined (λ k. stateLine s k (nthState (c .states) k)) (length (c .states)) in
     let rules = joined (λ k. ruleLine k (nthRule (c .rules) k)) (length (c .rules)) in
     let b : length rules ≤ length (c .rules) * 95 = joined-most (λ k. ruleLine k (nthRule (c .rules) k)) 95 (λ k. rule-most k (nthRule (c .rules) k) .most) (length (c .rules)) in
-    omega (arith, length-append states rules, states-most s (c .states), b, g .states .fits .few, g .rules .fits .few, h, accepted-short s 0 [] lent c q)
+    omega (arith, length-append states rules, states-most s (c .states), b, g .states .fits .few, g .rules .fits .few, h, accepted-short (sheetRequest s) lent c q)
 
 -- the text of any file has no more bytes than that
 pub text-most : (s : List ℕ) → length (sheetText s) ≤ sheetRoom
 unfolding sheetText lent
-text-most s = outcome-most s (outcome s 0 [] lent) refl (outcome-bounded s 0 [] lent)
+text-most s = outcome-most s (outcome (sheetRequest s) lent) refl (outcome-bounded (sheetRequest s) lent)
 
 -- so a buffer with that room has the whole text
 pub all-written : (s : List ℕ) {l : List ℕ} {n : ℕ} → sheetRoom ≤ length l → Written (sheetText s) l n → AllWritten (sheetText s) l n

@@ -6,6 +6,7 @@ use Rattle.answers.specs.Numbers.{longFileNumber, unknownFlagNumber, invalidUtf
 use Rattle.area.specs.Records.{nthState, nthRule, nthFault}
 use Rattle.parse.specs.declared.Answer.{Answer}
 use Rattle.parse.specs.declared.Answer.the-variants.{Accepted, LongFile, UnknownFlag, InvalidUtf8, AreaFull, FaultyFile}
+use Rattle.section.specs.Request.{Request, request, options}
 use Rattle.parse.specs.Parse.{Outcome, Caps, caps, longFile, unknownFlag, invalidUtf8, areaFull, faulty, accepted, outcome}
 use Rattle.output.specs.Output.{joined}
 use Rattle.sheet_lines.specs.Lines.{stateLine, ruleLine, faultLine, refusedLine, fullLine, faultLines, sheetLines}
@@ -25,9 +26,13 @@ textOf s (accepted b) =
 unfoldable pub lent : Caps
 lent = caps 384 57344 32768 32768 32768 32768
 
--- what `sheet` prints of the file s: flags 0, no verdicts
+-- what `sheet` asks of the file s: flags 0, no verdicts
+abbrev pub sheetRequest : List ℕ → Request
+sheetRequest s = request s (options 0) []
+
+-- what it prints
 unfoldable pub sheetText : List ℕ → List ℕ
-sheetText s = textOf s (outcome s 0 [] lent)
+sheetText s = textOf s (outcome (sheetRequest s) lent)
 
 -- as many bytes as no sheet's text passes: 64 lines of a state without its name, with INITIAL counted in each; the names, which do not overlap
 -- in a file of at most 65,535 bytes; and 2,048 lines of a rule (01, Areas, the limits)

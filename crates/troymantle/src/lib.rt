@@ -1,5 +1,6 @@
 // The calls of the host, as C functions (01, Numbers given at the counter). An answer is one word of four two-byte fields: its number, then its values.
 ghost use mathlib.Core.Path.{_≡_};
+ghost use Rattle.section.specs.Request.{request, options};
 ghost use Rattle.parse.specs.Parse.{parseCall, parseWord};
 ghost use Rattle.run.specs.Contracts.{before};
 ghost use Rattle.troymantle.specs.Words.{inWords};
@@ -47,7 +48,7 @@ pub extern "C" fn troymantle_parse(
 ) -> u64
     ensures { λ r. ⌜
         leftIn r counts area1 area2 area3 area4 area5 area6
-        ≡ inWords (parseCall (before src) flags (before verdicts) (roomIn area1 area2 area3 area4 area5 area6))
+        ≡ inWords (parseCall (request (before src) (options flags) (before verdicts)) (roomIn area1 area2 area3 area4 area5 area6))
         ⌝ }
 {
     word_of(parse(

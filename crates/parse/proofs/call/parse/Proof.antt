@@ -1,6 +1,8 @@
 -- `parse::call::parse` meets its contract: the areas are zero before the first test, and each test is that of the definition.
 use mathlib.Core.Path.{refl, _∙_}
 use borrow.Author.Needs.{needs}
+use denote.Ref.{now}
+use Rattle.section.specs.Request.{Request, request, options}
 use Rattle.parse.proofs.Calls.{call-long-file, call-unknown-flag, call-invalid-utf8, call-text, zeroed-by}
 use Rattle.parse.proofs.call.parse.Statement.{statement}
 use Rattle.parse.proofs.call.parse.Tie as tie
@@ -78,7 +80,7 @@ module _ (c : tie.After-slice-known18) where
   abbrev parsed-area6 : tie.After-area6
   parsed-area6 = parsed-if1 .before .before
 
--- places cleared from area6: area5 area4 area3 area2 area1 clear-all
+-- places cleared from area6: area5 area4 area3 area2 area1 clear-all start
 module _ (c : tie.After-area6) where
   abbrev cleared-area5 : tie.After-area5
   cleared-area5 = c .before .before
@@ -98,13 +100,23 @@ module _ (c : tie.After-area6) where
   abbrev cleared-clear-all : tie.After-clear-all
   cleared-clear-all = cleared-area1 .before
 
+  abbrev cleared-start : tie.Start
+  cleared-start = cleared-clear-all .before .before .before .before .before .before .before .before .before .before .before .before .before .before .before .before
+
+-- what is asked
+abbrev asked : tie.Start → Request
+asked c = request (now (c .args .src)) (options (c .args .flags)) (now (c .args .verdicts))
+
 returns : tie.Need-returns
-returns c = call-long-file _ _ _ _ _ _ _ _ _ (c .if1 .taken) _ _ _ _ _ _ (cleared-clear-all (long-area6 c) .clear-all .ensures) _ refl
+returns c =
+    let p = long-area6 c in
+    call-long-file (asked (cleared-start p)) _ _ _ _ _ _ (c .if1 .taken) _ _ _ _ _ _ (cleared-clear-all p .clear-all .ensures) _ refl
 
 returns-2 : tie.Need-returns-2
 returns-2 c =
-    call-unknown-flag _ _ _ _ _ _ _ _ _ (flagged-if1 c .if1 .left) (c .if2 .taken)
-    _ _ _ _ _ _ (cleared-clear-all (flagged-area6 c) .clear-all .ensures) _ refl
+    let p = flagged-area6 c in
+    call-unknown-flag (asked (cleared-start p)) _ _ _ _ _ _ (flagged-if1 c .if1 .left) (c .if2 .taken)
+    _ _ _ _ _ _ (cleared-clear-all p .clear-all .ensures) _ refl
 
 parse-text-requires : tie.Need-parse-text-requires
 parse-text-requires c κs =
@@ -127,14 +139,15 @@ parse-text-requires c κs =
 returns-3 : tie.Need-returns-3
 returns-3 c =
     let p = parsed-area6 c in
-    call-text _ _ _ _ _ _ _ _ _ (parsed-if1 c .if1 .left) (parsed-if2 c .if2 .left) _ (parsed-utf8 c .utf8 .ensures) (parsed-if3 c .if3 .taken)
+    call-text (asked (cleared-start p)) _ _ _ _ _ _ (parsed-if1 c .if1 .left) (parsed-if2 c .if2 .left) _ (parsed-utf8 c .utf8 .ensures) (parsed-if3 c .if3 .taken)
     (cleared-area1 p .area1 .given) (cleared-area2 p .area2 .given) (cleared-area3 p .area3 .given) (cleared-area4 p .area4 .given)
     (cleared-area5 p .area5 .given) (p .area6 .given) (parsed-parse-text c .parse-text .ensures)
 
 returns-4 : tie.Need-returns-4
 returns-4 c =
-    call-invalid-utf8 _ _ _ _ _ _ _ _ _ (invalid-if1 c .if1 .left) (invalid-if2 c .if2 .left) _ (invalid-utf8 c .utf8 .ensures) (c .if3 .left)
-    _ _ _ _ _ _ (cleared-clear-all (invalid-area6 c) .clear-all .ensures) _ refl
+    let p = invalid-area6 c in
+    call-invalid-utf8 (asked (cleared-start p)) _ _ _ _ _ _ (invalid-if1 c .if1 .left) (invalid-if2 c .if2 .left) _ (invalid-utf8 c .utf8 .ensures)
+    (c .if3 .left) _ _ _ _ _ _ (cleared-clear-all p .clear-all .ensures) _ refl
 
 pub parse-spec : {M : Type 1} → statement M
 parse-spec =

@@ -1,6 +1,8 @@
 -- `parse::sections::parse_sections` meets its contract: each return is an outcome of the file.
 use mathlib.Core.Path.{ap, _∙_}
 use borrow.Author.Needs.{needs}
+use denote.Ref.{now}
+use Rattle.section.specs.Request.{Request, request, options}
 use Rattle.declarations.specs.Answers.{declarationProgress}
 use Rattle.rules_section.specs.Answers.{ruleProgress}
 use Rattle.parse.proofs.Files.{file-short, file-closed, rules-inside, states-held, rules-held, rules-short, rules-closed, rules-judged}
@@ -117,16 +119,21 @@ module _ (c : tie.After-area6) where
   abbrev opened-start : tie.Start
   opened-start = opened-parse-opening .before .before .before .before .before .before .before .before .before .before .before .before
 
+-- what is asked
+abbrev asked : tie.Start → Request
+asked c = request (now (c .args .src)) (options (c .args .flags)) (now (c .args .verdicts))
+
 parse-rules-requires : tie.Need-parse-rules-requires
 parse-rules-requires c κs =
     let p = asked-area6 c in
-    let pre = opened-start p .pre in
+    let start = opened-start p in
+    let pre = start .pre in
     let opening = opened-parse-opening p .parse-opening in
     let went = asked-i c .i .given .1 in (
-      (rules-inside _ _ _ _ _ _ _ _ (pre .1) _ _ _ (opening .result) (opening .ensures) _ _ went, pre .0),
+      (rules-inside (asked start) _ _ _ _ _ _ (pre .1) _ _ _ (opening .result) (opening .ensures) _ _ went, pre .0),
       (
-        states-held _ _ _ _ _ _ _ _ (pre .1) _ _ _ (opening .result) (opening .ensures) _ _ went,
-        rules-held _ _ _ _ _ _ _ _ (pre .1) _ _ _ (opening .result) (opening .ensures) _ _ went,
+        states-held (asked start) _ _ _ _ _ _ (pre .1) _ _ _ (opening .result) (opening .ensures) _ _ went,
+        rules-held (asked start) _ _ _ _ _ _ (pre .1) _ _ _ (opening .result) (opening .ensures) _ _ went,
       ),
     )
 
@@ -141,19 +148,21 @@ returns : tie.Need-returns
 returns c =
     let p = judged-area62 c in
     let o = ruled-area6 p in
+    let start = opened-start o in
     let opening = opened-parse-opening o .parse-opening in
     let rules = ruled-parse-rules p .parse-rules in
-    rules-judged _ _ _ _ _ _ _ _ (opened-start o .pre .1) _ _ _ (opening .result) (opening .ensures) _ _ _ (ruled-i p .i .given .1)
+    rules-judged (asked start) _ _ _ _ _ _ (start .pre .1) _ _ _ (opening .result) (opening .ensures) _ _ (ruled-i p .i .given .1)
     _ _ _ _ (rules .result) (rules .ensures) (o .area6 .given) _ _ (judged-p c .p .given .1) (c .judge .result) (c .judge .ensures)
 
 returns-2 : tie.Need-returns-2
 returns-2 c =
     let p = closed-area62 c in
     let o = ruled-area6 p in
+    let start = opened-start o in
     let opening = opened-parse-opening o .parse-opening in
     let rules = ruled-parse-rules p .parse-rules in
     let added = closed-add-fault c .add-fault in
-    rules-closed _ _ _ _ _ _ _ _ (opened-start o .pre .1) _ _ _ (opening .result) (opening .ensures) _ _ _ (ruled-i p .i .given .1)
+    rules-closed (asked start) _ _ _ _ _ _ (start .pre .1) _ _ _ (opening .result) (opening .ensures) _ _ (ruled-i p .i .given .1)
     _ _ _ _ (rules .result) (rules .ensures) (o .area6 .given) _ _ _ (closed-kind c .kind .given .1) (p .area62 .given)
     (added .result) _ (added .ensures) (c .close .result) (c .close .ensures)
 
@@ -161,24 +170,27 @@ returns-3 : tie.Need-returns-3
 returns-3 c =
     let p = full-area62 c in
     let o = ruled-area6 p in
+    let start = opened-start o in
     let opening = opened-parse-opening o .parse-opening in
     let rules = ruled-parse-rules p .parse-rules in
-    rules-short _ _ _ _ _ _ _ _ (opened-start o .pre .1) _ _ _ (opening .result) (opening .ensures) _ _ _ (ruled-i p .i .given .1)
+    rules-short (asked start) _ _ _ _ _ _ (start .pre .1) _ _ _ (opening .result) (opening .ensures) _ _ (ruled-i p .i .given .1)
     _ _ _ _ (rules .result) (rules .ensures) (o .area6 .given) _ (full-n c .n .given .1)
 
 returns-4 : tie.Need-returns-4
 returns-4 c =
     let o = closed-declared-area6 c in
+    let start = opened-start o in
     let opening = opened-parse-opening o .parse-opening in
     let added = closed-declared-add-fault2 c .add-fault2 in
-    file-closed _ _ _ _ _ _ _ _ (opened-start o .pre .1) _ _ _ (opening .result) (opening .ensures) _ _ _ _ (closed-declared-kind2 c .kind2 .given .1)
+    file-closed (asked start) _ _ _ _ _ _ (start .pre .1) _ _ _ (opening .result) (opening .ensures) _ _ _ (closed-declared-kind2 c .kind2 .given .1)
     (o .area6 .given) (added .result) _ (added .ensures) (c .close2 .result) (c .close2 .ensures)
 
 returns-5 : tie.Need-returns-5
 returns-5 c =
     let o = full-declared-area6 c in
+    let start = opened-start o in
     let opening = opened-parse-opening o .parse-opening in
-    file-short _ _ _ _ _ _ _ _ (opened-start o .pre .1) _ _ _ (opening .result) (opening .ensures) _ _ (full-declared-n2 c .n2 .given .1)
+    file-short (asked start) _ _ _ _ _ _ (start .pre .1) _ _ _ (opening .result) (opening .ensures) _ (full-declared-n2 c .n2 .given .1)
 
 pub parse-sections-spec : {M : Type 1} → statement M
 parse-sections-spec =

@@ -47,7 +47,7 @@ module _ (c : tie.After-slice-known12) where
 
 returns : tie.Need-returns
 returns c =
-    called _ _ _ _ _ _ _ _ _ _ _ _ _ _ _ _ _ _ _ _ _ _ _ _ _
+    called _ _ _ _ _ _ _ _ _ _ _ _ _ _ _ _ _ _ _ _ _ _ _
     (end-troymantle-parse c .troymantle-parse .ensures)
     (record { lent-is = end-lent c .lent .ensures; kept = end-area1 c .area1 .given })
     (record { lent-is = end-lent2 c .lent2 .ensures; kept = end-area2 c .area2 .given })
