@@ -1,5 +1,7 @@
 //! One parse call: what it takes and what it answers.
 
+use crate::answers;
+
 pub const AREAS: usize = 6;
 pub const AREA_NAMES: [&str; AREAS] = ["states", "rules", "lists", "rewritten text", "expected names", "faults"];
 /// Bytes of one record of each area.
@@ -7,13 +9,6 @@ pub const RECORD_SIZES: [usize; AREAS] = [6, 28, 2, 1, 4, 8];
 /// The most records that each area may hold, whatever its length.
 pub const RECORD_LIMITS: [usize; AREAS] = [64, 2_048, 65_535, 65_535, 65_535, 65_535];
 pub const SOURCE_LIMIT: usize = 65_535;
-
-pub const ACCEPTED: u64 = 0;
-pub const LONG_FILE: u64 = 1;
-pub const UNKNOWN_FLAG: u64 = 2;
-pub const INVALID_UTF8: u64 = 3;
-pub const AREA_FULL: u64 = 4;
-pub const FAULTY_FILE: u64 = 5;
 
 pub const FLAG_COMMENTS: u64 = 1;
 pub const FLAG_POSIX_ESCAPES: u64 = 2;
@@ -37,16 +32,11 @@ pub struct Answer {
 
 impl Answer {
     pub fn number(&self) -> u64 {
-        self.word % 65_536
+        answers::number(self.word)
     }
 
     /// The area at number 4, the count of fault spans at number 5.
     pub fn value(&self) -> u64 {
-        self.word / 65_536
+        answers::fields(self.word)[1].into()
     }
-}
-
-/// The word of a number and the value that goes along with it, which may be such a word itself.
-pub fn word(number: u64, value: usize) -> u64 {
-    number + 65_536 * value as u64
 }

@@ -1,6 +1,7 @@
 //! 01's files to try, with what 01 says of them.
 
-use crate::case::{ACCEPTED, Answer, Case, FAULTY_FILE};
+use crate::answers::{ACCEPTED, FAULTY_FILE};
+use crate::case::{Answer, Case};
 use crate::generators;
 use crate::oracle;
 use crate::show;

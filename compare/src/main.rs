@@ -1,11 +1,14 @@
 //! Compares Troymantle with the Rust code that it ports.
 
+mod answers;
 mod bare_walk;
 mod bench;
 mod broken_sheets;
 mod case;
 mod files_to_try;
 mod generators;
+#[cfg(feature = "ours")]
+mod library;
 mod link;
 mod misreadings;
 mod model;
@@ -72,6 +75,7 @@ compare check-record
                     checks that recorded answers are the expected ones, and ours where our library is linked
     --input FILE    (crates/replay/data/answers)
 compare bench       prints the original's times, and ours beside them where our library is linked
+tools/compare test  runs the unit tests of this program and looks for warnings
 compare --help      prints this",
         generators.join("\n")
     )
@@ -134,7 +138,7 @@ fn dispatch(arguments: &[String]) -> Result<(), String> {
 
 fn our_side() -> Option<Box<dyn Side>> {
     #[cfg(feature = "ours")]
-    return Some(Box::new(side::Ours));
+    return Some(Box::new(library::Ours));
     #[cfg(not(feature = "ours"))]
     None
 }
@@ -181,5 +185,25 @@ impl Options {
         let wanted = self.value("--generator").unwrap_or("mix");
         let found = generators::NAMES.iter().find(|(name, ..)| *name == wanted);
         found.map(|(_, generator, _)| *generator).ok_or_else(|| format!("There is no generator `{wanted}`."))
+    }
+}
+
+#[cfg(test)]
+mod tests {
+    use super::*;
+
+    fn read(words: &str) -> Result<Options, String> {
+        let words: Vec<String> = words.split_whitespace().map(str::to_string).collect();
+        Options::read(&words, &["--cases", "--seed"])
+    }
+
+    #[test]
+    fn options_are_pairs_of_a_known_name_and_a_value() {
+        let options = read("--cases 10,000").unwrap_or_else(|told| panic!("{told}"));
+        assert_eq!(options.number("--cases", 1), Ok(10_000));
+        assert_eq!(options.number("--seed", 1), Ok(1));
+        assert!(read("--cases").is_err());
+        assert!(read("--first 1").is_err());
+        assert!(read("--seed x").is_ok_and(|options| options.number("--seed", 1).is_err()));
     }
 }

@@ -40,3 +40,35 @@ impl Random {
         }
     }
 }
+
+#[cfg(test)]
+mod tests {
+    use super::*;
+
+    #[test]
+    fn numbers_are_those_of_splitmix64() {
+        // its published numbers of the seed 0; the first of them is passed over
+        let mut random = Random::new(0, 0);
+        assert_eq!([random.next(), random.next()], [0x6e78_9e6a_a1b9_65f4, 0x06c4_5d18_8009_454f]);
+    }
+
+    #[test]
+    fn a_case_can_be_made_again() {
+        let numbers = |seed, index| {
+            let mut random = Random::new(seed, index);
+            [(); 8].map(|()| random.below(1_000))
+        };
+        assert_eq!(numbers(3, 5), numbers(3, 5));
+        assert_ne!(numbers(3, 5), numbers(3, 6));
+        assert_ne!(numbers(3, 5), numbers(4, 5));
+    }
+
+    #[test]
+    fn a_shuffle_keeps_every_item() {
+        let mut items: Vec<usize> = (0..100).collect();
+        Random::new(1, 2).shuffle(&mut items);
+        assert!(!items.is_sorted());
+        items.sort();
+        assert_eq!(items, (0..100).collect::<Vec<_>>());
+    }
+}

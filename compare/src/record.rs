@@ -1,6 +1,7 @@
 //! `compare record`: a sample of expected answers for the program `replay`; `compare check-record`: whether it still holds.
 
-use crate::case::{ACCEPTED, AREA_FULL, AREAS, Answer, Case, FAULTY_FILE, RECORD_SIZES};
+use crate::answers::{ACCEPTED, AREA_FULL, FAULTY_FILE};
+use crate::case::{AREAS, Answer, Case, RECORD_SIZES};
 use crate::files_to_try::{self, File};
 use crate::generators::{self, Generator};
 use crate::oracle;

@@ -5,8 +5,6 @@ use crate::model::{self, Reading};
 use crate::oracle;
 use std::ops::Range;
 
-pub const BROKEN_SHEET: u64 = 6;
-
 #[derive(Clone, Debug, PartialEq, Eq)]
 pub struct Sheet {
     pub source: Vec<u8>,
@@ -122,5 +120,37 @@ impl Sheet {
             ordered(start, end)
         });
         states && rules && lists && expected
+    }
+}
+
+#[cfg(test)]
+mod tests {
+    use super::*;
+
+    #[test]
+    fn fields_have_their_low_byte_first() {
+        let bytes = [1, 2, 3, 4, 255, 255, 0, 1];
+        assert_eq!(field(&bytes, 1), 0x0302);
+        assert_eq!(fields(&bytes, 1), [65_535, 256]);
+    }
+
+    #[test]
+    fn a_parsed_sheet_passes_and_its_rules_are_read() {
+        let sheet = parsed("%x S\n%%\n<S>\\q <+S>'N'\nb ;", 3);
+        assert!(sheet.passes());
+        let rules = sheet.rules();
+        assert_eq!(sheet.counts, [2, 2, 1, 0, 0, 0]);
+        assert_eq!(&sheet.source[rules[0].name()], b"N");
+        assert_eq!((rules[0].list(), rules[0].operation(), rules[0].target()), (0..1, 2, 1));
+        assert_eq!((rules[1].is_named(), rules[1].list(), rules[1].operation()), (false, 1..1, 0));
+    }
+
+    #[test]
+    fn a_sheet_with_a_state_that_is_not_declared_fails() {
+        let mut sheet = parsed("%x S\n%%\n<S>a ;", 0);
+        sheet.areas[2] = vec![2, 0];
+        assert!(!sheet.passes());
+        sheet.areas[2] = vec![1];
+        assert!(!sheet.passes());
     }
 }

@@ -1,6 +1,7 @@
 //! Cases and answers in words.
 
-use crate::case::{ACCEPTED, AREA_FULL, AREA_NAMES, AREAS, Answer, Case, FAULTY_FILE, RECORD_SIZES};
+use crate::answers::{ACCEPTED, AREA_FULL, FAULTY_FILE};
+use crate::case::{AREA_NAMES, AREAS, Answer, Case, RECORD_SIZES};
 use crate::oracle::{Difference, Finding};
 
 /// Longer sources are cut in the middle.

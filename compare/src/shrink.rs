@@ -124,3 +124,25 @@ impl<F: Fn(&Case) -> bool> Shrinking<F> {
         }
     }
 }
+
+#[cfg(test)]
+mod tests {
+    use super::*;
+    use crate::case::{AREAS, Case};
+
+    #[test]
+    fn what_does_not_matter_goes() {
+        let source = b"%s A\n%%\n// words\n<A>b 'N'\nx ;\n".repeat(40);
+        let case = Case { source, flags: 3, verdicts: vec![0, 1, 0], capacities: [9; AREAS] };
+        let small = shrink(case, |case| case.source.contains(&b'<') && case.flags & 1 == 1);
+        assert_eq!((&small.source[..], small.flags, &small.verdicts[..]), (&b"<"[..], 1, &[][..]));
+        assert_eq!(small.capacities, generators::roomy(1));
+    }
+
+    #[test]
+    fn an_area_that_matters_is_made_short() {
+        let case = Case { source: b"%%\na ;".to_vec(), flags: 0, verdicts: vec![], capacities: [50; AREAS] };
+        let small = shrink(case, |case| (12..=50).contains(&case.capacities[1]));
+        assert_eq!(small.capacities[1], 12);
+    }
+}

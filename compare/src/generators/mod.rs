@@ -129,3 +129,40 @@ fn letters_of_index(mut index: u64, alphabet: usize) -> Vec<usize> {
     }
     letters
 }
+
+#[cfg(test)]
+mod tests {
+    use super::*;
+    use std::collections::HashSet;
+
+    #[test]
+    fn every_short_string_comes_once() {
+        let strings: Vec<Vec<usize>> = (0..1 + 3 + 9 + 27).map(|index| letters_of_index(index, 3)).collect();
+        assert!(strings.is_sorted_by_key(Vec::len));
+        assert_eq!((&strings[0][..], &strings[4][..], &strings[39][..]), (&[][..], &[0, 0][..], &[2, 2, 2][..]));
+        assert_eq!(strings.iter().collect::<HashSet<_>>().len(), strings.len());
+    }
+
+    #[test]
+    fn a_round_of_the_mix_has_the_shares() {
+        for (generator, wanted) in SHARES {
+            let indices: HashSet<u64> =
+                (2_000..3_000).map(share).filter(|(of, _)| *of == generator).map(|(_, index)| index).collect();
+            assert_eq!(indices, (2 * wanted..3 * wanted).collect());
+        }
+    }
+
+    #[test]
+    fn a_case_is_a_function_of_its_number() {
+        for (_, generator, _) in NAMES {
+            assert_eq!(case(generator, 7, 11), case(generator, 7, 11));
+        }
+    }
+
+    #[test]
+    fn room_to_spare_is_enough() {
+        let case = roomy_case("%s A B\n%expect-missing \"x\"\n%%\n<A,B>a ;\n\\q 'N'\n", 0);
+        let needs = crate::oracle::needs(&case);
+        assert!(needs.iter().zip(case.capacities).all(|(need, capacity)| *need < capacity), "{needs:?}");
+    }
+}

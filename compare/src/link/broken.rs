@@ -1,8 +1,8 @@
 //! Sheets and maps that break one condition of number 6 or 7 each, with the answers that 01 gives them.
 
-use super::{BROKEN_MAP, Call, Left, against_model, model, word};
+use super::{Call, Left, against_model, model};
+use crate::answers::{ACCEPTED, BROKEN_MAP, BROKEN_SHEET, word};
 use crate::broken_sheets::{self, cut, records, set};
-use crate::sheet::BROKEN_SHEET;
 
 /// The good sheet, and a map of 2 entries. Rule 0 has no entry, rule 1 has entry 1.
 fn good() -> Call {
@@ -22,7 +22,7 @@ pub fn check() -> Result<usize, String> {
     let mut area_2 = accepted.sheet.areas[1].clone();
     area_2[..4].fill(0);
     area_2[28..32].copy_from_slice(&[1, 0, 255, 255]);
-    let right = Left { word: word(0, 1, 1), area_2, area_7: vec![0; 5], area_8: vec![0; 5] };
+    let right = Left { word: word(ACCEPTED, &[1, 1]), area_2, area_7: vec![0; 5], area_8: vec![0; 5] };
     expect("a good sheet and map", &left, &right)?;
     against_model(&accepted)?;
     let mut tried = 1;

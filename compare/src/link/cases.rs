@@ -1,6 +1,7 @@
 //! Files, maps and calls, each a function of seed and index alone.
 
 use super::Call;
+use crate::answers;
 use crate::case::{AREAS, Case};
 use crate::oracle;
 use crate::random::Random;
@@ -143,7 +144,7 @@ pub fn calls(linking: &Linking, seed: u64, index: u64) -> Vec<Call> {
     let mut random = Random::new(seed ^ 0x6361_6c6c, index);
     let roomy = linking.call();
     let word = super::model::link(&roomy).word;
-    let (missing, idle) = ((word >> 16) as u16 as usize, (word >> 32) as u16 as usize);
+    let [_, missing, idle, _] = answers::fields(word).map(usize::from);
     let with =
         |seven: usize, eight: usize| Call { area_7: vec![0x5a; seven], area_8: vec![0xc3; eight], ..roomy.clone() };
     let short = |length: usize, less: usize| length.saturating_sub(less);

@@ -5,7 +5,7 @@ mod broken;
 mod cases;
 mod model;
 
-use crate::case;
+use crate::answers;
 use crate::sheet::{Rule, Sheet};
 use crate::show;
 use cases::Linking;
@@ -28,14 +28,6 @@ pub struct Left {
     pub area_2: Vec<u8>,
     pub area_7: Vec<u8>,
     pub area_8: Vec<u8>,
-}
-
-pub const BROKEN_MAP: u64 = 7;
-pub const AREA_FULL: u64 = 4;
-
-/// The word of a number and its two values.
-pub fn word(number: u64, a: usize, b: usize) -> u64 {
-    case::word(number, case::word(a as u64, b) as usize)
 }
 
 pub fn run(seed: u64, first: u64, cases: u64) -> Result<(), String> {
@@ -76,11 +68,10 @@ fn against_original(linking: &Linking) -> Result<(), String> {
     let left = model::link(&call);
     let rules = linked(&call.sheet, &left).rules();
     let ids: Vec<Option<u16>> = rules.iter().map(|rule| (rule.has_id() == 1).then_some(rule.id())).collect();
-    let mut missing: Vec<String> =
-        model::numbers(&left.area_7, (left.word >> 16) as u16).map(|k| name_of(&call, &rules[k])).collect();
+    let [_, missing, idle, _] = answers::fields(left.word);
+    let mut missing: Vec<String> = model::numbers(&left.area_7, missing).map(|k| name_of(&call, &rules[k])).collect();
     missing.sort();
-    let mut idle: Vec<String> =
-        model::numbers(&left.area_8, (left.word >> 32) as u16).map(|j| linking.map[j].0.clone()).collect();
+    let mut idle: Vec<String> = model::numbers(&left.area_8, idle).map(|j| linking.map[j].0.clone()).collect();
     idle.sort();
     let model = original::Linked { ids, rules_without_entry: missing, entries_without_rule: idle };
     if model == original {
@@ -125,7 +116,7 @@ pub fn against_model(call: &Call) -> Result<Left, String> {
 
 #[cfg(feature = "ours")]
 fn ours(call: &Call) -> Option<Left> {
-    Some(crate::side::link(call))
+    Some(crate::library::link(call))
 }
 
 #[cfg(not(feature = "ours"))]

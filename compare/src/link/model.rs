@@ -1,7 +1,8 @@
 //! The link call by 01's words, on the bytes that it takes.
 
-use super::{AREA_FULL, BROKEN_MAP, Call, Left, word};
-use crate::sheet::{BROKEN_SHEET, field, fields};
+use super::{Call, Left};
+use crate::answers::{ACCEPTED, AREA_FULL, BROKEN_MAP, BROKEN_SHEET, word};
+use crate::sheet::{field, fields};
 
 /// The first numbers of area 7 or 8.
 pub fn numbers(area: &[u8], count: u16) -> impl Iterator<Item = usize> + '_ {
@@ -9,16 +10,16 @@ pub fn numbers(area: &[u8], count: u16) -> impl Iterator<Item = usize> + '_ {
 }
 
 pub fn link(call: &Call) -> Left {
-    let refused = |number, area| Left {
-        word: word(number, area, 0),
+    let refused = |word| Left {
+        word,
         area_2: call.sheet.areas[1].clone(),
         area_7: call.area_7.clone(),
         area_8: call.area_8.clone(),
     };
     if !call.sheet.passes() {
-        return refused(BROKEN_SHEET, 0);
+        return refused(BROKEN_SHEET);
     }
-    let Some(map) = map(call) else { return refused(BROKEN_MAP, 0) };
+    let Some(map) = map(call) else { return refused(BROKEN_MAP) };
     let mut area_2 = call.sheet.areas[1].clone();
     let mut missing = vec![];
     let mut used = vec![false; map.len()];
@@ -38,11 +39,11 @@ pub fn link(call: &Call) -> Left {
     let idle: Vec<usize> = (0..map.len()).filter(|j| !used[*j]).collect();
     for (number, numbers, area) in [(7, &missing, &call.area_7), (8, &idle, &call.area_8)] {
         if 2 * numbers.len() > area.len() {
-            return refused(AREA_FULL, number);
+            return refused(word(AREA_FULL, &[number]));
         }
     }
     Left {
-        word: word(0, missing.len(), idle.len()),
+        word: word(ACCEPTED, &[missing.len(), idle.len()]),
         area_2,
         area_7: filled(&missing, call.area_7.len()),
         area_8: filled(&idle, call.area_8.len()),
@@ -57,7 +58,7 @@ fn filled(numbers: &[usize], length: usize) -> Vec<u8> {
 
 /// The names and ids of a map; none where it is broken.
 fn map(call: &Call) -> Option<Vec<(&[u8], u16)>> {
-    if call.entries.len() % 6 != 0 || call.entries.len() / 6 > 2_048 {
+    if !call.entries.len().is_multiple_of(6) || call.entries.len() / 6 > 2_048 {
         return None;
     }
     let mut map: Vec<(&[u8], u16)> = vec![];

@@ -1,10 +1,8 @@
 //! 01, Numbers and Areas: what is written goes into areas of given lengths, and the call answers.
 
 use super::{Kind, Reading, Rule, Span, State, Write, walk};
-use crate::case::{
-    ACCEPTED, AREA_FULL, AREAS, Answer, Case, FAULTY_FILE, INVALID_UTF8, LONG_FILE, RECORD_LIMITS, RECORD_SIZES,
-    SOURCE_LIMIT, UNKNOWN_FLAG, word,
-};
+use crate::answers::{ACCEPTED, AREA_FULL, FAULTY_FILE, INVALID_UTF8, LONG_FILE, UNKNOWN_FLAG, word};
+use crate::case::{AREAS, Answer, Case, RECORD_LIMITS, RECORD_SIZES, SOURCE_LIMIT};
 use crate::misreadings::Misreading as M;
 use std::borrow::Cow;
 
@@ -41,7 +39,7 @@ pub fn records(text: &str, case: &Case, reading: Reading) -> Records {
 /// The whole answer of the parse call.
 pub fn answer(case: &Case, reading: Reading) -> Answer {
     match refusal(case, reading) {
-        Err(number) => cleared(case, word(number, 0)),
+        Err(number) => cleared(case, word(number, &[])),
         Ok(text) => answer_to_text(&text, case, reading),
     }
 }
@@ -128,7 +126,7 @@ fn answer_to_text(text: &str, case: &Case, reading: Reading) -> Answer {
 fn full_answer(Full(area): Full, records: Records, case: &Case, reading: Reading) -> Answer {
     let area = area - reading.choose(M::AreaNumberFromZero, 1, 0);
     let kept = if reading.has(M::AreasKeptWhenFull) { records } else { Records::default() };
-    Answer { word: word(AREA_FULL, area), ..kept.answer(case, reading) }
+    Answer { word: word(AREA_FULL, &[area]), ..kept.answer(case, reading) }
 }
 
 /// At number 5 the fault records stay and everything else is zero.
@@ -143,7 +141,7 @@ fn faulty(records: Records, case: &Case, reading: Reading) -> Answer {
         true => records,
         false => Records { faults, ..Records::default() },
     };
-    Answer { word: word(FAULTY_FILE, spans), counts, ..kept.answer(case, reading) }
+    Answer { word: word(FAULTY_FILE, &[spans]), counts, ..kept.answer(case, reading) }
 }
 
 fn cleared(case: &Case, word: u64) -> Answer {
@@ -300,4 +298,61 @@ fn rule_fields(rule: &Rule) -> [usize; 14] {
 /// Every field is two bytes, low byte first.
 fn fields<const N: usize>(records: impl Iterator<Item = [usize; N]>) -> Vec<u8> {
     records.flatten().flat_map(|field| (field as u16).to_le_bytes()).collect()
+}
+
+#[cfg(test)]
+mod tests {
+    use super::*;
+    use crate::answers::fields as fields_of;
+
+    const SOURCE: &str = "%x S\n%%\n<S>a 'N'\n\\qb ;";
+    /// Two states, two rules, one list entry, two rewritten bytes.
+    const NEEDS: [usize; AREAS] = [12, 56, 2, 2, 0, 0];
+
+    fn answer_in(source: &str, capacities: [usize; AREAS]) -> Answer {
+        let case = Case { source: source.into(), flags: 0, verdicts: vec![], capacities };
+        answer(&case, Reading::RIGHT)
+    }
+
+    #[test]
+    fn areas_that_just_fit_are_filled() {
+        let answer = answer_in(SOURCE, NEEDS);
+        assert_eq!((answer.word, answer.counts), (ACCEPTED, [2, 2, 1, 2, 0, 0]));
+        assert_eq!((&answer.areas[2][..], &answer.areas[3][..]), (&[1, 0][..], &b"qb"[..]));
+        let roomy = answer_in(SOURCE, NEEDS.map(|need| need + 3));
+        for (area, (bytes, need)) in roomy.areas.iter().zip(NEEDS).enumerate() {
+            assert_eq!((&bytes[..need], &bytes[need..]), (&answer.areas[area][..], &[0, 0, 0][..]));
+        }
+    }
+
+    #[test]
+    fn an_area_one_byte_short_is_told_by_its_number() {
+        for area in 0..4 {
+            let mut capacities = NEEDS;
+            capacities[area] -= 1;
+            let answer = answer_in(SOURCE, capacities);
+            assert_eq!(fields_of(answer.word), [4, area as u16 + 1, 0, 0]);
+            assert_eq!((answer.counts, answer.areas), ([0; AREAS], capacities.map(|length| vec![0; length])));
+        }
+    }
+
+    #[test]
+    fn a_repeat_moves_later_faults_up() {
+        let answer = answer_in("%%\na 'N'\nb 'N'\n v\nc 'N'", [999; AREAS]);
+        assert_eq!(fields_of(answer.word), [5, 4, 0, 0]);
+        let kinds: Vec<u8> = answer.areas[5].chunks(8).take(4).map(|span| span[2]).collect();
+        assert_eq!(kinds, [9, 9, 9, 11]);
+    }
+
+    #[test]
+    fn refusals_come_in_order() {
+        let long = vec![b'/'; SOURCE_LIMIT + 1];
+        let number = |source: Vec<u8>, flags| {
+            answer(&Case { source, flags, verdicts: vec![], capacities: [0; AREAS] }, Reading::RIGHT).word
+        };
+        assert_eq!(number(long, 4), LONG_FILE);
+        assert_eq!(number(vec![0xff], 4), UNKNOWN_FLAG);
+        assert_eq!(number(vec![0xff], 3), INVALID_UTF8);
+        assert_eq!(number(vec![], 3), word(AREA_FULL, &[1]));
+    }
 }

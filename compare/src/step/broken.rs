@@ -1,8 +1,9 @@
 //! Starts and steps at every edge of 01's conditions, with the answers that 01 gives them.
 
-use super::{BROKEN_RUN, DONE, ROW_MISMATCH, Run, SKIP, START_REFUSED, STOPPED, UNLINKED, start, step, token};
+use super::{Run, start, step, token};
+use crate::answers::{BROKEN_RUN, BROKEN_SHEET, DONE, ROW_MISMATCH, SKIP, START_REFUSED, STOPPED, UNLINKED};
 use crate::broken_sheets::{self, cut, records, set};
-use crate::sheet::{BROKEN_SHEET, Sheet};
+use crate::sheet::Sheet;
 
 /// How many were tried.
 pub fn check() -> Result<usize, String> {

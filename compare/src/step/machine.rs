@@ -1,7 +1,8 @@
 //! The run machine of 01: it is given the file, the map and the rows, and reads neither sheet nor run.
 
 use super::misreadings::Misreading as M;
-use super::{DONE, ROW_MISMATCH, Run, SKIP, STOPPED, UNLINKED, token};
+use super::{Run, token};
+use crate::answers::{DONE, ROW_MISMATCH, SKIP, STOPPED, UNLINKED};
 use crate::model::Records;
 
 #[derive(Clone)]
@@ -155,5 +156,37 @@ impl Machine {
             }
         }
         Run { numbers, stack }
+    }
+}
+
+#[cfg(test)]
+mod tests {
+    use super::*;
+    use crate::generators::roomy_case;
+    use crate::model::{self, Reading};
+
+    const SOURCE: &str = "%x S\n%%\na <+S>'A'\n<S>b <-S>;\nc 'C'";
+
+    fn machine(n: usize) -> Machine {
+        let records = model::records(SOURCE, &roomy_case(SOURCE, 0), Reading::RIGHT);
+        Machine::new(SOURCE, &records, &[("A".to_string(), 9)], n, None)
+    }
+
+    #[test]
+    fn it_pushes_pops_and_holds_what_it_held() {
+        let mut machine = machine(4);
+        let rows = [[1, 0, 0, 0, 1, 0], [3, 0, 2, 0, 0, 0], [0, 0, 0, 0, 1, 0], [2, 0, 0, 0, 0, 0]];
+        let answers = rows.map(|row| machine.take(&row));
+        assert_eq!(answers, [token(9, 0, 1), SKIP, UNLINKED, ROW_MISMATCH]);
+        assert_eq!(machine.run(&[7; 10]), Run { numbers: [4, 3, 1, 2], stack: vec![0, 0, 1, 0, 7, 7, 7, 7, 7, 7] });
+    }
+
+    #[test]
+    fn it_stops_where_no_live_rule_has_a_length() {
+        let mut machine = machine(1);
+        assert_eq!(machine.take(&[0, 0, 1, 0, 0, 0]), STOPPED);
+        assert_eq!(machine.take(&[1, 0, 0, 0, 0]), ROW_MISMATCH);
+        machine.take(&[1, 0, 0, 0, 0, 0]);
+        assert_eq!(machine.take(&[]), DONE);
     }
 }

@@ -7,7 +7,8 @@ mod machine;
 mod misreadings;
 mod model;
 
-use crate::case::{ACCEPTED, FLAG_COMMENTS, FLAG_POSIX_ESCAPES, word};
+use crate::answers::{self, ACCEPTED, STOPPED, TOKEN, UNLINKED, word};
+use crate::case::{FLAG_COMMENTS, FLAG_POSIX_ESCAPES};
 use crate::link;
 use crate::model::{self as parse_model, Reading};
 use crate::oracle;
@@ -44,18 +45,9 @@ impl Run {
     }
 }
 
-const START_REFUSED: u64 = 8;
-const BROKEN_RUN: u64 = 9;
-const ROW_MISMATCH: u64 = 10;
-const DONE: u64 = 256;
-const STOPPED: u64 = 257;
-const UNLINKED: u64 = 258;
-const SKIP: u64 = 259;
-const TOKEN: u64 = 260;
-
 /// The word of a token.
 fn token(id: u16, start: u16, length: u16) -> u64 {
-    word(TOKEN, word(id as u64, word(start as u64, length as usize) as usize) as usize)
+    word(TOKEN, &[id, start, length].map(usize::from))
 }
 
 pub fn run(seed: u64, first: u64, cases: u64) -> Result<(), String> {
@@ -173,11 +165,11 @@ impl Follower<'_> {
         }
         self.run = run;
         self.calls.push((row, word));
-        *tally.answers.entry(word % 65_536).or_default() += 1;
+        *tally.answers.entry(answers::number(word)).or_default() += 1;
         tally.deepest = tally.deepest.max(self.run.numbers[2]);
         tally.most_moves = tally.most_moves.max(self.run.numbers[3]);
         self.compare()?;
-        Ok(word % 65_536)
+        Ok(answers::number(word))
     }
 
     fn compare(&self) -> Result<(), String> {
@@ -198,7 +190,7 @@ impl Follower<'_> {
     fn try_damaged(&self, random: &mut Random, row: &[u8], tally: &mut Tally) -> Result<(), String> {
         let (sheet, run, row) = cases::damaged(random, self.sheet.clone(), self.run.clone(), row.to_vec());
         let (word, _) = step(&sheet, &run, &row)?;
-        *tally.answers.entry(word % 65_536).or_default() += 1;
+        *tally.answers.entry(answers::number(word)).or_default() += 1;
         Ok(())
     }
 }
@@ -227,7 +219,7 @@ fn follow(case: &Case, random: &mut Random, tally: &mut Tally) -> Result<Trace, 
         match follower.take(row, tally)? {
             TOKEN => {
                 let word = follower.calls[follower.calls.len() - 1].1;
-                let [id, start, length] = [16, 32, 48].map(|bits| (word >> bits) as u16);
+                let [_, id, start, length] = answers::fields(word);
                 lexed.push(Lexed::Token { id, start: start as usize, length: length as usize });
             }
             STOPPED => {
@@ -310,18 +302,18 @@ fn shown(case: &Case) -> String {
 mod ours {
     use super::{Run, Sheet};
     use crate::case::{Answer, Case};
-    use crate::side::{self, Side};
+    use crate::library;
 
     pub fn parse(case: &Case) -> Option<Answer> {
-        Some(side::Ours.parse(case))
+        Some(library::parse(case))
     }
 
     pub fn start(n: u64, run: &Run) -> Option<(u64, Run)> {
-        Some(side::start(n, run))
+        Some(library::start(n, run))
     }
 
     pub fn step(sheet: &Sheet, run: &Run, row: &[u8]) -> Option<(u64, Run)> {
-        Some(side::step(sheet, run, row))
+        Some(library::step(sheet, run, row))
     }
 }
 

@@ -1,7 +1,8 @@
 //! The start call and the step call by 01's words, on the bytes that they take.
 
-use super::{BROKEN_RUN, DONE, ROW_MISMATCH, Run, SKIP, START_REFUSED, STOPPED, UNLINKED, token};
-use crate::sheet::{BROKEN_SHEET, Rule, Sheet, field, fields};
+use super::{Run, token};
+use crate::answers::{BROKEN_RUN, BROKEN_SHEET, DONE, ROW_MISMATCH, SKIP, START_REFUSED, STOPPED, UNLINKED};
+use crate::sheet::{Rule, Sheet, field, fields};
 
 pub fn start(n: u64, run: &Run) -> (u64, Run) {
     if n > 4_096 || (run.stack.len() as u64) < 2 * (n + 1) {

@@ -15,10 +15,10 @@ use Rattle.fault.specs.Step.{loop}
 use Rattle.section.specs.Section.{comments, isComment, pastComment, pastLine, toDeclaration, pastRuleLine, toRule, inSection, hasRoutines}
 use Rattle.names.specs.Names.{allBytes, isNameByte, isStateName, isState, findState, hasName, findRule}
 use Rattle.escape.specs.Escape.{posixEscapes, isCodeLetter, isCode, isKeptBy, isKept, isRewritten, lastWhole, dropLone, rewrittenEnd, backspace, escapeFrom, escaped, unescaped, nextEscape, escapesFrom, escapes, anyEscape, lastEnd, replaced}
-use Rattle.declarations.specs.Declarations.{declareState, stateNames, isQuoted, expectedNames, isAlphanumeric, declares, declarationOf, declareAs, declaration, nextDeclaration, endDeclarations, declarations, trimmed}
-use Rattle.declarations.specs.Declarations.{wordEnd, firstWord, restOf, isInclusive, isExclusive, isExpecting, statesOf, behindName, addState, repeatState, stateNamed, declareExpected}
+use Rattle.declarations.specs.Declarations.{declareState, stateNames, isQuoted, expectedNames, isAlphanumeric, declares, declarationOf, declareAs, declaration, nextDeclaration, endDeclarations, declarations, trimmed, wordEnd, firstWord, restOf, isInclusive, isExclusive, isExpecting, statesOf, behindName, addState, repeatState, stateNamed, declareExpected}
 use Rattle.rules.specs.Heading.{operationOf, targetOf, isNoName, isName, labelBy, labelOf, headingOf, bodyOf, hasTarget, targetEnd, targetOperation, targetName, targetId, equalQuotes, ruleNamed, headingBehind, hasList, listEnd}
-use Rattle.rules.specs.Rules.{nextEntry, entries, refuses, recordRule, listedRule, rewrittenRule, pattern, ruleAs, rule, line, nextRule, rules, routines, rulesSection, entryEnd, entryId, withRule}
+use Rattle.rules.specs.Rules.{nextEntry, entries, refuses, recordRule, entryEnd, entryId}
+use Rattle.rules_section.specs.RulesSection.{listedRule, rewrittenRule, pattern, ruleAs, rule, line, nextRule, rules, routines, rulesSection, withRule}
 use Rattle.parse.specs.Parse.{closed, judge, rulesFrom, opening, file, outcome}
 use Rattle.file_table.specs.Table.{table, Right}
 

@@ -48,53 +48,53 @@ module _ (es : List Entry) (j n : ℕ) (long : length es ≡ n) where
   none-asked : leb n j ≡ isNone (idAt es j)
   none-asked = ⊎-elim none-past some-before (le-or-lt n j)
 
-module _ (s names entries : List ℕ) (x : Rule) where
-  pub unmapped-unnamed : (x .named ≡ 1 → ⊥) → false ≡ isUnmapped s (entriesOf names entries) x
+module _ (name : Rule → List ℕ) (names entries : List ℕ) (x : Rule) where
+  pub unmapped-unnamed : (x .named ≡ 1 → ⊥) → false ≡ isUnmapped name (entriesOf names entries) x
   unfolding isUnmapped
   unmapped-unnamed h = rw (ne-eqb (x .named) 1 h)
 
-  pub unmapped-asked : x .named ≡ 1 → (j : ℕ) → j ≡ findEntry (entriesOf names entries) (nameOf s x) → leb (entryCount entries) j ≡ isUnmapped s (entriesOf names entries) x
+  pub unmapped-asked : x .named ≡ 1 → (j : ℕ) → j ≡ findEntry (entriesOf names entries) (name x) → leb (entryCount entries) j ≡ isUnmapped name (entriesOf names entries) x
   unfolding isUnmapped idOf
   unmapped-asked h j is = rw (eq-eqb (x .named) 1 h, ← is) (none-asked (entriesOf names entries) j (entryCount entries) (entries-count names entries))
 
 pub ruleset asking-rules = (needs, unmapped-unnamed, unmapped-asked)
 
-module _ (s name : List ℕ) (x : Rule) where
-  pub name-unnamed : (x .named ≡ 1 → ⊥) → false ≡ hasThatName s name x
+module _ (s bytes : List ℕ) (x : Rule) where
+  pub name-unnamed : (x .named ≡ 1 → ⊥) → false ≡ hasThatName (nameOf s) bytes x
   unfolding hasThatName
   name-unnamed h = rw (ne-eqb (x .named) 1 h)
 
-  pub name-named : (r : Bool) → x .named ≡ 1 → r ≡ sameBytes name (part s (x .«name_from») (x .«name_from» + x .«name_length»)) → r ≡ hasThatName s name x
+  pub name-named : (r : Bool) → x .named ≡ 1 → r ≡ sameBytes bytes (part s (x .«name_from») (x .«name_from» + x .«name_length»)) → r ≡ hasThatName (nameOf s) bytes x
   unfolding hasThatName nameOf
   name-named r h q = rw (eq-eqb (x .named) 1 h) q
 
 pub ruleset asking-names = (needs, name-unnamed, name-named)
 
 -- a rule has the name
-module _ (s name l : List ℕ) (count k : ℕ) (x : Rule) (is : x ≡ ruleAt l k) (r : Bool) (says : r ≡ hasThatName s name x) where
-  pub unused-found : k < count → r ≡ true → false ≡ isUnused s (contents ruleFormat l count) name
+module _ (name : Rule → List ℕ) (bytes l : List ℕ) (count k : ℕ) (x : Rule) (is : x ≡ ruleAt l k) (r : Bool) (says : r ≡ hasThatName name bytes x) where
+  pub unused-found : k < count → r ≡ true → false ≡ isUnused name (contents ruleFormat l count) bytes
   unfolding isUnused
-  unused-found h e = by (all (λ y. not (hasThatName s name y)) (contents ruleFormat l count)) refl
+  unused-found h e = by (all (λ y. not (hasThatName name bytes y)) (contents ruleFormat l count)) refl
     where
-      here : not (hasThatName s name (nthRule (contents ruleFormat l count) k)) ≡ false
-      here = ap (λ (y : Rule). not (hasThatName s name y)) (contents-read ruleFormat l count k h ∙ sym is) ∙ ap not (sym says ∙ e)
+      here : not (hasThatName name bytes (nthRule (contents ruleFormat l count) k)) ≡ false
+      here = ap (λ (y : Rule). not (hasThatName name bytes y)) (contents-read ruleFormat l count k h ∙ sym is) ∙ ap not (sym says ∙ e)
 
-      by : (t : Bool) → all (λ y. not (hasThatName s name y)) (contents ruleFormat l count) ≡ t → false ≡ t
+      by : (t : Bool) → all (λ y. not (hasThatName name bytes y)) (contents ruleFormat l count) ≡ t → false ≡ t
       by false q = refl
-      by true q = sym here ∙ all-at (λ y. not (hasThatName s name y)) (contents ruleFormat l count) (ruleFormat .blank) k q (omega (arith, contents-count ruleFormat l count))
+      by true q = sym here ∙ all-at (λ y. not (hasThatName name bytes y)) (contents ruleFormat l count) (ruleFormat .blank) k q (omega (arith, contents-count ruleFormat l count))
 
 -- no rule so far has the name
-module _ (s name l : List ℕ) (count k : ℕ) (before : all (λ x. not (hasThatName s name x)) (contents ruleFormat l k) ≡ true) where
-  module _ (x : Rule) (is : x ≡ ruleAt l k) (r : Bool) (says : r ≡ hasThatName s name x) where
-    pub unused-next : r ≡ false → all (λ y. not (hasThatName s name y)) (contents ruleFormat l (k + 1)) ≡ true
-    unused-next e = sym (all-next ruleFormat (λ y. not (hasThatName s name y)) l k true true x (sym before) is (ap not (sym e ∙ says)))
+module _ (name : Rule → List ℕ) (bytes l : List ℕ) (count k : ℕ) (before : all (λ x. not (hasThatName name bytes x)) (contents ruleFormat l k) ≡ true) where
+  module _ (x : Rule) (is : x ≡ ruleAt l k) (r : Bool) (says : r ≡ hasThatName name bytes x) where
+    pub unused-next : r ≡ false → all (λ y. not (hasThatName name bytes y)) (contents ruleFormat l (k + 1)) ≡ true
+    unused-next e = sym (all-next ruleFormat (λ y. not (hasThatName name bytes y)) l k true true x (sym before) is (ap not (sym e ∙ says)))
 
-  pub unused-ended : count ≤ k → k ≤ count → true ≡ isUnused s (contents ruleFormat l count) name
+  pub unused-ended : count ≤ k → k ≤ count → true ≡ isUnused name (contents ruleFormat l count) bytes
   unfolding isUnused
-  unused-ended h g = all-read ruleFormat (λ y. not (hasThatName s name y)) l k count true h g (sym before)
+  unused-ended h g = all-read ruleFormat (λ y. not (hasThatName name bytes y)) l k count true h g (sym before)
 
-pub unused-none : (s name l : List ℕ) → all (λ x. not (hasThatName s name x)) (contents ruleFormat l 0) ≡ true
-unused-none s name l = sym (all-none ruleFormat (λ x. not (hasThatName s name x)) l)
+pub unused-none : (name : Rule → List ℕ) (bytes l : List ℕ) → all (λ x. not (hasThatName name bytes x)) (contents ruleFormat l 0) ≡ true
+unused-none name bytes l = sym (all-none ruleFormat (λ x. not (hasThatName name bytes x)) l)
 
 pub ruleset asking-entries = (needs, unused-none, unused-next, unused-found, unused-ended)
 
@@ -194,11 +194,11 @@ pub fits-says : (ns l : List ℕ) → fits ns l ≡ true → length ns * entryWi
 unfolding fits
 fits-says ns l e = leb-true (length ns * entryWidth) (length l) e
 
-module _ (s : List ℕ) (es : List Entry) (l : List ℕ) (count : ℕ) where
+module _ (name : Rule → List ℕ) (es : List Entry) (l : List ℕ) (count : ℕ) where
   abbrev pub unmappedAt : ℕ → Bool
-  unmappedAt k = isUnmapped s es (nthRule (contents ruleFormat l count) k)
+  unmappedAt k = isUnmapped name es (nthRule (contents ruleFormat l count) k)
 
-  pub unmapped-is : numbers unmappedAt count ≡ unmapped s es (contents ruleFormat l count)
+  pub unmapped-is : numbers unmappedAt count ≡ unmapped name es (contents ruleFormat l count)
   unfolding unmapped
   unmapped-is = ap (numbers unmappedAt) (sym (contents-count ruleFormat l count))
 
@@ -210,11 +210,11 @@ module _ (l : List ℕ) (count : ℕ) where
   unfolding unlinked
   unlinked-is = ap (numbers unlinkedAt) (sym (contents-count ruleFormat l count))
 
-module _ (s names entries l : List ℕ) (count : ℕ) where
+module _ (name : Rule → List ℕ) (names entries l : List ℕ) (count : ℕ) where
   abbrev pub unusedAt : ℕ → Bool
-  unusedAt j = isUnused s (contents ruleFormat l count) (nth (entriesOf names entries) j .name)
+  unusedAt j = isUnused name (contents ruleFormat l count) (nth (entriesOf names entries) j .name)
 
-  pub unused-is : numbers unusedAt (entryCount entries) ≡ unused s (entriesOf names entries) (contents ruleFormat l count)
+  pub unused-is : numbers unusedAt (entryCount entries) ≡ unused name (entriesOf names entries) (contents ruleFormat l count)
   unfolding unused
   unused-is = ap (numbers unusedAt) (sym (entries-count names entries))
 

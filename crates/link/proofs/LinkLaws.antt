@@ -7,52 +7,54 @@ use mathlib.Core.Option.{Option, none, some}
 use Prim.Native.Nat.{ℕ, _*_, _≤_, _<_}
 use native.Mathlib.Omega.{arith}
 use borrow.Author.Tests.{le-leb, lt-ltb}
-use lib.Dec.{eqb, leb}
+use lib.Dec.{leb}
 use lib.ListN.{length, drop, length-append, length-drop}
 use Rattle.text.proofs.Tests.{and-left, and-right}
+use Rattle.area.specs.declared.State.{State}
 use Rattle.area.specs.declared.Rule.{Rule}
+use Rattle.area.specs.declared.Expected.{Expected}
 use Rattle.area.specs.Bytes.{bytes}
-use Rattle.area.specs.Records.{ruleWidth, mostStates, mostRules, nthRule}
+use Rattle.area.specs.Records.{ruleWidth, nthRule}
 use Rattle.area.specs.Contents.{contents, stateFormat, ruleFormat, entryFormat, textFormat, expectedFormat, relaid}
 use Rattle.area.proofs.Fields.{bytes-length}
 use Rattle.area.proofs.Contents.{rule-sound}
 use Rattle.parse.specs.Parse.{Contents}
-use Rattle.sheet_check.specs.SheetCheck.{SheetBytes, sheetBytes, count, decoded, mark, ordered, within, declared, goodRule, goodContents, longEnough, sheetCheck}
+use Rattle.sheet_check.specs.declared.Sizes.{Sizes}
+use Rattle.sheet_check.specs.SheetCheck.{SheetBytes, sheetBytes, nameIn, count, decoded, sizesOf, mark, ordered, within, declared, bytesAt, goodRule, goodRecords, sheetCheck}
 use Rattle.area.specs.Lists.{all}
-use Rattle.sheet_check.proofs.Checked.{good-rule, good-contents, checked-long, rules-count}
+use Rattle.sheet_check.proofs.Checked.{GoodRecords, good-rule, checked-sizes, checked-long, checked-records, rules-count}
 use Rattle.link.specs.declared.LinkAnswer.the-variants.{Linked, BrokenSheet, BrokenMap, AreaFull}
 use Rattle.link.specs.Map.{Entry, entriesOf, nth, idAt, idOf, distinct, mapCheck}
-use Rattle.names.specs.Names.{nameOf}
 use Rattle.link.specs.Link.{isNamed, withId, withFound, linkRule, linkRules, linkLeft, fits, unmapped, unused, linkAll, linkChecked, linkCall}
 use Rattle.link.proofs.Maps.{entry-first}
 use Rattle.link.proofs.Outcomes.{link-count, link-at, rules-read-back}
 
 -- ---- a rule
 
-module _ (s : List ℕ) (es : List Entry) where
+module _ (name : Rule → List ℕ) (es : List Entry) where
   found-changes : (o : Option ℕ) (x : Rule) → withFound o x ≡ withId (withFound o x .«has_id») (withFound o x .id) x
   unfolding withFound withId
   found-changes (some i) x = refl
   found-changes none x = refl
 
   -- only has id and id change
-  pub link-changes-ids : (x : Rule) → linkRule s es x ≡ withId (linkRule s es x .«has_id») (linkRule s es x .id) x
+  pub link-changes-ids : (x : Rule) → linkRule name es x ≡ withId (linkRule name es x .«has_id») (linkRule name es x .id) x
   unfolding linkRule withId
   link-changes-ids x = by (isNamed x)
     where
       by : (t : Bool)
-          → cond t (withFound (idOf es (nameOf s x)) x) x
-          ≡ withId (cond t (withFound (idOf es (nameOf s x)) x) x .«has_id») (cond t (withFound (idOf es (nameOf s x)) x) x .id) x
-      by true = found-changes (idOf es (nameOf s x)) x
+          → cond t (withFound (idOf es (name x)) x) x
+          ≡ withId (cond t (withFound (idOf es (name x)) x) x .«has_id») (cond t (withFound (idOf es (name x)) x) x .id) x
+      by true = found-changes (idOf es (name x)) x
       by false = refl
 
   -- an unnamed rule keeps them too
-  pub link-keeps-unnamed : (x : Rule) → isNamed x ≡ false → linkRule s es x ≡ x
+  pub link-keeps-unnamed : (x : Rule) → isNamed x ≡ false → linkRule name es x ≡ x
   unfolding linkRule
   link-keeps-unnamed x e = rw e
 
   -- a named rule whose name is in the map has the map's id
-  pub link-gives-id : (x : Rule) (i : ℕ) → isNamed x ≡ true → idOf es (nameOf s x) ≡ some i → (linkRule s es x .«has_id» ≡ 1) × (linkRule s es x .id ≡ i)
+  pub link-gives-id : (x : Rule) (i : ℕ) → isNamed x ≡ true → idOf es (name x) ≡ some i → (linkRule name es x .«has_id» ≡ 1) × (linkRule name es x .id ≡ i)
   unfolding linkRule withFound withId
   link-gives-id x i e q = (rw (e, q), rw (e, q))
 
@@ -61,12 +63,12 @@ module _ (s : List ℕ) (es : List Entry) where
   found-mark (some i) x = refl
   found-mark none x = refl
 
-  link-mark : (x : Rule) → mark (x .«has_id») ≡ true → mark (linkRule s es x .«has_id») ≡ true
+  link-mark : (x : Rule) → mark (x .«has_id») ≡ true → mark (linkRule name es x .«has_id») ≡ true
   unfolding linkRule
   link-mark x e = by (isNamed x)
     where
-      by : (t : Bool) → mark (cond t (withFound (idOf es (nameOf s x)) x) x .«has_id») ≡ true
-      by true = found-mark (idOf es (nameOf s x)) x
+      by : (t : Bool) → mark (cond t (withFound (idOf es (name x)) x) x .«has_id») ≡ true
+      by true = found-mark (idOf es (name x)) x
       by false = e
 
 -- ---- a sheet
@@ -75,51 +77,47 @@ module _ (s : List ℕ) (es : List Entry) where
 abbrev pub withArea2 : SheetBytes → List ℕ → SheetBytes
 withArea2 b l = sheetBytes (b .source) (b .area1) l (b .area3) (b .area4) (b .area5) (b .counts)
 
-mark-good : (n states entries text has i : ℕ) (x : Rule) → mark has ≡ true → goodRule n states entries text x ≡ true → goodRule n states entries text (withId has i x) ≡ true
+mark-good : (z : Sizes) (has i : ℕ) (x : Rule) → mark has ≡ true → goodRule z x ≡ true → goodRule z (withId has i x) ≡ true
 unfolding goodRule withId
-mark-good n states entries text has i x m e = ap rest m ∙ ap rest (sym (le-leb (x .«has_id») 1 (good-rule n states entries text x e .has-id))) ∙ e
+mark-good z has i x m e = ap rest m ∙ ap rest (sym (le-leb (x .«has_id») 1 (good-rule z x e .has-id))) ∙ e
   where
     rest : Bool → Bool
     rest marked =
         marked && mark (x .named) && mark (x .place)
-        && ordered (x .«span_start») (x .«span_end») n
-        && within (x .«name_from») (x .«name_length») n
-        && within (x .«text_from») (x .«text_length») (cond (eqb (x .place) 1) text n)
-        && within (x .«list_from») (x .«list_count») entries
-        && leb (x .operation) 3 && declared states (x .target)
+        && ordered (x .«span_start») (x .«span_end») (z .source)
+        && within (x .«name_from») (x .«name_length») (z .source)
+        && within (x .«text_from») (x .«text_length») (bytesAt z (x .place))
+        && within (x .«list_from») (x .«list_count») (z .entries)
+        && leb (x .operation) 3 && declared (z .states) (x .target)
 
 all-map : {A : Type 0} (test : A → Bool) (g : A → A) → ((x : A) → test x ≡ true → test (g x) ≡ true) → (xs : List A) → all test xs ≡ true → all test (map g xs) ≡ true
 unfolding all
 all-map test g f [] e = refl
 all-map test g f (x ∷ xs) e = rw (f x (and-left (test x) (all test xs) e)) (all-map test g f xs (and-right (test x) (all test xs) e))
 
-module _ (s : List ℕ) (es : List Entry) where
-  pub link-good : (n states entries text : ℕ) (x : Rule) → goodRule n states entries text x ≡ true → goodRule n states entries text (linkRule s es x) ≡ true
-  link-good n states entries text x e =
-      ap (goodRule n states entries text) (link-changes-ids s es x)
-      ∙ mark-good n states entries text (linkRule s es x .«has_id») (linkRule s es x .id) x
-      (link-mark s es x (le-leb (x .«has_id») 1 (good-rule n states entries text x e .has-id))) e
+module _ (name : Rule → List ℕ) (es : List Entry) where
+  pub link-good : (z : Sizes) (x : Rule) → goodRule z x ≡ true → goodRule z (linkRule name es x) ≡ true
+  link-good z x e =
+      ap (goodRule z) (link-changes-ids name es x)
+      ∙ mark-good z (linkRule name es x .«has_id») (linkRule name es x .id) x (link-mark name es x (le-leb (x .«has_id») 1 (good-rule z x e .has-id))) e
+
+  records-good : (z : Sizes) (xs : List State) (rs : List Rule) (ids : List ℕ) (ns : List Expected)
+      → GoodRecords z xs rs ids ns → goodRecords z xs (linkRules name es rs) ids ns ≡ true
+  unfolding goodRecords linkRules
+  records-good z xs rs ids ns g = rw (g .states, all-map (goodRule z) (linkRule name es) (link-good z) rs (g .rules), g .lists, g .expected)
 
   -- contents whose rules are linked
   abbrev linkedContents : Contents → Contents
-  linkedContents c = record { states = c .states; rules = linkRules s es (c .rules); lists = c .lists; text = c .text; expected = c .expected; faults = c .faults }
-
-  contents-good : (n : ℕ) (c : Contents) → goodContents n c ≡ true → goodContents n (linkedContents c) ≡ true
-  unfolding goodContents linkRules
-  contents-good n c e =
-      let g = good-contents n c e in
-      let rules : all (goodRule n (length (c .states)) (length (c .lists)) (length (c .text))) (linkRules s es (c .rules)) ≡ true =
-      all-map (goodRule n (length (c .states)) (length (c .lists)) (length (c .text))) (linkRule s es) (link-good n (length (c .states)) (length (c .lists)) (length (c .text))) (c .rules) (g .rules) in
-      rw (le-leb 1 (length (c .states)) (g .some-states), le-leb (length (c .states)) mostStates (g .few-states), link-count s es (c .rules), le-leb (length (c .rules)) mostRules (g .few-rules), g .states, rules, g .lists, g .expected)
+  linkedContents c = record { states = c .states; rules = linkRules name es (c .rules); lists = c .lists; text = c .text; expected = c .expected; faults = c .faults }
 
   module _ (b : SheetBytes) (passed : sheetCheck b ≡ true) where
     -- area 2 with the linked rules
     abbrev linkedArea2 : List ℕ
-    linkedArea2 = relaid ruleFormat (b .area2) (linkRules s es (decoded b .rules))
+    linkedArea2 = relaid ruleFormat (b .area2) (linkRules name es (decoded b .rules))
 
-    linked-rules : contents ruleFormat linkedArea2 (count b 2) ≡ linkRules s es (decoded b .rules)
+    linked-rules : contents ruleFormat linkedArea2 (count b 2) ≡ linkRules name es (decoded b .rules)
     unfolding decoded
-    linked-rules = rules-read-back s es (b .area2) (count b 2) linkedArea2 refl
+    linked-rules = rules-read-back name es (b .area2) (count b 2) linkedArea2 refl
 
     -- what the sheet holds afterwards
     pub linked-contents : decoded (withArea2 b linkedArea2) ≡ linkedContents (decoded b)
@@ -136,21 +134,19 @@ module _ (s : List ℕ) (es : List Entry) where
     linked-length : length linkedArea2 ≡ length (b .area2)
     unfolding relaid
     linked-length =
-        let ys : List Rule = linkRules s es (decoded b .rules) in
-        let size : length ys ≡ count b 2 = link-count s es (decoded b .rules) ∙ rules-count b in
+        let ys : List Rule = linkRules name es (decoded b .rules) in
+        let size : length ys ≡ count b 2 = link-count name es (decoded b .rules) ∙ rules-count b in
         let long : count b 2 * ruleWidth ≤ length (b .area2) = checked-long b passed .long2 in
         omega (arith, length-append (bytes (ruleFormat .write) ys) (drop (length ys * ruleWidth) (b .area2)), bytes-length (ruleFormat .write) ruleWidth (rule-sound .wide) ys, length-drop (length ys * ruleWidth) (b .area2), size, long)
 
-    linked-long : longEnough (withArea2 b linkedArea2) ≡ longEnough b
-    unfolding longEnough
-    linked-long = rw linked-length
+    linked-sizes : sizesOf (withArea2 b linkedArea2) ≡ sizesOf b
+    linked-sizes = rw linked-length
 
     pub linked-passes : sheetCheck (withArea2 b linkedArea2) ≡ true
     unfolding sheetCheck
     linked-passes =
-        let long : longEnough b ≡ true = and-left (longEnough b) (goodContents (length (b .source)) (decoded b)) passed in
-        let good : goodContents (length (b .source)) (decoded b) ≡ true = and-right (longEnough b) (goodContents (length (b .source)) (decoded b)) passed in
-        rw (linked-long, long, linked-contents) (contents-good (length (b .source)) (decoded b) good)
+        let c : Contents = decoded b in
+        rw (linked-sizes, checked-sizes b passed, linked-contents) (records-good (sizesOf b) (c .states) (c .rules) (c .lists) (c .expected) (checked-records b passed))
 
 -- ---- the call
 
@@ -159,27 +155,27 @@ module _ (b : SheetBytes) (names entries x7 x8 : List ℕ) where
   es = entriesOf names entries
 
   -- area 2 is as it was, or it has the linked rules
-  by-areas : (t u : Bool) (P : List ℕ → Type 0) → P (b .area2) → P (relaid ruleFormat (b .area2) (linkRules (b .source) es (decoded b .rules)))
-      → P ((cond t (cond u (linkAll (Linked (length (unmapped (b .source) es (decoded b .rules))) (length (unused (b .source) es (decoded b .rules)))) (b .source) (decoded b .rules) es (b .area2) x7 x8) (linkLeft (AreaFull 8) (b .area2) x7 x8)) (linkLeft (AreaFull 7) (b .area2) x7 x8)) .area2)
+  by-areas : (t u : Bool) (P : List ℕ → Type 0) → P (b .area2) → P (relaid ruleFormat (b .area2) (linkRules (nameIn b) es (decoded b .rules)))
+      → P ((cond t (cond u (linkAll (nameIn b) (Linked (length (unmapped (nameIn b) es (decoded b .rules))) (length (unused (nameIn b) es (decoded b .rules)))) (decoded b .rules) es (b .area2) x7 x8) (linkLeft (AreaFull 8) (b .area2) x7 x8)) (linkLeft (AreaFull 7) (b .area2) x7 x8)) .area2)
   unfolding linkAll
   by-areas true true P p q = q
   by-areas true false P p q = p
   by-areas false u P p q = p
 
-  by-checks : (t u : Bool) (P : List ℕ → Type 0) → P (b .area2) → P (linkChecked (b .source) (decoded b .rules) es (b .area2) x7 x8 .area2)
-      → P ((cond t (cond u (linkChecked (b .source) (decoded b .rules) es (b .area2) x7 x8) (linkLeft BrokenMap (b .area2) x7 x8)) (linkLeft BrokenSheet (b .area2) x7 x8)) .area2)
+  by-checks : (t u : Bool) (P : List ℕ → Type 0) → P (b .area2) → P (linkChecked (nameIn b) (decoded b .rules) es (b .area2) x7 x8 .area2)
+      → P ((cond t (cond u (linkChecked (nameIn b) (decoded b .rules) es (b .area2) x7 x8) (linkLeft BrokenMap (b .area2) x7 x8)) (linkLeft BrokenSheet (b .area2) x7 x8)) .area2)
   by-checks true true P p q = q
   by-checks true false P p q = p
   by-checks false u P p q = p
 
-  pub link-area2 : (P : List ℕ → Type 0) → P (b .area2) → P (relaid ruleFormat (b .area2) (linkRules (b .source) es (decoded b .rules))) → P (linkCall b names entries x7 x8 .area2)
+  pub link-area2 : (P : List ℕ → Type 0) → P (b .area2) → P (relaid ruleFormat (b .area2) (linkRules (nameIn b) es (decoded b .rules))) → P (linkCall b names entries x7 x8 .area2)
   unfolding linkCall linkChecked
   link-area2 P p q =
-      by-checks (sheetCheck b) (mapCheck names entries) P p (by-areas (fits (unmapped (b .source) es (decoded b .rules)) x7) (fits (unused (b .source) es (decoded b .rules)) x8) P p q)
+      by-checks (sheetCheck b) (mapCheck names entries) P p (by-areas (fits (unmapped (nameIn b) es (decoded b .rules)) x7) (fits (unused (nameIn b) es (decoded b .rules)) x8) P p q)
 
   -- a sheet that passes the check still passes after a link, whatever the answer
   pub link-passes : sheetCheck b ≡ true → sheetCheck (withArea2 b (linkCall b names entries x7 x8 .area2)) ≡ true
-  link-passes passed = link-area2 (λ l. sheetCheck (withArea2 b l) ≡ true) passed (linked-passes (b .source) es b passed)
+  link-passes passed = link-area2 (λ l. sheetCheck (withArea2 b l) ≡ true) passed (linked-passes (nameIn b) es b passed)
 
 -- ---- a map that passed its check
 
@@ -192,10 +188,10 @@ module _ (es : List Entry) (different : distinct es ≡ true) where
 -- ---- a map that holds every rule's name
 
 -- named rule k has the id that the map gives its name
-module _ (s : List ℕ) (es : List Entry) (xs : List Rule) (holds : (k : ℕ) → k < length xs → isNamed (nthRule xs k) ≡ true → (i : ℕ) × (idOf es (nameOf s (nthRule xs k)) ≡ some i)) where
+module _ (name : Rule → List ℕ) (es : List Entry) (xs : List Rule) (holds : (k : ℕ) → k < length xs → isNamed (nthRule xs k) ≡ true → (i : ℕ) × (idOf es (name (nthRule xs k)) ≡ some i)) where
   pub link-gives-ids : (k : ℕ) → k < length xs → isNamed (nthRule xs k) ≡ true
-      → (nthRule (linkRules s es xs) k .«has_id» ≡ 1) × (idOf es (nameOf s (nthRule xs k)) ≡ some (nthRule (linkRules s es xs) k .id))
+      → (nthRule (linkRules name es xs) k .«has_id» ≡ 1) × (idOf es (name (nthRule xs k)) ≡ some (nthRule (linkRules name es xs) k .id))
   link-gives-ids k h e =
       let i = holds k h e in
-      let g = link-gives-id s es (nthRule xs k) (i .0) e (i .1) in
-      (ap (λ (x : Rule). x .«has_id») (link-at s es xs k) ∙ g .0, i .1 ∙ ap some (sym (ap (λ (x : Rule). x .id) (link-at s es xs k) ∙ g .1)))
+      let g = link-gives-id name es (nthRule xs k) (i .0) e (i .1) in
+      (ap (λ (x : Rule). x .«has_id») (link-at name es xs k) ∙ g .0, i .1 ∙ ap some (sym (ap (λ (x : Rule). x .id) (link-at name es xs k) ∙ g .1)))

@@ -18,14 +18,13 @@ use Rattle.area.specs.Areas.{Area}
 use Rattle.area.specs.Contents.{Format, contents, ruleFormat, entryFormat, relaid, laid}
 use Rattle.area.proofs.Fields.{bytes-at}
 use Rattle.area.proofs.Contents.{Sound, listOf-is, rule-sound}
-use Rattle.sheet_check.specs.SheetCheck.{SheetBytes, count, decoded, sheetCheck}
+use Rattle.sheet_check.specs.SheetCheck.{SheetBytes, nameIn, count, decoded, sheetCheck}
 use Rattle.area.specs.Lists.{all, numbers}
 use Rattle.sheet_check.proofs.Judging.{contents-count}
 use Rattle.sheet_check.proofs.Checked.{checked-long, checked-counts}
 use Rattle.link.specs.declared.LinkAnswer.{LinkAnswer}
 use Rattle.link.specs.declared.LinkAnswer.the-variants.{Linked, BrokenSheet, BrokenMap, AreaFull}
 use Rattle.link.specs.Map.{mapWidth, mostEntries, mapFormat, entryCount, Entry, entriesOf, idOf, nameInside, distinct, mapCheck}
-use Rattle.names.specs.Names.{nameOf}
 use Rattle.link.specs.Link.{isNamed, withId, withFound, linkRule, linkRules, isNone, isUnmapped, isUnlinked, unmapped, unlinked, unused, LinkLeft, linkLeft, fits, linkAll, linkChecked, linkCall}
 use Rattle.link.proofs.LinkedRules.{Local, rule-local}
 
@@ -58,18 +57,18 @@ unnamed-linked : (x : Rule) → isNamed x ≡ false → isUnlinked x ≡ false
 unfolding isUnlinked
 unnamed-linked x e = rw e
 
-module _ (s : List ℕ) (es : List Entry) where
-  pub link-count : (xs : List Rule) → length (linkRules s es xs) ≡ length xs
+module _ (name : Rule → List ℕ) (es : List Entry) where
+  pub link-count : (xs : List Rule) → length (linkRules name es xs) ≡ length xs
   unfolding linkRules
-  link-count xs = length-map xs (linkRule s es)
+  link-count xs = length-map xs (linkRule name es)
 
-  link-blank : ruleOf (λ _. 0) ≡ linkRule s es (ruleOf (λ _. 0))
+  link-blank : ruleOf (λ _. 0) ≡ linkRule name es (ruleOf (λ _. 0))
   unfolding linkRule ruleOf
   link-blank = refl
 
-  pub link-at : (xs : List Rule) (k : ℕ) → nthRule (linkRules s es xs) k ≡ linkRule s es (nthRule xs k)
+  pub link-at : (xs : List Rule) (k : ℕ) → nthRule (linkRules name es xs) k ≡ linkRule name es (nthRule xs k)
   unfolding linkRules
-  link-at xs k = ap (λ (d : Rule). getD (map (linkRule s es) xs) k d) link-blank ∙ List·getD-map (linkRule s es) xs k (ruleOf (λ _. 0))
+  link-at xs k = ap (λ (d : Rule). getD (map (linkRule name es) xs) k d) link-blank ∙ List·getD-map (linkRule name es) xs k (ruleOf (λ _. 0))
 
   -- a rule that is linked has no id where it is unmapped
   found-case : (x : Rule) (o : Option ℕ) → isNamed x ≡ true → isUnlinked (withFound o x) ≡ isNone o
@@ -77,19 +76,19 @@ module _ (s : List ℕ) (es : List Entry) where
   found-case x (some i) e = rw e
   found-case x none e = rw e
 
-  named-case : (x : Rule) (t : Bool) → isNamed x ≡ t → isUnlinked (cond t (withFound (idOf es (nameOf s x)) x) x) ≡ t && isNone (idOf es (nameOf s x))
-  named-case x true e = found-case x (idOf es (nameOf s x)) e
+  named-case : (x : Rule) (t : Bool) → isNamed x ≡ t → isUnlinked (cond t (withFound (idOf es (name x)) x) x) ≡ t && isNone (idOf es (name x))
+  named-case x true e = found-case x (idOf es (name x)) e
   named-case x false e = unnamed-linked x e
 
-  pub unlinked-rule : (x : Rule) → isUnlinked (linkRule s es x) ≡ isUnmapped s es x
+  pub unlinked-rule : (x : Rule) → isUnlinked (linkRule name es x) ≡ isUnmapped name es x
   unfolding linkRule isUnmapped
   unlinked-rule x = named-case x (isNamed x) refl
 
-  pub unlinked-rules : (xs : List Rule) → unlinked (linkRules s es xs) ≡ unmapped s es xs
+  pub unlinked-rules : (xs : List Rule) → unlinked (linkRules name es xs) ≡ unmapped name es xs
   unfolding unlinked unmapped
   unlinked-rules xs =
-      numbers-same (λ k. isUnlinked (nthRule (linkRules s es xs) k)) (λ k. isUnmapped s es (nthRule xs k)) (λ k. ap isUnlinked (link-at xs k) ∙ unlinked-rule (nthRule xs k)) (length (linkRules s es xs))
-      ∙ ap (numbers (λ k. isUnmapped s es (nthRule xs k))) (link-count xs)
+      numbers-same (λ k. isUnlinked (nthRule (linkRules name es xs) k)) (λ k. isUnmapped name es (nthRule xs k)) (λ k. ap isUnlinked (link-at xs k) ∙ unlinked-rule (nthRule xs k)) (length (linkRules name es xs))
+      ∙ ap (numbers (λ k. isUnmapped name es (nthRule xs k))) (link-count xs)
 
 -- ---- the three areas
 
@@ -107,22 +106,22 @@ module _ (l c : List ℕ) (cleared : c ≡ zeros (length l)) where
   pub cleared-laid : (ns e : List ℕ) → e ≡ laid entryFormat (length c) ns → e ≡ laid entryFormat (length l) ns
   cleared-laid ns e q = q ∙ ap (λ (n : ℕ). laid entryFormat n ns) cleared-length
 
-module _ (s : List ℕ) (es : List Entry) (x2 : List ℕ) (n : ℕ) (e2 : List ℕ) (is : e2 ≡ relaid ruleFormat x2 (linkRules s es (contents ruleFormat x2 n))) where
-  pub rules-read-back : contents ruleFormat e2 n ≡ linkRules s es (contents ruleFormat x2 n)
+module _ (name : Rule → List ℕ) (es : List Entry) (x2 : List ℕ) (n : ℕ) (e2 : List ℕ) (is : e2 ≡ relaid ruleFormat x2 (linkRules name es (contents ruleFormat x2 n))) where
+  pub rules-read-back : contents ruleFormat e2 n ≡ linkRules name es (contents ruleFormat x2 n)
   rules-read-back =
       ap (λ (l : List ℕ). contents ruleFormat l n) is
-      ∙ relaid-contents rule-sound rule-local x2 (linkRules s es (contents ruleFormat x2 n)) n (sym (link-count s es (contents ruleFormat x2 n) ∙ contents-count ruleFormat x2 n))
+      ∙ relaid-contents rule-sound rule-local x2 (linkRules name es (contents ruleFormat x2 n)) n (sym (link-count name es (contents ruleFormat x2 n) ∙ contents-count ruleFormat x2 n))
 
-  pub unlinked-left : unlinked (contents ruleFormat e2 n) ≡ unmapped s es (contents ruleFormat x2 n)
-  unlinked-left = ap unlinked rules-read-back ∙ unlinked-rules s es (contents ruleFormat x2 n)
+  pub unlinked-left : unlinked (contents ruleFormat e2 n) ≡ unmapped name es (contents ruleFormat x2 n)
+  unlinked-left = ap unlinked rules-read-back ∙ unlinked-rules name es (contents ruleFormat x2 n)
 
   pub all-written : (r : LinkAnswer) (x7 x8 c7 c8 e7 e8 : List ℕ) → c7 ≡ zeros (length x7) → c8 ≡ zeros (length x8)
-      → e7 ≡ laid entryFormat (length c7) (unlinked (contents ruleFormat e2 n)) → e8 ≡ laid entryFormat (length c8) (unused s es (contents ruleFormat x2 n))
-      → linkLeft r e2 e7 e8 ≡ linkAll r s (contents ruleFormat x2 n) es x2 x7 x8
+      → e7 ≡ laid entryFormat (length c7) (unlinked (contents ruleFormat e2 n)) → e8 ≡ laid entryFormat (length c8) (unused name es (contents ruleFormat x2 n))
+      → linkLeft r e2 e7 e8 ≡ linkAll name r (contents ruleFormat x2 n) es x2 x7 x8
   unfolding linkAll
   all-written r x7 x8 c7 c8 e7 e8 z7 z8 q7 q8 =
       let p7 = cleared-laid x7 c7 z7 (unlinked (contents ruleFormat e2 n)) e7 q7 ∙ ap (laid entryFormat (length x7)) unlinked-left in
-      let p8 = cleared-laid x8 c8 z8 (unused s es (contents ruleFormat x2 n)) e8 q8 in
+      let p8 = cleared-laid x8 c8 z8 (unused name es (contents ruleFormat x2 n)) e8 q8 in
       λ i. linkLeft r (is i) (p7 i) (p8 i)
 
 -- ---- areas 7 and 8 have room, or one of them has not
@@ -136,18 +135,18 @@ module _ (ns l : List ℕ) (m : ℕ) (counted : m ≡ length ns) where
   unfolding fits
   count-over h = lt-leb (length ns * entryWidth) (length l) (omega (arith, counted))
 
-module _ (s : List ℕ) (xs : List Rule) (es : List Entry) (x2 x7 x8 : List ℕ) where
-  pub short-7 : fits (unmapped s es xs) x7 ≡ false → linkLeft (AreaFull 7) x2 x7 x8 ≡ linkChecked s xs es x2 x7 x8
+module _ (name : Rule → List ℕ) (xs : List Rule) (es : List Entry) (x2 x7 x8 : List ℕ) where
+  pub short-7 : fits (unmapped name es xs) x7 ≡ false → linkLeft (AreaFull 7) x2 x7 x8 ≡ linkChecked name xs es x2 x7 x8
   unfolding linkChecked
   short-7 h = rw h
 
-  module _ (h : fits (unmapped s es xs) x7 ≡ true) where
-    pub short-8 : fits (unused s es xs) x8 ≡ false → linkLeft (AreaFull 8) x2 x7 x8 ≡ linkChecked s xs es x2 x7 x8
+  module _ (h : fits (unmapped name es xs) x7 ≡ true) where
+    pub short-8 : fits (unused name es xs) x8 ≡ false → linkLeft (AreaFull 8) x2 x7 x8 ≡ linkChecked name xs es x2 x7 x8
     unfolding linkChecked
     short-8 g = rw (h, g)
 
-    pub none-short : fits (unused s es xs) x8 ≡ true → (m k : ℕ) → m ≡ length (unmapped s es xs) → k ≡ length (unused s es xs) → (y : LinkLeft)
-        → y ≡ linkAll (Linked m k) s xs es x2 x7 x8 → y ≡ linkChecked s xs es x2 x7 x8
+    pub none-short : fits (unused name es xs) x8 ≡ true → (m k : ℕ) → m ≡ length (unmapped name es xs) → k ≡ length (unused name es xs) → (y : LinkLeft)
+        → y ≡ linkAll name (Linked m k) xs es x2 x7 x8 → y ≡ linkChecked name xs es x2 x7 x8
     unfolding linkChecked
     none-short g m k p q y e = rw (h, g, ← p, ← q) e
 
@@ -183,7 +182,7 @@ module _ (b : SheetBytes) (names entries x7 x8 : List ℕ) (t : Bool) (is : t �
     call-map g = rw (passed b t is h, ← says, not-true u g)
 
     pub call-linked : not u ≡ false → (y : LinkLeft)
-        → y ≡ linkChecked (b .source) (contents ruleFormat (b .area2) (count b 2)) (entriesOf names entries) (b .area2) x7 x8
+        → y ≡ linkChecked (nameIn b) (contents ruleFormat (b .area2) (count b 2)) (entriesOf names entries) (b .area2) x7 x8
         → y ≡ linkCall b names entries x7 x8
     unfolding linkCall decoded
     call-linked g y e = rw (passed b t is h, ← says, not-false u g) e

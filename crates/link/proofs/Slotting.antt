@@ -26,7 +26,6 @@ use Rattle.sheet_check.proofs.Judging.{contents-count}
 use Rattle.sheet_check.proofs.Checked.{contents-read}
 use Rattle.link.specs.declared.MapEntry.{MapEntry}
 use Rattle.link.specs.Map.{mapEntryAt, entryCount, Entry, entriesOf, nth, findEntry, distinct, mapCheck}
-use Rattle.names.specs.Names.{nameOf}
 use Rattle.link.specs.Link.{isNamed, hasThatName, isUnused}
 use Rattle.link.specs.Index.{slotCount, slotFrom, slotOf, Slot, Slots, EntrySlots, RuleSlots, EntryIndex, EntriesIndexed, MapChecked}
 use Rattle.link.proofs.Maps.{entries-count, name-at, has, entry-missing, entry-first, distinct-read}
@@ -192,22 +191,22 @@ unfolding all
 all-from test [] d f = refl
 all-from test (x ∷ xs) d f = rw (f 0 (omega arith)) (all-from test xs d (λ k h. f (suc k) (omega arith)))
 
-module _ (s l : List ℕ) (count : ℕ) (slots name : List ℕ) (S : RuleSlots s l count count slots) (r : ℕ) (q : Slot name r) where
-  none-named : getD slots r 0 ≡ 0 → (k : ℕ) → k < count → hasThatName s name (nthRule (contents ruleFormat l count) k) ≡ false
+module _ (name : Rule → List ℕ) (l : List ℕ) (count : ℕ) (slots bytes : List ℕ) (S : RuleSlots name l count count slots) (r : ℕ) (q : Slot bytes r) where
+  none-named : getD slots r 0 ≡ 0 → (k : ℕ) → k < count → hasThatName name bytes (nthRule (contents ruleFormat l count) k) ≡ false
   unfolding hasThatName
   none-named e k h = by (isNamed (nthRule (contents ruleFormat l count) k)) refl
     where
       x : Rule
       x = nthRule (contents ruleFormat l count) k
 
-      by : (t : Bool) → isNamed (nthRule (contents ruleFormat l count) k) ≡ t → t && sameBytes name (nameOf s (nthRule (contents ruleFormat l count) k)) ≡ false
-      by true t = same-not name (nameOf s (nthRule (contents ruleFormat l count) k)) (λ z. slot-empty (λ j. isNamed (nthRule (contents ruleFormat l count) j)) (λ j. nameOf s (nthRule (contents ruleFormat l count) j)) S name r q e k h t (sym z))
+      by : (t : Bool) → isNamed (nthRule (contents ruleFormat l count) k) ≡ t → t && sameBytes bytes (name (nthRule (contents ruleFormat l count) k)) ≡ false
+      by true t = same-not bytes (name (nthRule (contents ruleFormat l count) k)) (λ z. slot-empty (λ j. isNamed (nthRule (contents ruleFormat l count) j)) (λ j. name (nthRule (contents ruleFormat l count) j)) S bytes r q e k h t (sym z))
       by false t = refl
 
-  pub unused-by-slot : getD slots r 0 ≡ 0 → true ≡ isUnused s (contents ruleFormat l count) name
+  pub unused-by-slot : getD slots r 0 ≡ 0 → true ≡ isUnused name (contents ruleFormat l count) bytes
   unfolding isUnused
   unused-by-slot e =
-      sym (all-from (λ x. not (hasThatName s name x)) (contents ruleFormat l count) (ruleFormat .blank) (λ k h. ap not (none-named e k (omega (arith, h, contents-count ruleFormat l count)))))
+      sym (all-from (λ x. not (hasThatName name bytes x)) (contents ruleFormat l count) (ruleFormat .blank) (λ k h. ap not (none-named e k (omega (arith, h, contents-count ruleFormat l count)))))
 
   pub slot-rule : (getD slots r 0 ≡ 0 → ⊥) → getD slots r 0 - 1 < count
   slot-rule d = omega (arith, d, S .low r)
@@ -221,18 +220,18 @@ entries-indexed names entries l k good h g e S =
     let q : k ≡ entryCount entries = omega arith in
     record { is = distinct-read names entries k good h g e; slots = subst (λ (n : ℕ). EntrySlots names entries n l) q S }
 
-module _ (s l : List ℕ) (count k : ℕ) where
-  module _ (h : k < count) (x : Rule) (is : x ≡ ruleAt l k) where
-    pub rule-unnamed : (x .named ≡ 1 → ⊥) → isNamed (nthRule (contents ruleFormat l count) k) ≡ false
-    rule-unnamed d = ap isNamed (contents-read ruleFormat l count k h ∙ sym is) ∙ ne-eqb (x .named) 1 d
+module _ (l : List ℕ) (count k : ℕ) (h : k < count) (x : Rule) (is : x ≡ ruleAt l k) where
+  pub rule-unnamed : (x .named ≡ 1 → ⊥) → isNamed (nthRule (contents ruleFormat l count) k) ≡ false
+  rule-unnamed d = ap isNamed (contents-read ruleFormat l count k h ∙ sym is) ∙ ne-eqb (x .named) 1 d
 
-    pub rule-slotted : (r : ℕ) → Slot (nameOf s x) r → Slot (nameOf s (nthRule (contents ruleFormat l count) k)) r
-    rule-slotted r q = subst (λ (y : Rule). Slot (nameOf s y) r) (is ∙ sym (contents-read ruleFormat l count k h)) q
+  pub rule-slotted : (name : Rule → List ℕ) (r : ℕ) → Slot (name x) r → Slot (name (nthRule (contents ruleFormat l count) k)) r
+  rule-slotted name r q = subst (λ (y : Rule). Slot (name y) r) (is ∙ sym (contents-read ruleFormat l count k h)) q
 
-  pub rules-indexed : (slots : List ℕ) → count ≤ k → k ≤ count → RuleSlots s l count k slots → RuleSlots s l count count slots
-  rules-indexed slots h g S =
-      let q : k ≡ count = omega arith in
-      subst (λ (n : ℕ). RuleSlots s l count n slots) q S
+pub rules-indexed : (name : Rule → List ℕ) (l : List ℕ) (count k : ℕ) (slots : List ℕ) → count ≤ k → k ≤ count
+    → RuleSlots name l count k slots → RuleSlots name l count count slots
+rules-indexed name l count k slots h g S =
+    let q : k ≡ count = omega arith in
+    subst (λ (n : ℕ). RuleSlots name l count n slots) q S
 
 -- ---- the map check
 

@@ -5,10 +5,10 @@ use mathlib.Core.Path.{_≡_}
 use mathlib.Core.Bool.{Bool, true}
 use mathlib.Core.List.{List, [], _∷_}
 use lib.ListN.{length, getD}
+use Rattle.area.specs.declared.Rule.{Rule}
 use Rattle.area.specs.Records.{nthRule}
 use Rattle.area.specs.Contents.{contents, ruleFormat}
 use Rattle.link.specs.Map.{entryCount, entriesOf, nth, distinct, mapCheck}
-use Rattle.names.specs.Names.{nameOf}
 use Rattle.link.specs.Link.{isNamed}
 
 -- how many slots there are
@@ -40,8 +40,9 @@ abbrev pub EntrySlots : List ℕ → List ℕ → ℕ → List ℕ → Type 0
 EntrySlots names entries k slots = Slots (λ _. true) (λ j. nth (entriesOf names entries) j .name) k slots
 
 -- the named ones of the first k of the rules of an area
-abbrev pub RuleSlots : List ℕ → List ℕ → ℕ → ℕ → List ℕ → Type 0
-RuleSlots s l count k slots = Slots (λ j. isNamed (nthRule (contents ruleFormat l count) j)) (λ j. nameOf s (nthRule (contents ruleFormat l count) j)) k slots
+abbrev pub RuleSlots : (Rule → List ℕ) → List ℕ → ℕ → ℕ → List ℕ → Type 0
+RuleSlots name l count k slots =
+    Slots (λ j. isNamed (nthRule (contents ruleFormat l count) j)) (λ j. name (nthRule (contents ruleFormat l count) j)) k slots
 
 -- a map whose names are distinct, and their slots
 pub record EntryIndex (names entries l : List ℕ) : Type 0 where

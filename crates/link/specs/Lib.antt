@@ -1,3 +1,4 @@
 pub mod Map
 pub mod Link
 pub mod Index
+pub mod Contracts

@@ -10,10 +10,9 @@ use Rattle.area.specs.declared.Rule.{Rule}
 use Rattle.area.specs.Records.{entryWidth, nthRule}
 use Rattle.area.specs.Contents.{ruleFormat, entryFormat, laid, relaid}
 use Rattle.area.specs.Lists.{all, numbers}
-use Rattle.names.specs.Names.{nameOf}
 use Rattle.answers.specs.Numbers.{acceptedNumber, areaFullNumber, brokenSheetNumber, brokenMapNumber}
 use Rattle.answers.specs.Words.{Fields, fields, word}
-use Rattle.sheet_check.specs.SheetCheck.{SheetBytes, decoded, sheetCheck}
+use Rattle.sheet_check.specs.SheetCheck.{SheetBytes, nameIn, decoded, sheetCheck}
 use Rattle.link.specs.declared.LinkAnswer.{LinkAnswer}
 use Rattle.link.specs.declared.LinkAnswer.the-variants.{Linked, BrokenSheet, BrokenMap, AreaFull}
 use Rattle.link.specs.Map.{Entry, entriesOf, nth, idOf, mapCheck}
@@ -47,46 +46,48 @@ unfoldable pub withFound : Option ℕ → Rule → Rule
 withFound (some i) x = withId 1 i x
 withFound none x = withId 0 0 x
 
--- a named rule gets its entry's id or none, an unnamed one keeps its own
-unfoldable pub linkRule : List ℕ → List Entry → Rule → Rule
-linkRule s es x = cond (isNamed x) (withFound (idOf es (nameOf s x)) x) x
-
-unfoldable pub linkRules : List ℕ → List Entry → List Rule → List Rule
-linkRules s es xs = map (linkRule s es) xs
-
--- ---- numbers
+-- ---- a rule by its name
 
 unfoldable pub isNone : Option ℕ → Bool
 isNone none = true
 isNone (some i) = false
 
--- a named rule whose name has no entry
-unfoldable pub isUnmapped : List ℕ → List Entry → Rule → Bool
-isUnmapped s es x = isNamed x && isNone (idOf es (nameOf s x))
-
 -- a named rule without an id
 unfoldable pub isUnlinked : Rule → Bool
 isUnlinked x = isNamed x && eqb (x .«has_id») 0
-
--- the rule has that name
-unfoldable pub hasThatName : List ℕ → List ℕ → Rule → Bool
-hasThatName s name x = isNamed x && sameBytes name (nameOf s x)
-
--- no rule has that name
-unfoldable pub isUnused : List ℕ → List Rule → List ℕ → Bool
-isUnused s xs name = all (λ x. not (hasThatName s name x)) xs
-
--- numbers of unmapped named rules, by position: area 7
-unfoldable pub unmapped : List ℕ → List Entry → List Rule → List ℕ
-unmapped s es xs = numbers (λ k. isUnmapped s es (nthRule xs k)) (length xs)
 
 -- numbers of named rules without an id: after linking, the unmapped ones
 unfoldable pub unlinked : List Rule → List ℕ
 unlinked xs = numbers (λ k. isUnlinked (nthRule xs k)) (length xs)
 
--- numbers of entries that no rule names, in map order: area 8
-unfoldable pub unused : List ℕ → List Entry → List Rule → List ℕ
-unused s es xs = numbers (λ j. isUnused s xs (nth es j .name)) (length es)
+-- where the bytes of a rule's name stand is for the sheet to say, so what follows is given the name of each rule
+module _ (name : Rule → List ℕ) where
+  -- a named rule gets its entry's id or none, an unnamed one keeps its own
+  unfoldable pub linkRule : List Entry → Rule → Rule
+  linkRule es x = cond (isNamed x) (withFound (idOf es (name x)) x) x
+
+  unfoldable pub linkRules : List Entry → List Rule → List Rule
+  linkRules es xs = map (linkRule es) xs
+
+  -- a named rule whose name has no entry
+  unfoldable pub isUnmapped : List Entry → Rule → Bool
+  isUnmapped es x = isNamed x && isNone (idOf es (name x))
+
+  -- the rule has these bytes for its name
+  unfoldable pub hasThatName : List ℕ → Rule → Bool
+  hasThatName bytes x = isNamed x && sameBytes bytes (name x)
+
+  -- no rule has these bytes for its name
+  unfoldable pub isUnused : List Rule → List ℕ → Bool
+  isUnused xs bytes = all (λ x. not (hasThatName bytes x)) xs
+
+  -- numbers of unmapped named rules, by position: area 7
+  unfoldable pub unmapped : List Entry → List Rule → List ℕ
+  unmapped es xs = numbers (λ k. isUnmapped es (nthRule xs k)) (length xs)
+
+  -- numbers of entries that no rule names, in map order: area 8
+  unfoldable pub unused : List Entry → List Rule → List ℕ
+  unused es xs = numbers (λ j. isUnused xs (nth es j .name)) (length es)
 
 -- ---- the call
 
@@ -104,26 +105,29 @@ linkLeft r x2 x7 x8 = record { answer = r; area2 = x2; area7 = x7; area8 = x8 }
 unfoldable pub fits : List ℕ → List ℕ → Bool
 fits ns l = leb (length ns * entryWidth) (length l)
 
--- all three areas written
-unfoldable pub linkAll : LinkAnswer → List ℕ → List Rule → List Entry → List ℕ → List ℕ → List ℕ → LinkLeft
-linkAll r s xs es x2 x7 x8 =
-    linkLeft r (relaid ruleFormat x2 (linkRules s es xs)) (laid entryFormat (length x7) (unmapped s es xs)) (laid entryFormat (length x8) (unused s es xs))
+module _ (name : Rule → List ℕ) where
+  -- all three areas written
+  unfoldable pub linkAll : LinkAnswer → List Rule → List Entry → List ℕ → List ℕ → List ℕ → LinkLeft
+  linkAll r xs es x2 x7 x8 =
+      linkLeft r (relaid ruleFormat x2 (linkRules name es xs))
+      (laid entryFormat (length x7) (unmapped name es xs))
+      (laid entryFormat (length x8) (unused name es xs))
 
--- a sheet and a map that passed their checks: number 4 for area 7, then for area 8
-unfoldable pub linkChecked : List ℕ → List Rule → List Entry → List ℕ → List ℕ → List ℕ → LinkLeft
-linkChecked s xs es x2 x7 x8 =
-    cond (fits (unmapped s es xs) x7)
-    (cond (fits (unused s es xs) x8)
-    (linkAll (Linked (length (unmapped s es xs)) (length (unused s es xs))) s xs es x2 x7 x8)
-    (linkLeft (AreaFull 8) x2 x7 x8))
-    (linkLeft (AreaFull 7) x2 x7 x8)
+  -- a sheet and a map that passed their checks: number 4 for area 7, then for area 8
+  unfoldable pub linkChecked : List Rule → List Entry → List ℕ → List ℕ → List ℕ → LinkLeft
+  linkChecked xs es x2 x7 x8 =
+      cond (fits (unmapped name es xs) x7)
+      (cond (fits (unused name es xs) x8)
+      (linkAll (Linked (length (unmapped name es xs)) (length (unused name es xs))) xs es x2 x7 x8)
+      (linkLeft (AreaFull 8) x2 x7 x8))
+      (linkLeft (AreaFull 7) x2 x7 x8)
 
 -- the link call: 6, 7, then 4; a refusal changes nothing
 unfoldable pub linkCall : SheetBytes → List ℕ → List ℕ → List ℕ → List ℕ → LinkLeft
 linkCall b names entries x7 x8 =
     cond (sheetCheck b)
     (cond (mapCheck names entries)
-    (linkChecked (b .source) (decoded b .rules) (entriesOf names entries) (b .area2) x7 x8)
+    (linkChecked (nameIn b) (decoded b .rules) (entriesOf names entries) (b .area2) x7 x8)
     (linkLeft BrokenMap (b .area2) x7 x8))
     (linkLeft BrokenSheet (b .area2) x7 x8)
 

@@ -5,11 +5,13 @@ ghost use Prim.Native.Nat.{_*_, _≤_};
 ghost use lib.ListN.{length};
 ghost use Rattle.area.specs.Records.{ruleWidth, mostRules};
 ghost use Rattle.area.specs.Contents.{contents, ruleFormat};
-ghost use Rattle.sheet_check.specs.SheetCheck.{sheetBytes};
 ghost use Rattle.link.specs.declared.LinkAnswer.the-variants.{Linked};
+ghost use Rattle.names.specs.Names.{nameOf};
 ghost use Rattle.link.specs.Map.{mostEntries, entryCount, entriesOf};
 ghost use Rattle.link.specs.Index.{EntryIndex, RuleSlots};
 ghost use Rattle.link.specs.Link.{unmapped, unused, fits, linkLeft, linkAll, linkChecked, linkCall};
+ghost use Rattle.sheet_check.specs.Contracts.{before, after, sheetIn};
+ghost use Rattle.link.specs.Contracts.{mapIn, rulesIn, namesIn};
 use crate::LinkAnswer;
 use crate::index::SLOTS;
 use crate::index::check_map;
@@ -45,10 +47,19 @@ fn write_all(
     requires { ⌜ (rules ≤ mostRules) × (rules * ruleWidth ≤ length (now area2)) ⌝ }
     requires { ⌜ entryCount (now entries) ≤ mostEntries ⌝ }
     requires { ⌜ EntryIndex (now names) (now entries) (now «entry_slots») ⌝ }
-    requires { ⌜ RuleSlots (now src) (now area2) rules rules (now «rule_slots») ⌝ }
-    requires { ⌜ fits (unmapped (now src) (entriesOf (now names) (now entries)) (contents ruleFormat (now area2) rules)) (now area7) ≡ true ⌝ }
-    requires { ⌜ fits (unused (now src) (entriesOf (now names) (now entries)) (contents ruleFormat (now area2) rules)) (now area8) ≡ true ⌝ }
-    ensures { λ r. ⌜ linkLeft r (now (area2 .exit)) (now (area7 .exit)) (now (area8 .exit)) ≡ linkAll (Linked missing idle) (now (src .entry)) (contents ruleFormat (now (area2 .entry)) rules) (entriesOf (now (names .entry)) (now (entries .entry))) (now (area2 .entry)) (now (area7 .entry)) (now (area8 .entry)) ⌝ }
+    requires { ⌜ RuleSlots (nameOf (now src)) (now area2) rules rules (now «rule_slots») ⌝ }
+    requires { ⌜
+        fits (unmapped (nameOf (now src)) (entriesOf (now names) (now entries)) (contents ruleFormat (now area2) rules)) (now area7)
+        ≡ true
+        ⌝ }
+    requires { ⌜
+        fits (unused (nameOf (now src)) (entriesOf (now names) (now entries)) (contents ruleFormat (now area2) rules)) (now area8)
+        ≡ true
+        ⌝ }
+    ensures { λ r. ⌜
+        linkLeft r (after area2) (after area7) (after area8)
+        ≡ linkAll (namesIn src) (Linked missing idle) (rulesIn area2 rules) (mapIn names entries) (before area2) (before area7) (before area8)
+        ⌝ }
 {
     clear(area8);
     write_unused(src, area2, rules, rule_slots, names, entries, area8);
@@ -72,7 +83,10 @@ fn link_checked(
     requires { ⌜ EntryIndex (now names) (now entries) (now «entry_slots») ⌝ }
     requires { ⌜ (rules ≤ mostRules) × (rules * ruleWidth ≤ length (now area2)) ⌝ }
     requires { ⌜ entryCount (now entries) ≤ mostEntries ⌝ }
-    ensures { λ r. ⌜ linkLeft r (now (area2 .exit)) (now (area7 .exit)) (now (area8 .exit)) ≡ linkChecked (now (src .entry)) (contents ruleFormat (now (area2 .entry)) rules) (entriesOf (now (names .entry)) (now (entries .entry))) (now (area2 .entry)) (now (area7 .entry)) (now (area8 .entry)) ⌝ }
+    ensures { λ r. ⌜
+        linkLeft r (after area2) (after area7) (after area8)
+        ≡ linkChecked (namesIn src) (rulesIn area2 rules) (mapIn names entries) (before area2) (before area7) (before area8)
+        ⌝ }
 {
     let missing = count_unmapped(src, area2, rules, names, entries, entry_slots);
     if area7.len() < missing as usize * NUMBER_WIDTH {
@@ -113,7 +127,10 @@ pub fn set_rule_ids_spanned(
     area7: &mut [u8],
     area8: &mut [u8],
 ) -> LinkAnswer
-    ensures { λ r. ⌜ linkLeft r (now (area2 .exit)) (now (area7 .exit)) (now (area8 .exit)) ≡ linkCall (sheetBytes (now (src .entry)) (now (area1 .entry)) (now (area2 .entry)) (now (area3 .entry)) (now (area4 .entry)) (now (area5 .entry)) (now (counts .entry))) (now (names .entry)) (now (entries .entry)) (now (area7 .entry)) (now (area8 .entry)) ⌝ }
+    ensures { λ r. ⌜
+        linkLeft r (after area2) (after area7) (after area8)
+        ≡ linkCall (sheetIn src area1 area2 area3 area4 area5 counts) (before names) (before entries) (before area7) (before area8)
+        ⌝ }
 {
     if !check(src, area1, area2, area3, area4, area5, counts) {
         return LinkAnswer::BrokenSheet;

@@ -7,11 +7,12 @@ ghost use lib.ListN.{length, getD, replicate};
 ghost use Rattle.text.specs.Walk.{Between};
 ghost use Rattle.text.specs.Range.{part};
 ghost use Rattle.area.specs.Records.{ruleWidth};
-ghost use Rattle.area.specs.Contents.{contents, ruleFormat};
-ghost use Rattle.link.specs.Map.{mostEntries, entryCount, entriesOf, nth, findEntry};
+ghost use Rattle.link.specs.Map.{mostEntries, entryCount, nth, findEntry};
 ghost use Rattle.names.specs.Names.{nameOf};
 ghost use Rattle.link.specs.Link.{isUnused};
 ghost use Rattle.link.specs.Index.{slotCount, Slot, EntrySlots, RuleSlots, EntryIndex, EntriesIndexed, MapChecked};
+ghost use Rattle.sheet_check.specs.Contracts.{before, after};
+ghost use Rattle.link.specs.Contracts.{mapIn, rulesIn, namesIn};
 use crate::map::MAP_WIDTH;
 use crate::map::find_entry;
 use crate::map::has_name;
@@ -47,7 +48,7 @@ fn next_slot(h: usize, b: u8) -> usize
 
 // The slot of the bytes of a text from a to e.
 fn slot_of(text: &[u8], a: usize, e: usize) -> usize
-    ensures { λ r. ⌜ Slot (part (now (text .entry)) a e) r ⌝ }
+    ensures { λ r. ⌜ Slot (part (before text) a e) r ⌝ }
 {
     let end = smaller(e, text.len());
     let mut h = 0;
@@ -61,7 +62,7 @@ fn slot_of(text: &[u8], a: usize, e: usize) -> usize
 
 fn read_slot(slots: &[u16], at: usize) -> u16
     requires { ⌜ at < length (now slots) ⌝ }
-    ensures { λ r. ⌜ r ≡ getD (now (slots .entry)) at 0 ⌝ }
+    ensures { λ r. ⌜ r ≡ getD (before slots) at 0 ⌝ }
 {
     slots[at]
 }
@@ -70,7 +71,7 @@ fn read_slot(slots: &[u16], at: usize) -> u16
 
 fn entry_slot(names: &[u8], entries: &[u8], j: usize) -> usize
     requires { ⌜ j < entryCount (now entries) ⌝ }
-    ensures { λ r. ⌜ Slot (nth (entriesOf (now (names .entry)) (now (entries .entry))) j .name) r ⌝ }
+    ensures { λ r. ⌜ Slot (nth (mapIn names entries) j .name) r ⌝ }
 {
     let x = read_map_entry(entries, j);
     let from = x.name_from as usize;
@@ -81,7 +82,7 @@ fn entry_slot(names: &[u8], entries: &[u8], j: usize) -> usize
 fn is_first_by(names: &[u8], entries: &[u8], slots: &[u16], j: usize) -> bool
     requires { ⌜ j < entryCount (now entries) ⌝ }
     requires { ⌜ EntrySlots (now names) (now entries) j (now slots) ⌝ }
-    ensures { λ r. ⌜ r ≡ eqb (findEntry (entriesOf (now (names .entry)) (now (entries .entry))) (nth (entriesOf (now (names .entry)) (now (entries .entry))) j .name)) j ⌝ }
+    ensures { λ r. ⌜ r ≡ eqb (findEntry (mapIn names entries) (nth (mapIn names entries) j .name)) j ⌝ }
 {
     let at = entry_slot(names, entries, j);
     if read_slot(slots, at) == 0 {
@@ -94,7 +95,7 @@ fn is_first_by(names: &[u8], entries: &[u8], slots: &[u16], j: usize) -> bool
 fn index_entries(names: &[u8], entries: &[u8], slots: &mut [u16]) -> bool
     requires { ⌜ entryCount (now entries) ≤ mostEntries ⌝ }
     requires { ⌜ now slots ≡ replicate slotCount 0 ⌝ }
-    ensures { λ r. ⌜ EntriesIndexed (now (names .entry)) (now (entries .entry)) r (now (slots .exit)) ⌝ }
+    ensures { λ r. ⌜ EntriesIndexed (before names) (before entries) r (after slots) ⌝ }
 {
     let n = entries.len() / MAP_WIDTH;
     let mut good = true;
@@ -111,7 +112,7 @@ fn index_entries(names: &[u8], entries: &[u8], slots: &mut [u16]) -> bool
 // The map check, and the slots of a map that passes. The number of entries first, so that few names are compared.
 pub fn check_map(names: &[u8], entries: &[u8], slots: &mut [u16]) -> bool
     requires { ⌜ now slots ≡ replicate slotCount 0 ⌝ }
-    ensures { λ r. ⌜ MapChecked (now (names .entry)) (now (entries .entry)) r (now (slots .exit)) ⌝ }
+    ensures { λ r. ⌜ MapChecked (before names) (before entries) r (after slots) ⌝ }
 {
     if entries.len() % MAP_WIDTH != 0 {
         return false;
@@ -135,7 +136,7 @@ pub fn find_by(
     e: usize,
 ) -> usize
     requires { ⌜ EntryIndex (now names) (now entries) (now slots) ⌝ }
-    ensures { λ r. ⌜ Between 0 (entryCount (now (entries .entry))) (findEntry (entriesOf (now (names .entry)) (now (entries .entry))) (part (now (text .entry)) a e)) r ⌝ }
+    ensures { λ r. ⌜ Between 0 (entryCount (before entries)) (findEntry (mapIn names entries) (part (before text) a e)) r ⌝ }
 {
     let at = slot_of(text, a, e);
     let number = read_slot(slots, at) as usize;
@@ -152,7 +153,7 @@ pub fn find_by(
 // ---- rules
 
 fn rule_slot(src: &[u8], x: Rule) -> usize
-    ensures { λ r. ⌜ Slot (nameOf (now (src .entry)) x) r ⌝ }
+    ensures { λ r. ⌜ Slot (namesIn src x) r ⌝ }
 {
     let from = x.name_from as usize;
     slot_of(src, from, from + x.name_length as usize)
@@ -162,7 +163,7 @@ fn rule_slot(src: &[u8], x: Rule) -> usize
 pub fn index_rules(src: &[u8], area: &[u8], count: u16, slots: &mut [u16])
     requires { ⌜ count * ruleWidth ≤ length (now area) ⌝ }
     requires { ⌜ now slots ≡ replicate slotCount 0 ⌝ }
-    ensures { λ _. ⌜ RuleSlots (now (src .entry)) (now (area .entry)) count count (now (slots .exit)) ⌝ }
+    ensures { λ _. ⌜ RuleSlots (namesIn src) (before area) count count (after slots) ⌝ }
 {
     let mut k = 0;
     while k < count {
@@ -187,9 +188,9 @@ pub fn is_unused_by(
     j: usize,
 ) -> bool
     requires { ⌜ count * ruleWidth ≤ length (now area) ⌝ }
-    requires { ⌜ RuleSlots (now src) (now area) count count (now slots) ⌝ }
+    requires { ⌜ RuleSlots (nameOf (now src)) (now area) count count (now slots) ⌝ }
     requires { ⌜ j < entryCount (now entries) ⌝ }
-    ensures { λ r. ⌜ r ≡ isUnused (now (src .entry)) (contents ruleFormat (now (area .entry)) count) (nth (entriesOf (now (names .entry)) (now (entries .entry))) j .name) ⌝ }
+    ensures { λ r. ⌜ r ≡ isUnused (namesIn src) (rulesIn area count) (nth (mapIn names entries) j .name) ⌝ }
 {
     let at = entry_slot(names, entries, j);
     let number = read_slot(slots, at);

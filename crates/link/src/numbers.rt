@@ -7,9 +7,12 @@ ghost use lib.Seq.{sets};
 ghost use Rattle.area.specs.Bytes.{zeros};
 ghost use Rattle.area.specs.Records.{ruleWidth, entryWidth, entryBytes};
 ghost use Rattle.area.specs.Contents.{contents, ruleFormat, entryFormat, laid};
+ghost use Rattle.names.specs.Names.{nameOf};
 ghost use Rattle.link.specs.Map.{mostEntries, entryCount, entriesOf, nth};
 ghost use Rattle.link.specs.Link.{isUnmapped, isUnlinked, hasThatName, isUnused, unlinked, unmapped, unused, fits};
 ghost use Rattle.link.specs.Index.{EntryIndex, RuleSlots};
+ghost use Rattle.sheet_check.specs.Contracts.{before, after};
+ghost use Rattle.link.specs.Contracts.{mapIn, rulesIn, namesIn};
 use crate::index::is_unused_by;
 use crate::map::MAP_WIDTH;
 use crate::map::has_name;
@@ -24,7 +27,7 @@ pub const NUMBER_WIDTH: usize = 2;
 // Number n of an area.
 fn write_number(into: &mut [u8], n: u16, number: u16)
     requires { ⌜ n * entryWidth + entryWidth ≤ length (now into) ⌝ }
-    ensures { λ _. ⌜ now (into .exit) ≡ sets (now (into .entry)) (n * entryWidth) (entryBytes number) ⌝ }
+    ensures { λ _. ⌜ after into ≡ sets (before into) (n * entryWidth) (entryBytes number) ⌝ }
 {
     write_field(into, n as usize * NUMBER_WIDTH, number);
 }
@@ -33,7 +36,7 @@ fn write_number(into: &mut [u8], n: u16, number: u16)
 
 fn is_unmapped(src: &[u8], names: &[u8], entries: &[u8], slots: &[u16], x: Rule) -> bool
     requires { ⌜ EntryIndex (now names) (now entries) (now slots) ⌝ }
-    ensures { λ r. ⌜ r ≡ isUnmapped (now (src .entry)) (entriesOf (now (names .entry)) (now (entries .entry))) x ⌝ }
+    ensures { λ r. ⌜ r ≡ isUnmapped (namesIn src) (mapIn names entries) x ⌝ }
 {
     if x.named != 1 {
         return false;
@@ -51,7 +54,7 @@ pub fn count_unmapped(
 ) -> u16
     requires { ⌜ EntryIndex (now names) (now entries) (now slots) ⌝ }
     requires { ⌜ count * ruleWidth ≤ length (now area) ⌝ }
-    ensures { λ r. ⌜ r ≡ length (unmapped (now (src .entry)) (entriesOf (now (names .entry)) (now (entries .entry))) (contents ruleFormat (now (area .entry)) count)) ⌝ }
+    ensures { λ r. ⌜ r ≡ length (unmapped (namesIn src) (mapIn names entries) (rulesIn area count)) ⌝ }
 {
     let mut n = 0;
     let mut k = 0;
@@ -77,7 +80,7 @@ pub fn write_unlinked(area: &[u8], count: u16, into: &mut [u8])
     requires { ⌜ count * ruleWidth ≤ length (now area) ⌝ }
     requires { ⌜ now into ≡ zeros (length (now into)) ⌝ }
     requires { ⌜ fits (unlinked (contents ruleFormat (now area) count)) (now into) ≡ true ⌝ }
-    ensures { λ _. ⌜ now (into .exit) ≡ laid entryFormat (length (now (into .entry))) (unlinked (contents ruleFormat (now (area .entry)) count)) ⌝ }
+    ensures { λ _. ⌜ after into ≡ laid entryFormat (length (before into)) (unlinked (rulesIn area count)) ⌝ }
 {
     let mut n = 0;
     let mut k = 0;
@@ -97,7 +100,7 @@ pub fn write_unlinked(area: &[u8], count: u16, into: &mut [u8])
 
 pub fn has_that_name(src: &[u8], x: Rule, names: &[u8], entries: &[u8], j: usize) -> bool
     requires { ⌜ j < entryCount (now entries) ⌝ }
-    ensures { λ r. ⌜ r ≡ hasThatName (now (src .entry)) (nth (entriesOf (now (names .entry)) (now (entries .entry))) j .name) x ⌝ }
+    ensures { λ r. ⌜ r ≡ hasThatName (namesIn src) (nth (mapIn names entries) j .name) x ⌝ }
 {
     if x.named != 1 {
         return false;
@@ -116,7 +119,7 @@ pub fn is_unused(
 ) -> bool
     requires { ⌜ count * ruleWidth ≤ length (now area) ⌝ }
     requires { ⌜ j < entryCount (now entries) ⌝ }
-    ensures { λ r. ⌜ r ≡ isUnused (now (src .entry)) (contents ruleFormat (now (area .entry)) count) (nth (entriesOf (now (names .entry)) (now (entries .entry))) j .name) ⌝ }
+    ensures { λ r. ⌜ r ≡ isUnused (namesIn src) (rulesIn area count) (nth (mapIn names entries) j .name) ⌝ }
 {
     let mut k = 0;
     while k < count {
@@ -136,10 +139,10 @@ pub fn count_unused(
     names: &[u8],
     entries: &[u8],
 ) -> u16
-    requires { ⌜ RuleSlots (now src) (now area) count count (now slots) ⌝ }
+    requires { ⌜ RuleSlots (nameOf (now src)) (now area) count count (now slots) ⌝ }
     requires { ⌜ count * ruleWidth ≤ length (now area) ⌝ }
     requires { ⌜ entryCount (now entries) ≤ mostEntries ⌝ }
-    ensures { λ r. ⌜ r ≡ length (unused (now (src .entry)) (entriesOf (now (names .entry)) (now (entries .entry))) (contents ruleFormat (now (area .entry)) count)) ⌝ }
+    ensures { λ r. ⌜ r ≡ length (unused (namesIn src) (mapIn names entries) (rulesIn area count)) ⌝ }
 {
     let most = entries.len() / MAP_WIDTH;
     let mut n = 0;
@@ -165,12 +168,15 @@ pub fn write_unused(
     entries: &[u8],
     into: &mut [u8],
 )
-    requires { ⌜ RuleSlots (now src) (now area) count count (now slots) ⌝ }
+    requires { ⌜ RuleSlots (nameOf (now src)) (now area) count count (now slots) ⌝ }
     requires { ⌜ count * ruleWidth ≤ length (now area) ⌝ }
     requires { ⌜ entryCount (now entries) ≤ mostEntries ⌝ }
     requires { ⌜ now into ≡ zeros (length (now into)) ⌝ }
-    requires { ⌜ fits (unused (now src) (entriesOf (now names) (now entries)) (contents ruleFormat (now area) count)) (now into) ≡ true ⌝ }
-    ensures { λ _. ⌜ now (into .exit) ≡ laid entryFormat (length (now (into .entry))) (unused (now (src .entry)) (entriesOf (now (names .entry)) (now (entries .entry))) (contents ruleFormat (now (area .entry)) count)) ⌝ }
+    requires { ⌜
+        fits (unused (nameOf (now src)) (entriesOf (now names) (now entries)) (contents ruleFormat (now area) count)) (now into)
+        ≡ true
+        ⌝ }
+    ensures { λ _. ⌜ after into ≡ laid entryFormat (length (before into)) (unused (namesIn src) (mapIn names entries) (rulesIn area count)) ⌝ }
 {
     let most = entries.len() / MAP_WIDTH;
     let mut n = 0;

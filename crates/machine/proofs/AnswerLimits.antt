@@ -4,37 +4,38 @@ use mathlib.Core.Path.{_≡_, subst⁻¹}
 use mathlib.Core.Bool.{Bool, true, false, cond, _&&_}
 use mathlib.Core.List.{List, [], _∷_}
 use mathlib.Core.Logic.{⊎-elim}
-use Prim.Native.Nat.{ℕ, zero, suc, _+_, _*_, _-_, _%_, _≤_, _<_}
+use Prim.Native.Nat.{ℕ, zero, suc, _*_, _-_, _%_, _≤_, _<_}
 use native.Mathlib.Omega.{arith}
 use borrow.Author.Tests.{leb-true}
 use lib.Dec.{eqb, leb}
 use lib.ListN.{length, getD, length-append, List·getD-eq-default}
 use Rattle.text.proofs.Tests.{le-or-lt, by-test, and-left, and-right}
-use Rattle.area.specs.declared.State.{State}
 use Rattle.area.specs.declared.Rule.{Rule}
 use Rattle.area.specs.Records.{ruleWidth, entryWidth, ruleOf, ruleAt, entryAt, nthRule}
-use Rattle.area.specs.Contents.{contents, ruleFormat, entryFormat}
+use Rattle.area.specs.Contents.{contents, ruleFormat}
+use Rattle.answers.specs.Numbers.{acceptedNumber, startRefusedNumber, brokenSheetNumber, brokenRunNumber, rowMismatchNumber, doneNumber, stoppedNumber, unlinkedNumber, skipNumber, tokenNumber}
 use Rattle.answers.specs.Words.{TwoBytes}
 use Rattle.area.specs.Bytes.{AllBytes}
 use Rattle.answers.proofs.Words.{two-bytes, no-values}
 use Rattle.area.proofs.Fields.{field-small}
 use Rattle.sheet_check.specs.declared.Located.{Located}
 use Rattle.sheet_check.specs.declared.Located.the-variants as C
-use Rattle.sheet_check.specs.SheetCheck.{SheetBytes, decoded, declared, sheetCheck}
+use Rattle.sheet_check.specs.SheetCheck.{SheetBytes, nameIn, decoded, sheetCheck}
 use Rattle.area.specs.Lists.{all, numbers}
 use Rattle.sheet_check.specs.Pattern.{hasRule, partOf, patternPart, patternFields}
 use Rattle.sheet_check.proofs.Judging.{contents-count}
-use Rattle.sheet_check.proofs.Checked.{contents-read, checked-contents}
+use Rattle.sheet_check.proofs.Checked.{contents-read, rules-count, checked-counts}
 use Rattle.link.specs.Map.{Entry, nth, mapWidth, mostEntries, mapFormat, entryCount, entriesOf, nameInside, distinct, mapCheck}
 use Rattle.link.specs.Link as L
 use Rattle.link.specs.Link.{isUnmapped, isUnused, unmapped, unused, LinkLeft, linkAll, linkChecked, linkCall, linkFields}
 use Rattle.link.proofs.Maps.{entries-count}
 use Rattle.run.specs.declared.Begun.{Begun}
 use Rattle.run.specs.declared.Begun.the-variants.{Started, StartRefused}
-use Rattle.run.specs.declared.Run.{Run}
-use Rattle.run.specs.Winner.{live, lengthIn, weight, greatest}
-use Rattle.run.specs.Run.{mostBytes, stackBytes, goodNumbers, goodRun, goodRow, current, StepLeft, wonBy, choose, stepRow, stepRun, stepCall, startFields, stepFields}
-use Rattle.run.proofs.Winning.{greatest-low}
+use Rattle.run.specs.declared.Step.{Step}
+use Rattle.run.specs.Winner.{Lexer, lexerOf, lengthIn, weight, greatest}
+use Rattle.run.specs.Run.{Running, current, input, RunLeft, goodRun, fitsIn, goodRow, wonBy, choose, stepRow, stepRun, stepCall, startFields, view, viewFields, stepFields}
+use Rattle.run.proofs.Fitting.{run-is}
+use Rattle.run.proofs.Winning.{weights-low}
 
 -- ---- the pattern call
 
@@ -51,7 +52,12 @@ zero-small = record { id = omega arith; place = omega arith; from = omega arith;
 
 read-small : (l : List ℕ) (k : ℕ) → AllBytes l → SmallRule (ruleAt l k)
 unfolding ruleAt ruleOf
-read-small l k h = record { id = field-small l (k * ruleWidth) 1 h; place = field-small l (k * ruleWidth) 7 h; from = field-small l (k * ruleWidth) 8 h; len = field-small l (k * ruleWidth) 9 h }
+read-small l k h = record {
+  id = field-small l (k * ruleWidth) 1 h;
+  place = field-small l (k * ruleWidth) 7 h;
+  from = field-small l (k * ruleWidth) 8 h;
+  len = field-small l (k * ruleWidth) 9 h;
+}
 
 -- rule k of an area of bytes; past the last all fields are 0
 pub small-rule : (l : List ℕ) (n k : ℕ) → AllBytes l → SmallRule (nthRule (contents ruleFormat l n) k)
@@ -86,20 +92,20 @@ numbers-few test (suc n) = omega (arith, length-append (numbers test n) (cond (t
 abbrev LinkSmall : LinkLeft → Type 0
 LinkSmall x = TwoBytes (linkFields (x .answer))
 
-module _ (s : List ℕ) (xs : List Rule) (es : List Entry) (x2 x7 x8 : List ℕ) (few-rules : length xs ≤ 2048) (few-entries : length es ≤ 2048) where
-  few-unmapped : length (unmapped s es xs) ≤ length xs
+module _ (name : Rule → List ℕ) (xs : List Rule) (es : List Entry) (x2 x7 x8 : List ℕ) (few-rules : length xs ≤ 2048) (few-entries : length es ≤ 2048) where
+  few-unmapped : length (unmapped name es xs) ≤ length xs
   unfolding unmapped
-  few-unmapped = numbers-few (λ k. isUnmapped s es (nthRule xs k)) (length xs)
+  few-unmapped = numbers-few (λ k. isUnmapped name es (nthRule xs k)) (length xs)
 
-  few-unused : length (unused s es xs) ≤ length es
+  few-unused : length (unused name es xs) ≤ length es
   unfolding unused
-  few-unused = numbers-few (λ j. isUnused s xs (nth es j .name)) (length es)
+  few-unused = numbers-few (λ j. isUnused name xs (nth es j .name)) (length es)
 
-  checked-small : LinkSmall (linkChecked s xs es x2 x7 x8)
+  checked-small : LinkSmall (linkChecked name xs es x2 x7 x8)
   unfolding linkChecked linkAll linkFields
   checked-small =
-      by-test LinkSmall (L.fits (unmapped s es xs) x7) _ _
-      (λ _. by-test LinkSmall (L.fits (unused s es xs) x8) _ _
+      by-test LinkSmall (L.fits (unmapped name es xs) x7) _ _
+      (λ _. by-test LinkSmall (L.fits (unused name es xs) x8) _ _
       (λ _. two-bytes 0 _ _ 0 (omega arith) (omega (arith, few-unmapped, few-rules)) (omega (arith, few-unused, few-entries)) (omega arith))
       (λ _. two-bytes 4 8 0 0 (omega arith) (omega arith) (omega arith) (omega arith)))
       (λ _. two-bytes 4 7 0 0 (omega arith) (omega arith) (omega arith) (omega arith))
@@ -118,63 +124,53 @@ unfolding linkCall linkFields
 link-small b names entries x7 x8 =
     by-test LinkSmall (sheetCheck b) _ _
     (λ passed. by-test LinkSmall (mapCheck names entries) _ _
-    (λ good. checked-small (b .source) (decoded b .rules) (entriesOf names entries) (b .area2) x7 x8 (checked-contents b passed .few-rules) (few-mapped names entries good))
+    (λ good.
+    let few : length (decoded b .rules) ≤ 2048 = omega (arith, rules-count b, checked-counts b passed .2) in
+    checked-small (nameIn b) (decoded b .rules) (entriesOf names entries) (b .area2) x7 x8 few (few-mapped names entries good))
     (λ _. no-values 7 (omega arith)))
     (λ _. no-values 6 (omega arith))
 
 -- ---- the start call and the step call
 
-abbrev Small : StepLeft → Type 0
-Small x = TwoBytes (stepFields (x .answer))
+abbrev Small : RunLeft Step → Type 0
+Small o = TwoBytes (stepFields (o .answer))
 
-position-small : (states : ℕ) (r : Run) (s : List ℕ) → goodRun states r s ≡ true → r .position < 65536
-unfolding goodRun goodNumbers
-position-small states r s good =
-    let a1 : Bool = leb (r .n) mostBytes in
-    let a2 : Bool = leb (r .position) (r .n) in
-    let a3 : Bool = leb 1 (r .depth) in
-    let a4 : Bool = leb (r .depth) (r .position + 1) in
-    let a5 : Bool = leb (r .moves) (r .position) in
-    let a6 : Bool = leb (stackBytes (r .n)) (length s) in
-    let t6 = and-left (a1 && a2 && a3 && a4 && a5 && a6) (all (declared states) (contents entryFormat s (r .depth))) good in
-    let t2 = and-left (a1 && a2) a3 (and-left (a1 && a2 && a3) a4 (and-left (a1 && a2 && a3 && a4) a5 (and-left (a1 && a2 && a3 && a4 && a5) a6 t6))) in
-    omega (arith, leb-true (r .n) mostBytes (and-left a1 a2 t2), leb-true (r .position) (r .n) (and-right a1 a2 t2))
-
-module _ (rules : List Rule) (small : (k : ℕ) → SmallRule (nthRule rules k)) (r : Run) (s row : List ℕ) (row-bytes : AllBytes row) where
+module _ (x : Lexer) (small : (k : ℕ) → SmallRule (nthRule (x .rules) k)) (run : Running) (row : List ℕ) (row-bytes : AllBytes row) where
   length-small : (k : ℕ) → lengthIn row k < 65536
   unfolding entryAt
   length-small k = field-small row (k * entryWidth) 0 row-bytes
 
-  won-small : (k bytes : ℕ) → bytes < 65536 → r .position < 65536 → Small (wonBy (nthRule rules k) bytes r s)
-  unfolding wonBy stepFields
+  won-small : (k bytes : ℕ) → bytes < 65536 → run .run .position < 65536 → Small (wonBy run (nthRule (x .rules) k) bytes)
+  unfolding wonBy view viewFields
   won-small k bytes h p =
-      by-test Small (eqb (nthRule rules k .named) 1) _ _
-      (λ _. by-test Small (eqb (nthRule rules k .«has_id») 1) _ _ (λ _. two-bytes 260 _ _ _ (omega arith) (small k .id) p h) (λ _. no-values 258 (omega arith)))
-      (λ _. no-values 259 (omega arith))
+      by-test Small (eqb (nthRule (x .rules) k .named) 1) _ _
+      (λ _. by-test Small (eqb (nthRule (x .rules) k .«has_id») 1) _ _
+      (λ _. two-bytes tokenNumber _ _ _ (omega arith) (small k .id) p h) (λ _. no-values unlinkedNumber (omega arith)))
+      (λ _. no-values skipNumber (omega arith))
 
-  weight-small : (states : List State) (lists : List ℕ) (state k : ℕ) → weight states rules lists state row k ≤ 65535
-  unfolding weight
-  weight-small states lists state k =
-      by-test (λ (w : ℕ). w ≤ 65535) (live states lists state (nthRule rules k)) (lengthIn row k) 0 (λ _. omega (arith, length-small k)) (λ _. omega arith)
+  run-small : Small (stepRun x run (input row))
+  unfolding stepRun stepRow choose view viewFields
+  run-small =
+      let f : ℕ → ℕ = weight x (current run) row in
+      by-test Small (goodRun (length (x .states)) run) _ _
+      (λ good. by-test Small (eqb (run .run .position) (run .run .n)) _ _ (λ _. no-values doneNumber (omega arith))
+      (λ _. by-test Small (goodRow (fitsIn (run .run)) (length (x .rules)) row) _ _
+      (λ _. by-test Small (eqb (greatest f (length (x .rules))) 0) _ _ (λ _. no-values stoppedNumber (omega arith))
+      (λ _.
+      let low = weights-low x (current run) row 65535 (length (x .rules)) (λ k _. omega (arith, length-small k)) in
+      let numbers = run-is (length (x .states)) (run .run) (run .stack) good in
+      won-small _ _ (omega (arith, low)) (omega (arith, numbers .small, numbers .inside))))
+      (λ _. no-values rowMismatchNumber (omega arith))))
+      (λ _. no-values brokenRunNumber (omega arith))
 
-  run-small : (states : List State) (lists : List ℕ) → Small (stepRun states rules lists r s row)
-  unfolding stepRun stepRow choose stepFields
-  run-small states lists =
-      by-test Small (goodRun (length states) r s) _ _
-      (λ good. by-test Small (eqb (r .position) (r .n)) _ _ (λ _. no-values 256 (omega arith))
-      (λ _. by-test Small (goodRow (length rules) (r .n - r .position) row) _ _
-      (λ _. by-test Small (eqb (greatest (weight states rules lists (current r s) row) (length rules)) 0) _ _ (λ _. no-values 257 (omega arith))
-      (λ _. won-small _ _ (omega (arith, greatest-low (weight states rules lists (current r s) row) 65535 (length rules) (λ k _. weight-small states lists (current r s) k))) (position-small (length states) r s good)))
-      (λ _. no-values 10 (omega arith))))
-      (λ _. no-values 9 (omega arith))
-
-pub step-small : (b : SheetBytes) (r : Run) (s row : List ℕ) → AllBytes (b .area2) → AllBytes row → TwoBytes (stepFields (stepCall b r s row .answer))
-unfolding stepCall stepFields decoded
-step-small b r s row rules-bytes row-bytes =
-    by-test Small (sheetCheck b) _ _ (λ _. run-small (decoded b .rules) (λ k. small-rule (b .area2) (getD (b .counts) 1 0) k rules-bytes) r s row row-bytes (decoded b .states) (decoded b .lists))
-    (λ _. no-values 6 (omega arith))
+pub step-small : (b : SheetBytes) (run : Running) (row : List ℕ) → AllBytes (b .area2) → AllBytes row
+    → TwoBytes (stepFields (stepCall b run (input row) .answer))
+unfolding stepCall view viewFields decoded
+step-small b run row rules-bytes row-bytes =
+    by-test Small (sheetCheck b) _ _ (λ _. run-small (lexerOf (decoded b)) (λ k. small-rule (b .area2) (getD (b .counts) 1 0) k rules-bytes) run row row-bytes)
+    (λ _. no-values brokenSheetNumber (omega arith))
 
 pub start-small : (x : Begun) → TwoBytes (startFields x)
 unfolding startFields
-start-small Started = no-values 0 (omega arith)
-start-small StartRefused = no-values 8 (omega arith)
+start-small Started = no-values acceptedNumber (omega arith)
+start-small StartRefused = no-values startRefusedNumber (omega arith)

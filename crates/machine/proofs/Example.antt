@@ -27,9 +27,10 @@ use Rattle.names.specs.Names.{allBytes, isNameByte, isStateName, isState, hasNa
 use Rattle.escape.specs.Escape.{posixEscapes, isCodeLetter, isCode, isKeptBy, isKept, isRewritten, lastWhole, dropLone, rewrittenEnd, backspace, escapeFrom, escaped, unescaped, nextEscape, escapesFrom, escapes, anyEscape, lastEnd, replaced}
 use Rattle.declarations.specs.Declarations.{declareState, stateNames, isQuoted, expectedNames, isAlphanumeric, declares, declarationOf, declareAs, declaration, nextDeclaration, endDeclarations, declarations, trimmed, wordEnd, firstWord, restOf, isInclusive, isExclusive, isExpecting, statesOf, behindName, addState, repeatState, stateNamed, declareExpected}
 use Rattle.rules.specs.Heading.{operationOf, targetOf, isNoName, isName, labelBy, labelOf, headingOf, bodyOf, hasTarget, targetEnd, targetOperation, targetName, targetId, equalQuotes, ruleNamed, headingBehind, hasList, listEnd}
-use Rattle.rules.specs.Rules.{nextEntry, entries, refuses, recordRule, listedRule, rewrittenRule, pattern, ruleAs, rule, line, nextRule, rules, routines, rulesSection, entryEnd, entryId, withRule}
+use Rattle.rules.specs.Rules.{nextEntry, entries, refuses, recordRule, entryEnd, entryId}
+use Rattle.rules_section.specs.RulesSection.{listedRule, rewrittenRule, pattern, ruleAs, rule, line, nextRule, rules, routines, rulesSection, withRule}
 use Rattle.parse.specs.Parse.{Caps, caps, closed, judge, rulesFrom, opening, file, outcome, leaves, parseCall, parseFields}
-use Rattle.sheet_check.specs.SheetCheck.{decoded, goodState, goodRule, goodExpected, goodContents, longEnough, sheetCheck}
+use Rattle.sheet_check.specs.SheetCheck.{decoded, longEnough, goodCounts, goodSizes, goodState, goodRule, goodExpected, goodRecords, sheetCheck}
 use Rattle.area.specs.Lists.{all, numbers, allBelow}
 use Rattle.parsed_sheet.specs.Accepted.{isByte}
 use Rattle.parsed_sheet.specs.Meaning.{meaning}
@@ -39,9 +40,9 @@ use Rattle.link.specs.Link.{isNone, isUnmapped, hasThatName, isUnused, unmapped
 use Rattle.run.specs.declared.Run.{Run}
 use Rattle.run.specs.declared.Step.{Step}
 use Rattle.run.specs.declared.Step.the-variants.{RowMismatch, Done, Stopped, Skip, Token}
-use Rattle.run.specs.Run.{goodStart, startCall, startFields}
-use Rattle.machine.specs.File.{FileRule, operationBy, nameFrom, mapOf, fileOf}
-use Rattle.machine.specs.Machine.{Given, Input, Machine, fresh, lengths, noneAbove, fits, has, isEmpty, isLive, before, winnerOf, idIn, operate, move, token, wins, chooses, step}
+use Rattle.run.specs.Run.{running, Input, input, goodStart, startCall, startFields}
+use Rattle.machine.specs.File.{FileRule, operationBy, nameAt, nameFrom, mapOf, fileOf}
+use Rattle.machine.specs.Machine.{Given, Machine, fresh, lengths, fits, has, isEmpty, isLive, before, winnerOf, idIn, operate, move, token, wins, chooses, step}
 use Rattle.machine.specs.Means.{EntryOf}
 use Rattle.machine.specs.Demand.{Demand, Session, startLeftOf, sessionFile, sessionMap, given, MapHolds, Accepts, sessionCalls, DEMAND}
 use Rattle.machine.proofs.Options.{some-is, none-some}
@@ -51,7 +52,15 @@ use Rattle.machine.proofs.Worded.{in-words}
 
 -- `%x S⏎%%⏎a 'A'⏎b <+S>;⏎<S>c <-S>'C'⏎<S>d <S>;⏎e <-S>'E'⏎`
 abbrev pub lexFile : List ℕ
-lexFile = 0x25 ∷ 0x78 ∷ 0x20 ∷ 0x53 ∷ 0x0a ∷ 0x25 ∷ 0x25 ∷ 0x0a ∷ 0x61 ∷ 0x20 ∷ 0x27 ∷ 0x41 ∷ 0x27 ∷ 0x0a ∷ 0x62 ∷ 0x20 ∷ 0x3c ∷ 0x2b ∷ 0x53 ∷ 0x3e ∷ 0x3b ∷ 0x0a ∷ 0x3c ∷ 0x53 ∷ 0x3e ∷ 0x63 ∷ 0x20 ∷ 0x3c ∷ 0x2d ∷ 0x53 ∷ 0x3e ∷ 0x27 ∷ 0x43 ∷ 0x27 ∷ 0x0a ∷ 0x3c ∷ 0x53 ∷ 0x3e ∷ 0x64 ∷ 0x20 ∷ 0x3c ∷ 0x53 ∷ 0x3e ∷ 0x3b ∷ 0x0a ∷ 0x65 ∷ 0x20 ∷ 0x3c ∷ 0x2d ∷ 0x53 ∷ 0x3e ∷ 0x27 ∷ 0x45 ∷ 0x27 ∷ 0x0a ∷ []
+lexFile =
+    0x25 ∷ 0x78 ∷ 0x20 ∷ 0x53 ∷ 0x0a
+    ∷ 0x25 ∷ 0x25 ∷ 0x0a
+    ∷ 0x61 ∷ 0x20 ∷ 0x27 ∷ 0x41 ∷ 0x27 ∷ 0x0a
+    ∷ 0x62 ∷ 0x20 ∷ 0x3c ∷ 0x2b ∷ 0x53 ∷ 0x3e ∷ 0x3b ∷ 0x0a
+    ∷ 0x3c ∷ 0x53 ∷ 0x3e ∷ 0x63 ∷ 0x20 ∷ 0x3c ∷ 0x2d ∷ 0x53 ∷ 0x3e ∷ 0x27 ∷ 0x43 ∷ 0x27 ∷ 0x0a
+    ∷ 0x3c ∷ 0x53 ∷ 0x3e ∷ 0x64 ∷ 0x20 ∷ 0x3c ∷ 0x53 ∷ 0x3e ∷ 0x3b ∷ 0x0a
+    ∷ 0x65 ∷ 0x20 ∷ 0x3c ∷ 0x2d ∷ 0x53 ∷ 0x3e ∷ 0x27 ∷ 0x45 ∷ 0x27 ∷ 0x0a
+    ∷ []
 
 abbrev pub capacities : Caps
 capacities = caps 12 140 4 0 0 0
@@ -64,7 +73,7 @@ abbrev pub entries-of-map : List ℕ
 entries-of-map = 0 ∷ 0 ∷ 1 ∷ 0 ∷ 44 ∷ 1 ∷ 1 ∷ 0 ∷ 1 ∷ 0 ∷ 45 ∷ 1 ∷ 2 ∷ 0 ∷ 1 ∷ 0 ∷ 46 ∷ 1 ∷ []
 
 abbrev pub row : ℕ → ℕ → ℕ → ℕ → ℕ → Input
-row a b c d e = record { row = a ∷ 0 ∷ b ∷ 0 ∷ c ∷ 0 ∷ d ∷ 0 ∷ e ∷ 0 ∷ [] }
+row a b c d e = input (a ∷ 0 ∷ b ∷ 0 ∷ c ∷ 0 ∷ d ∷ 0 ∷ e ∷ 0 ∷ [])
 
 abbrev pub entry-rows : List Input
 entry-rows =
@@ -77,7 +86,7 @@ entry-rows =
     ∷ row 1 1 0 0 1
     ∷ row 0 0 1 1 0
     ∷ row 0 0 0 0 1
-    ∷ record { row = [] }
+    ∷ input []
     ∷ []
 
 -- the file and the map, and the start of an entry of 8 bytes, over a stack of 18 bytes 7
@@ -92,8 +101,7 @@ session r = record {
   area7 = [];
   area8 = [];
   n = 8;
-  run = r;
-  stack = replicate 18 7;
+  running = running r (replicate 18 7);
 }
 
 -- the machine's answers
@@ -152,7 +160,7 @@ unfolding closed judge rulesFrom opening file outcome leaves parseCall
 parse-computes = tt
 
 unfoldable sheet-check-computes : Unit {0}
-unfolding decoded all goodState goodRule goodExpected goodContents longEnough sheetCheck
+unfolding decoded all longEnough goodCounts goodSizes goodState goodRule goodExpected goodRecords sheetCheck
 sheet-check-computes = tt
 
 unfoldable accepted-computes : Unit {0}
@@ -168,7 +176,7 @@ unfolding goodStart startCall
 run-computes = tt
 
 unfoldable machine-computes : Unit {0}
-unfolding operationBy nameFrom mapOf fileOf lengths noneAbove fits has isEmpty isLive before winnerOf idIn operate move token wins chooses step answers
+unfolding operationBy nameAt nameFrom mapOf fileOf lengths fits has isEmpty isLive before winnerOf idIn operate move token wins chooses step answers
 machine-computes = tt
 
 -- all of it
@@ -181,7 +189,8 @@ pub met-names : (r : Run) → MapHolds (sessionFile (session r)) (sessionMap (se
 unfolding computing
 met-names r = record { holds = by }
   where
-    by : (k : ℕ) (x : FileRule) (name : List ℕ) → getElem? (sessionFile (session r) .rules) k ≡ some x → x .name ≡ some name → (id : ℕ) × EntryOf (sessionMap (session r)) name id
+    by : (k : ℕ) (x : FileRule) (name : List ℕ) → getElem? (sessionFile (session r) .rules) k ≡ some x → x .name ≡ some name
+        → (id : ℕ) × EntryOf (sessionMap (session r)) name id
     by zero x name e q = (300, (0, _, refl, some-is _ name (ap (λ (y : FileRule). y .name) (some-is _ x e) ∙ q), refl))
     by (suc zero) x name e q = absurd (none-some name (ap (λ (y : FileRule). y .name) (some-is _ x e) ∙ q))
     by (suc (suc zero)) x name e q = (301, (1, _, refl, some-is _ name (ap (λ (y : FileRule). y .name) (some-is _ x e) ∙ q), refl))
@@ -201,7 +210,7 @@ unfolding computing
 met-answers r = refl
 
 -- so demand 3 holds of the calls with these rows
-pub met-demand : (r : Run) → Demand (given (session r)) (session r .stack) (startLeftOf (session r)) entry-rows (sessionCalls (session r) entry-rows)
+pub met-demand : (r : Run) → Demand (given (session r)) (session r .running .stack) (startLeftOf (session r)) entry-rows (sessionCalls (session r) entry-rows)
 unfolding DEMAND
 met-demand r = demand (session r) (met r) entry-rows
 

@@ -4,7 +4,8 @@ use mathlib.Core.List.{List}
 use lib.ListN.{length}
 use Rattle.area.specs.Contents.{entryFormat, relaid}
 use Rattle.run.specs.declared.Run.{Run}
-use Rattle.run.specs.Run.{StepLeft, stepLeft}
+use Rattle.run.specs.declared.Step.{Step}
+use Rattle.run.specs.Run.{Running, running, RunLeft, leaving}
 use Rattle.machine.specs.Machine.{Machine, Answered}
 
 -- n, position and moves are equal, and depth is the length of the machine's stack
@@ -15,6 +16,10 @@ runAs n m = record { n = n; position = m .position; depth = length (m .stack); m
 abbrev pub stackAs : List ℕ → Machine → List ℕ
 stackAs s m = relaid entryFormat s (m .stack)
 
+-- both, where the stack's bytes were s
+abbrev pub runningAs : ℕ → List ℕ → Machine → Running
+runningAs n s m = running (runAs n m) (stackAs s m)
+
 -- what a call leaves whose answer and run are the machine's, where the stack's bytes were s
-abbrev pub leftAs : ℕ → List ℕ → Answered → StepLeft
-leftAs n s o = stepLeft (o .answer) (runAs n (o .machine)) (stackAs s (o .machine))
+abbrev pub leftAs : ℕ → List ℕ → Answered → RunLeft Step
+leftAs n s o = leaving (o .answer) (runningAs n s (o .machine))

@@ -6,14 +6,12 @@ pub mod Laid
 pub mod Stacks
 pub mod Places
 pub mod Keeping
-pub mod OneStep
 pub mod Reading
 pub mod Operations
 pub mod Winners
 pub mod Stepping
 pub mod Relinking
 pub mod Whole
-pub mod Covering
 pub mod Theorem
 pub mod AnswerLimits
 pub mod Worded

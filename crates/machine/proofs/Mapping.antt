@@ -17,7 +17,8 @@ use Rattle.machine.specs.File.{number, mapOf}
 raw : ℕ → List ℕ → List MapEntry
 raw zero l = []
 raw (suc n) l =
-    record { «name_from» = number (getD l 0 0) (getD l 1 0); «name_length» = number (getD l 2 0) (getD l 3 0); id = number (getD l 4 0) (getD l 5 0) } ∷ raw n (drop 6 l)
+    let field : ℕ → ℕ = λ k. number (getD l k 0) (getD l (k + 1) 0) in
+    record { «name_from» = field 0; «name_length» = field 2; id = field 4 } ∷ raw n (drop 6 l)
 
 raw-count : (n : ℕ) (l : List ℕ) → length (raw n l) ≡ n
 unfolding raw
@@ -29,7 +30,9 @@ unfolding fieldFrom fieldAt
 field-behind l k j =
     let p : suc k * mapWidth + 2 * j ≡ 6 + (k * mapWidth + 2 * j) = omega arith in
     let q : suc k * mapWidth + 2 * j + 1 ≡ 6 + (k * mapWidth + 2 * j + 1) = omega arith in
-    ap₂ (λ (u v : ℕ). u + v * 256) (ap (λ (i : ℕ). getD l i 0) p ∙ sym (getD-drop 6 l (k * mapWidth + 2 * j) 0)) (ap (λ (i : ℕ). getD l i 0) q ∙ sym (getD-drop 6 l (k * mapWidth + 2 * j + 1) 0))
+    ap₂ (λ (u v : ℕ). u + v * 256)
+    (ap (λ (i : ℕ). getD l i 0) p ∙ sym (getD-drop 6 l (k * mapWidth + 2 * j) 0))
+    (ap (λ (i : ℕ). getD l i 0) q ∙ sym (getD-drop 6 l (k * mapWidth + 2 * j + 1) 0))
 
 raw-at : (n : ℕ) (l : List ℕ) (k : ℕ) → k < n → mapEntryAt l k ≡ getD (raw n l) k (mapFormat .blank)
 unfolding raw mapEntryAt mapEntryOf fieldFrom fieldAt
@@ -48,10 +51,12 @@ raw-same (suc n) names (a ∷ b ∷ []) h = absurd (omega arith)
 raw-same (suc n) names (a ∷ b ∷ c ∷ []) h = absurd (omega arith)
 raw-same (suc n) names (a ∷ b ∷ c ∷ d ∷ []) h = absurd (omega arith)
 raw-same (suc n) names (a ∷ b ∷ c ∷ d ∷ e ∷ []) h = absurd (omega arith)
-raw-same (suc n) names (a ∷ b ∷ c ∷ d ∷ e ∷ f ∷ l) h = ap (λ (es : List Entry). entry (part names (number a b) (number a b + number c d)) (number e f) ∷ es) (raw-same n names l (omega arith))
+raw-same (suc n) names (a ∷ b ∷ c ∷ d ∷ e ∷ f ∷ l) h =
+    ap (λ (es : List Entry). entry (part names (number a b) (number a b + number c d)) (number e f) ∷ es) (raw-same n names l (omega arith))
 
 pub map-same : (names entries : List ℕ) → length entries ≡ entryCount entries * 6 → entriesOf names entries ≡ mapOf names entries
 unfolding entriesOf contents
 map-same names entries h =
     let n : ℕ = entryCount entries in
-    ap (map (entryOf names)) (listOf-is (mapEntryAt entries) (mapFormat .blank) (raw n entries) n (sym (raw-count n entries)) (λ k l. raw-at n entries k l)) ∙ raw-same n names entries h
+    let read = listOf-is (mapEntryAt entries) (mapFormat .blank) (raw n entries) n (sym (raw-count n entries)) (raw-at n entries) in
+    ap (map (entryOf names)) read ∙ raw-same n names entries h

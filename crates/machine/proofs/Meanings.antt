@@ -7,15 +7,18 @@ use mathlib.Core.Option.{Option, none, some}
 use Prim.Native.Nat.{ℕ, zero, suc, _+_, _*_, _-_, _≤_, _<_}
 use native.Mathlib.Omega.{arith}
 use borrow.Author.Tests.{eq-eqb, eqb-true, eqb-false, leb-true, leb-false, ltb-true, ltb-false}
-use lib.Dec.{eqb, ltb, leb}
+use lib.Dec.{eqb, ltb}
 use lib.ListN.{length, getD, getElem?}
 use Rattle.text.specs.Range.{sameBytes}
 use Rattle.text.proofs.Tests.{by-test, and-left, and-right, or-true, or-cases}
 use Rattle.text.proofs.Ranges.{same-equal, same-self}
+use Rattle.area.specs.Lists.{all}
+use Rattle.sheet_check.proofs.Checked.{all-at}
 use Rattle.link.specs.Map.{Entry}
 use Rattle.run.specs.declared.Step.the-variants.{RowMismatch, Done, Stopped}
+use Rattle.run.specs.Run.{Input}
 use Rattle.machine.specs.File.{FileState, FileRule}
-use Rattle.machine.specs.Machine.{Given, Input, Machine, currentState, lengths, noneAbove, fits, has, isEmpty, isLive, Winner, winner, before, winnerOf, idIn, Answered, answered, token, wins, chooses, step}
+use Rattle.machine.specs.Machine.{Given, Machine, currentState, lengths, fits, notAbove, has, isEmpty, isLive, Winner, winner, before, winnerOf, idIn, Answered, answered, token, wins, chooses, step}
 use Rattle.machine.specs.Means.{lengthAt, Fitting, Misfit, Has, Live, Won, EntryOf, Means}
 use Rattle.machine.proofs.Options.{some-is, none-some, place-inside}
 
@@ -77,49 +80,52 @@ lengths-count (suc n) [] h = absurd (omega arith)
 lengths-count (suc n) (x ∷ []) h = absurd (omega arith)
 lengths-count (suc n) (x ∷ y ∷ row) h = ap suc (lengths-count n row (omega arith))
 
-none-at : (q : ℕ) (ls : List ℕ) → noneAbove q ls ≡ true → (k : ℕ) → k < length ls → getD ls k 0 ≤ q
-unfolding noneAbove
-none-at q [] e k h = absurd (omega arith)
-none-at q (l ∷ ls) e zero h = leb-true l q (and-left (leb l q) (noneAbove q ls) e)
-none-at q (l ∷ ls) e (suc k) h = none-at q ls (and-right (leb l q) (noneAbove q ls) e) k (omega arith)
-
-some-above : (q : ℕ) (ls : List ℕ) → noneAbove q ls ≡ false → (k : ℕ) × (k < length ls) × (q < getD ls k 0)
-unfolding noneAbove
-some-above q [] e = absurd (true≢false e)
-some-above q (l ∷ ls) e = go (leb l q) refl e (λ d. some-above q ls d)
+-- a length that does not pass
+some-fails : (test : ℕ → Bool) (ls : List ℕ) → all test ls ≡ false → (k : ℕ) × (k < length ls) × (test (getD ls k 0) ≡ false)
+unfolding all
+some-fails test [] e = absurd (true≢false e)
+some-fails test (l ∷ ls) e = go (test l) refl e (λ d. some-fails test ls d)
   where
-    go : (t : Bool) → leb l q ≡ t → t && noneAbove q ls ≡ false → (noneAbove q ls ≡ false → (k : ℕ) × (k < length ls) × (q < getD ls k 0))
-        → (k : ℕ) × (k < suc (length ls)) × (q < getD (l ∷ ls) k 0)
-    go false f d later = (0, omega arith, leb-false l q f)
+    go : (t : Bool) → test l ≡ t → t && all test ls ≡ false → (all test ls ≡ false → (k : ℕ) × (k < length ls) × (test (getD ls k 0) ≡ false))
+        → (k : ℕ) × (k < suc (length ls)) × (test (getD (l ∷ ls) k 0) ≡ false)
+    go false f d later = (0, omega arith, f)
     go true f d later =
         let r = later d in
         (suc (r .0), omega (arith, r .1), r .2)
 
-module _ (g : Given) (m : Machine) (row : List ℕ) (off : m .position ≡ g .n → ⊥) where
+module _ (g : Given) (m : Machine) (i : Input) (off : m .position ≡ g .n → ⊥) where
   n : ℕ
   n = length (g .file .rules)
 
-  pub row-fitting : fits (length (g .file .rules)) (g .n - m .position) row ≡ true → Fitting g m row
-  unfolding fits n
+  left : ℕ
+  left = g .n - m .position
+
+  pub row-fitting : fits (notAbove (g .n - m .position)) (length (g .file .rules)) (i .row) ≡ true → Fitting g m i
+  unfolding fits n left
   row-fitting e =
+      let row : List ℕ = i .row in
       let size : length row ≡ n * 2 = eqb-true (length row) (n * 2) (and-left (eqb (length row) (n * 2)) _ e) in
+      let pass : all (notAbove left) (lengths row) ≡ true = and-right (eqb (length row) (n * 2)) _ e in
       record {
         before = off;
         size = size;
-        low = λ k h. rw (← lengths-at row k (omega (arith, size, h))) (none-at _ (lengths row) (and-right (eqb (length row) (n * 2)) _ e) k (omega (arith, lengths-count n row size, h)));
+        low = λ k h.
+            let here : k < length (lengths row) = omega (arith, lengths-count n row size, h) in
+            rw (← lengths-at row k (omega (arith, size, h))) (leb-true (getD (lengths row) k 0) left (all-at (notAbove left) (lengths row) 0 k pass here));
       }
 
-  pub misfits : fits (length (g .file .rules)) (g .n - m .position) row ≡ false → Misfit g m row
-  unfolding fits n
-  misfits e = go (eqb (length row) (n * 2)) refl e
+  pub misfits : fits (notAbove (g .n - m .position)) (length (g .file .rules)) (i .row) ≡ false → Misfit g m i
+  unfolding fits n left
+  misfits e = go (eqb (length (i .row)) (n * 2)) refl e
     where
-      go : (t : Bool) → eqb (length row) (n * 2) ≡ t → t && noneAbove (g .n - m .position) (lengths row) ≡ false → Misfit g m row
-      go false f d = inl (eqb-false (length row) (n * 2) f)
+      go : (t : Bool) → eqb (length (i .row)) (n * 2) ≡ t → t && all (notAbove left) (lengths (i .row)) ≡ false → Misfit g m i
+      go false f d = inl (eqb-false (length (i .row)) (n * 2) f)
       go true f d =
+          let row : List ℕ = i .row in
           let size : length row ≡ n * 2 = eqb-true (length row) (n * 2) f in
-          let r = some-above (g .n - m .position) (lengths row) d in
+          let r = some-fails (notAbove left) (lengths row) d in
           let h : r .0 < n = omega (arith, lengths-count n row size, r .1) in
-          inr (r .0, h, rw (← lengths-at row (r .0) (omega (arith, size, h))) (r .2))
+          inr (r .0, h, rw (← lengths-at row (r .0) (omega (arith, size, h))) (leb-false (getD (lengths row) (r .0) 0) left (r .2)))
 
 -- ---- the winner
 
@@ -179,7 +185,8 @@ module _ (live : FileRule → Bool) (x : FileRule) (xs : List FileRule) (l : ℕ
       by-test (Picks live (x ∷ xs) (l ∷ ls)) (ltb l (w .bytes)) (some w) (some (winner x l)) (λ q. later-found w (ltb-true l (w .bytes) q) p)
       (λ q. first-found e (λ k y r t. omega (arith, p .greatest k y r t, ltb-false l (w .bytes) q)))
 
-pub picked : (states : List FileState) (state : ℕ) (xs : List FileRule) (ls : List ℕ) → length ls ≡ length xs → Picks (isLive states state) xs ls (winnerOf states state xs ls)
+pub picked : (states : List FileState) (state : ℕ) (xs : List FileRule) (ls : List ℕ) → length ls ≡ length xs
+    → Picks (isLive states state) xs ls (winnerOf states state xs ls)
 unfolding winnerOf
 picked states state [] ls h = λ k x e t. none-some x e
 picked states state (x ∷ xs) [] h = absurd (omega arith)
@@ -206,14 +213,16 @@ id-given (e ∷ es) name =
     later t none p = λ id h. by id (h .0) (h .1) (h .2) (h .3) (h .4)
       where
         by : (id j : ℕ) (f : Entry) → getElem? (e ∷ es) j ≡ some f → f .name ≡ name → f .id ≡ id → ⊥
-        by id zero f q r u = true≢false (sym (same-self name) ∙ ap (λ (z : List ℕ). sameBytes z name) (sym (ap (λ (y : Entry). y .name) (some-is e f q) ∙ r)) ∙ t)
+        by id zero f q r u =
+            let same : e .name ≡ name = ap (λ (y : Entry). y .name) (some-is e f q) ∙ r in
+            true≢false (sym (same-self name) ∙ ap (λ (z : List ℕ). sameBytes z name) (sym same) ∙ t)
         by id (suc j) f q r u = p id (j, f, q, r, u)
 
 -- ---- a step
 
 module _ (g : Given) (m : Machine) (i : Input) where
   abbrev Meant : Answered → Type 0
-  Meant o = Means g m (i .row) (o .answer) (o .machine)
+  Meant o = Means g m i (o .answer) (o .machine)
 
   abbrev live : FileRule → Bool
   live = isLive (g .file .states) (currentState (m .stack))
@@ -221,11 +230,11 @@ module _ (g : Given) (m : Machine) (i : Input) where
   abbrev ls : List ℕ
   ls = lengths (i .row)
 
-  module _ (fitting : Fitting g m (i .row)) where
+  module _ (fitting : Fitting g m i) where
     has-length : (k : ℕ) (x : FileRule) → getElem? (g .file .rules) k ≡ some x → getD (lengths (i .row)) k 0 ≡ lengthAt (i .row) k
     has-length k x e = lengths-at (i .row) k (omega (arith, place-inside (g .file .rules) k x e, fitting .size))
 
-    won : (w : Winner) → 0 < w .bytes → Found live (g .file .rules) ls w → Won g m (i .row) w
+    won : (w : Winner) → 0 < w .bytes → Found live (g .file .rules) ls w → Won g m i w
     won w h f = record {
       fitting = fitting;
       place = f .place;
@@ -237,12 +246,12 @@ module _ (g : Given) (m : Machine) (i : Input) where
       earliest = λ k x b e l. omega (arith, has-length k x e, f .earliest k x b e (live-says g m x l));
     }
 
-    named-means : (w : Winner) → Won g m (i .row) w → (name : List ℕ) → w .rule .name ≡ some name → (o : Option ℕ) → Gives (g .map) name o → Meant (token o w m)
+    named-means : (w : Winner) → Won g m i w → (name : List ℕ) → w .rule .name ≡ some name → (o : Option ℕ) → Gives (g .map) name o → Meant (token o w m)
     unfolding token
     named-means w h name e none p = (w, h, name, e, p, refl)
     named-means w h name e (some id) p = (w, h, name, e, p, refl, refl, refl)
 
-    wins-means : (w : Winner) → Won g m (i .row) w → (name : Option (List ℕ)) → w .rule .name ≡ name → Meant (wins g name w m)
+    wins-means : (w : Winner) → Won g m i w → (name : Option (List ℕ)) → w .rule .name ≡ name → Meant (wins g name w m)
     unfolding wins
     wins-means w h none e = (w, h, e, refl)
     wins-means w h (some name) e = named-means w h name e (idIn (g .map) name) (id-given (g .map) name)
@@ -255,12 +264,13 @@ module _ (g : Given) (m : Machine) (i : Input) where
         (λ z. (fitting, λ k x e l. omega (arith, has-length k x e, p .greatest k x e (live-says g m x l), eqb-true (w .bytes) 0 z), refl))
         (λ z. wins-means w (won w (omega (arith, eqb-false (w .bytes) 0 z)) p) (w .rule .name) refl)
 
-  pub means : Means g m (i .row) (step g m i .answer) (step g m i .machine)
+  pub means : Means g m i (step g m i .answer) (step g m i .machine)
   unfolding step
   means =
       by-test Meant (eqb (m .position) (g .n)) (answered Done m) _ (λ e. (eqb-true (m .position) (g .n) e, refl))
-      (λ e. by-test Meant (fits (length (g .file .rules)) (g .n - m .position) (i .row)) _ (answered RowMismatch m)
+      (λ e. by-test Meant (fits (notAbove (g .n - m .position)) (length (g .file .rules)) (i .row)) _ (answered RowMismatch m)
       (λ f.
-      let fitting : Fitting g m (i .row) = row-fitting g m (i .row) (eqb-false (m .position) (g .n) e) f in
-      chooses-means fitting _ (picked (g .file .states) (currentState (m .stack)) (g .file .rules) ls (lengths-count (length (g .file .rules)) (i .row) (fitting .size))))
-      (λ f. (eqb-false (m .position) (g .n) e, misfits g m (i .row) (eqb-false (m .position) (g .n) e) f, refl)))
+      let fitting : Fitting g m i = row-fitting g m i (eqb-false (m .position) (g .n) e) f in
+      let count = lengths-count (length (g .file .rules)) (i .row) (fitting .size) in
+      chooses-means fitting _ (picked (g .file .states) (currentState (m .stack)) (g .file .rules) ls count))
+      (λ f. (eqb-false (m .position) (g .n) e, misfits g m i (eqb-false (m .position) (g .n) e) f, refl)))

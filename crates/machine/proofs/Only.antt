@@ -1,16 +1,16 @@
--- A row has one answer that means something, and one machine that is next: so `Means` alone says what the machine does.
+-- An input has one answer that means something, and one machine that is next: so `Means` alone says what the machine does.
 use mathlib.Core.Path.{_≡_, sym, ap, _∙_}
 use mathlib.Core.List.{List}
 use mathlib.Core.Logic.{_⊎_, inl, inr, ⊎-elim}
 use mathlib.Core.Option.{none, some}
-use Prim.Native.Nat.{ℕ, _-_}
+use Prim.Native.Nat.{ℕ, _-_, _<_}
 use native.Mathlib.Omega.{arith}
 use lib.ListN.{getElem?}
 use Rattle.text.proofs.Tests.{le-or-lt}
 use Rattle.link.specs.Map.{Entry}
 use Rattle.run.specs.declared.Step.{Step}
 use Rattle.run.specs.declared.Step.the-variants.{BrokenSheet, BrokenRun, RowMismatch, Done, Stopped, Unlinked, Skip, Token}
-use Rattle.machine.specs.File.{FileRule}
+use Rattle.run.specs.Run.{Input}
 use Rattle.machine.specs.Machine.{Given, Machine, Winner, winner, move, answered}
 use Rattle.machine.specs.Means.{lengthAt, Fitting, Misfit, NoneMatches, Won, EntryOf, Means}
 use Rattle.machine.proofs.Options.{some-is, none-some}
@@ -19,40 +19,45 @@ use Rattle.machine.proofs.Options.{some-is, none-some}
 pub record Distinct (es : List Entry) : Type 0 where
   pub one : (name : List ℕ) (x y : ℕ) → EntryOf es name x → EntryOf es name y → x ≡ y
 
-module _ (g : Given) (m : Machine) (row : List ℕ) where
-  fits-not : Fitting g m row → Misfit g m row → ⊥
+module _ (g : Given) (m : Machine) (i : Input) where
+  fits-not : Fitting g m i → Misfit g m i → ⊥
   fits-not t (inl wrong) = wrong (t .size)
   fits-not t (inr (k, h, more)) = omega (arith, t .low k h, more)
 
-  won-not : (w : Winner) → Won g m row w → NoneMatches g m row → ⊥
+  won-not : (w : Winner) → Won g m i w → NoneMatches g m i → ⊥
   won-not w h z = omega (arith, z (h .place) (w .rule) (h .rule) (h .live), h .has, h .some-bytes)
 
   -- one winner
-  same-place : (v w : Winner) (p : Won g m row v) (q : Won g m row w) → p .place ≡ q .place
+  not-before : (v w : Winner) (p : Won g m i v) (q : Won g m i w) → p .place < q .place → ⊥
+  not-before v w p q h =
+      let less = q .earliest (p .place) (v .rule) h (p .rule) (p .live) in
+      let most = p .greatest (q .place) (w .rule) (q .rule) (q .live) in
+      omega (arith, less, most, p .has, q .has)
+
+  same-place : (v w : Winner) (p : Won g m i v) (q : Won g m i w) → p .place ≡ q .place
   same-place v w p q =
-      ⊎-elim
-      (λ h. ⊎-elim (λ k. omega arith) (λ k. absurd (omega (arith, p .earliest (q .place) (w .rule) k (q .rule) (q .live), q .has, q .greatest (p .place) (v .rule) (p .rule) (p .live), p .has))) (le-or-lt (p .place) (q .place)))
-      (λ h. absurd (omega (arith, q .earliest (p .place) (v .rule) h (p .rule) (p .live), p .has, p .greatest (q .place) (w .rule) (q .rule) (q .live), q .has)))
+      ⊎-elim (λ h. ⊎-elim (λ k. omega arith) (λ k. absurd (not-before w v q p k)) (le-or-lt (p .place) (q .place)))
+      (λ h. absurd (not-before v w p q h))
       (le-or-lt (q .place) (p .place))
 
-  same-winner : (v w : Winner) → Won g m row v → Won g m row w → v ≡ w
+  same-winner : (v w : Winner) → Won g m i v → Won g m i w → v ≡ w
   same-winner v w p q =
       let e = same-place v w p q in
       let rule : v .rule ≡ w .rule = some-is (v .rule) (w .rule) (sym (p .rule) ∙ ap (getElem? (g .file .rules)) e ∙ q .rule) in
-      let bytes : v .bytes ≡ w .bytes = sym (p .has) ∙ ap (lengthAt row) e ∙ q .has in
-      λ i. winner (rule i) (bytes i)
+      let bytes : v .bytes ≡ w .bytes = sym (p .has) ∙ ap (lengthAt (i .row)) e ∙ q .has in
+      λ j. winner (rule j) (bytes j)
 
-  name-not : (v w : Winner) → Won g m row v → Won g m row w → v .rule .name ≡ none → (name : List ℕ) → w .rule .name ≡ some name → ⊥
+  name-not : (v w : Winner) → Won g m i v → Won g m i w → v .rule .name ≡ none → (name : List ℕ) → w .rule .name ≡ some name → ⊥
   name-not v w p q a name b = none-some name (sym a ∙ ap (λ (x : Winner). x .rule .name) (same-winner v w p q) ∙ b)
 
-  same-name : (v w : Winner) → Won g m row v → Won g m row w → (x y : List ℕ) → v .rule .name ≡ some x → w .rule .name ≡ some y → x ≡ y
+  same-name : (v w : Winner) → Won g m i v → Won g m i w → (x y : List ℕ) → v .rule .name ≡ some x → w .rule .name ≡ some y → x ≡ y
   same-name v w p q x y a b = some-is x y (sym a ∙ ap (λ (z : Winner). z .rule .name) (same-winner v w p q) ∙ b)
 
-  moved-same : (v w : Winner) → Won g m row v → Won g m row w → (x y : Machine) → x ≡ move v m → y ≡ move w m → x ≡ y
+  moved-same : (v w : Winner) → Won g m i v → Won g m i w → (x y : Machine) → x ≡ move v m → y ≡ move w m → x ≡ y
   moved-same v w p q x y a b = a ∙ ap (λ (z : Winner). move z m) (same-winner v w p q) ∙ sym b
 
   module _ (distinct : Distinct (g .map)) where
-    pub only : (a : Step) (x : Machine) (b : Step) (y : Machine) → Means g m row a x → Means g m row b y → answered a x ≡ answered b y
+    pub only : (a : Step) (x : Machine) (b : Step) (y : Machine) → Means g m i a x → Means g m i b y → answered a x ≡ answered b y
     only BrokenSheet x b y p q = absurd p
     only BrokenRun x b y p q = absurd p
     only Done x BrokenSheet y p q = absurd q
@@ -109,4 +114,4 @@ module _ (g : Given) (m : Machine) (row : List ℕ) where
         let starts : start ≡ start2 = from ∙ sym from2 in
         let lengths : bytes ≡ bytes2 = long ∙ ap (λ (z : Winner). z .bytes) (same-winner v w pv qw) ∙ sym long2 in
         let nexts : x ≡ y = moved-same v w pv qw x y ev ew in
-        λ i. answered (Token (ids i) (starts i) (lengths i)) (nexts i)
+        λ j. answered (Token (ids j) (starts j) (lengths j)) (nexts j)

@@ -49,12 +49,16 @@ place-then none none p s e f h k = (k .0 ∙ h .0, k .1 ∙ h .1)
 place-then (some v) none p s e f h k = (k .0 ∙ h .0, k .1 ∙ h .1)
 place-then o (some v) p s e f h k = k
 
+-- at each place, where the stack's bytes were s before
+abbrev pub Places : List (List ℕ) → List ℕ → List ℕ → Type 0
+Places held s b = (p : ℕ) → PlaceHolds (lastHeld p held) p s b
+
 -- one stack more
-pub place-next : (held : List (List ℕ)) (st s b : List ℕ) (p : ℕ) → PlaceHolds (lastHeld p held) p s b → PlaceHolds (lastHeld p (st ∷ held)) p s (relaid entryFormat b st)
+pub place-next : (held : List (List ℕ)) (st s b : List ℕ) → Places held s b → Places (st ∷ held) s (relaid entryFormat b st)
 unfolding lastHeld
-place-next held st s b p h = place-then (lastHeld p held) (getElem? st p) p s b (relaid entryFormat b st) h (place-laid st b p)
+place-next held st s b h p = place-then (lastHeld p held) (getElem? st p) p s b (relaid entryFormat b st) (h p) (place-laid st b p)
 
 -- none yet
-pub place-first : (s : List ℕ) (p : ℕ) → PlaceHolds (lastHeld p []) p s s
+pub place-first : (s : List ℕ) → Places [] s s
 unfolding lastHeld
 place-first s p = (refl, refl)

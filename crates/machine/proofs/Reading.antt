@@ -1,5 +1,5 @@
 -- The sheet's records read as the machine's: a rule is live, a row fits and a name has an id by the sheet exactly where they do by the machine.
-use mathlib.Core.Path.{_≡_, refl, sym, ap, ap₂, _∙_}
+use mathlib.Core.Path.{_≡_, refl, sym, ap, _∙_}
 use mathlib.Core.Bool.{Bool, true, false, cond, not, _&&_, _||_}
 use mathlib.Core.List.{List, [], _∷_, map}
 use mathlib.Core.Logic.{⊎-elim}
@@ -7,7 +7,7 @@ use mathlib.Core.Option.{some}
 use Prim.Native.Nat.{ℕ, zero, suc, _+_, _*_, _-_, _≤_, _<_}
 use native.Mathlib.Omega.{arith}
 use borrow.Author.Tests.{eqb-true, ne-eqb, lt-ltb, le-ltb}
-use lib.Dec.{eqb, ltb, leb}
+use lib.Dec.{eqb, ltb}
 use lib.ListN.{length, getD, getElem?, take, drop, List·getD-map}
 use lib.Seq.{drop-cons}
 use Rattle.text.specs.Walk.{firstOf, first}
@@ -15,19 +15,17 @@ use Rattle.text.specs.Range.{part, sameBytes}
 use Rattle.text.proofs.Tests.{le-or-lt, and-left}
 use Rattle.area.specs.declared.State.{State}
 use Rattle.area.specs.declared.Rule.{Rule}
-use Rattle.area.specs.Bytes.{fieldAt, fieldFrom}
-use Rattle.area.specs.Records.{entryAt, entryWidth, stateOf, nthState, nthRule, nthEntry}
+use Rattle.area.specs.Records.{entryAt, stateOf, nthState, nthRule, nthEntry}
 use Rattle.area.specs.Contents.{contents, entryFormat}
 use Rattle.area.proofs.Contents.{listOf-is}
 use Rattle.area.specs.Lists.{all}
 use Rattle.parse.specs.Parse.{Contents}
 use Rattle.link.specs.Map.{Entry, nth, findEntry, idAt, idOf}
-use Rattle.run.specs.Winner.{findState, listed, live}
+use Rattle.run.specs.Winner.{findInList, inList, live}
 use Rattle.run.specs.Run.{goodRow}
+use Rattle.run_laws.proofs.Stacks.{entry-bytes}
 use Rattle.machine.specs.File.{FileState, fileState, fileRule}
-use Rattle.machine.specs.Machine.{lengths, noneAbove, fits, has, isEmpty, isExclusive, isLive, idIn}
-use Rattle.machine.specs.Means.{lengthAt}
-use Rattle.machine.proofs.Options.{some-is, none-some}
+use Rattle.machine.specs.Machine.{lengths, fits, has, isEmpty, isExclusive, isLive, idIn}
 use Rattle.machine.proofs.Meanings.{lengths-at, lengths-count}
 
 -- ---- live rules
@@ -80,37 +78,29 @@ module _ (c : Contents) (sound : Sound c) where
       let q : x .«list_from» + x .«list_count» - x .«list_from» ≡ x .«list_count» = omega arith in
       ap (λ (n : ℕ). take n (drop (x .«list_from») (c .lists))) q
 
-  pub live-same : (s : List ℕ) (state : ℕ) (x : Rule) → x .«list_from» + x .«list_count» ≤ length (c .lists)
-      → isLive (map fileState (c .states)) state (fileRule s c x) ≡ live (c .states) (c .lists) state x
-  unfolding isLive live listed findState first
-  live-same s state x h =
+  pub live-same : (name : Rule → List ℕ) (state : ℕ) (x : Rule) → x .«list_from» + x .«list_count» ≤ length (c .lists)
+      → isLive (map fileState (c .states)) state (fileRule name c x) ≡ live (c .states) (c .lists) state x
+  unfolding isLive live inList findInList first
+  live-same name state x h =
       let q : x .«list_from» + x .«list_count» - x .«list_from» ≡ x .«list_count» = omega arith in
-      rw (list-taken x, state-at state, marks (nthState (c .states) state .exclusive) (mark-low state), q, first-has (c .lists) state (x .«list_count») (x .«list_from») h, none-empty (c .lists) (x .«list_count») (x .«list_from») h) refl
+      let mark = marks (nthState (c .states) state .exclusive) (mark-low state) in
+      let found = first-has (c .lists) state (x .«list_count») (x .«list_from») h in
+      let empty = none-empty (c .lists) (x .«list_count») (x .«list_from») h in
+      rw (list-taken x, state-at state, mark, q, found, empty) refl
 
 -- ---- rows
-
-pub entry-length : (row : List ℕ) (k : ℕ) → entryAt row k ≡ lengthAt row k
-unfolding entryAt fieldFrom fieldAt
-entry-length row k =
-    let z : k * entryWidth + 2 * 0 ≡ k * 2 = omega arith in
-    ap₂ (λ (i j : ℕ). getD row i 0 + getD row j 0 * 256) z (ap (λ (i : ℕ). i + 1) z)
-
-all-none : (q : ℕ) (ls : List ℕ) → all (λ x. leb x q) ls ≡ noneAbove q ls
-unfolding all noneAbove
-all-none q [] = refl
-all-none q (l ∷ ls) = ap (λ (t : Bool). leb l q && t) (all-none q ls)
 
 row-lengths : (n : ℕ) (row : List ℕ) → length row ≡ n * 2 → contents entryFormat row n ≡ lengths row
 unfolding contents
 row-lengths n row h =
-    listOf-is (entryAt row) 0 (lengths row) n (sym (lengths-count n row h)) (λ k l. entry-length row k ∙ sym (lengths-at row k (omega (arith, h, l))))
+    listOf-is (entryAt row) 0 (lengths row) n (sym (lengths-count n row h)) (λ k l. entry-bytes row k ∙ sym (lengths-at row k (omega (arith, h, l))))
 
-pub row-same : (n left : ℕ) (row : List ℕ) → goodRow n left row ≡ fits n left row
+pub row-same : (test : ℕ → Bool) (n : ℕ) (row : List ℕ) → goodRow test n row ≡ fits test n row
 unfolding goodRow fits
-row-same n left row = go (eqb (length row) (n * 2)) refl
+row-same test n row = go (eqb (length row) (n * 2)) refl
   where
-    go : (t : Bool) → eqb (length row) (n * 2) ≡ t → t && all (λ x. leb x left) (contents entryFormat row n) ≡ t && noneAbove left (lengths row)
-    go true e = ap (all (λ x. leb x left)) (row-lengths n row (eqb-true (length row) (n * 2) e)) ∙ all-none left (lengths row)
+    go : (t : Bool) → eqb (length row) (n * 2) ≡ t → t && all test (contents entryFormat row n) ≡ t && all test (lengths row)
+    go true e = ap (all test) (row-lengths n row (eqb-true (length row) (n * 2) e))
     go false e = refl
 
 -- ---- ids
@@ -127,7 +117,10 @@ first-shift test (suc n) i = go (test (suc i)) (first-shift test n (suc i))
     go false e = e
 
 less-suc : (a b : ℕ) → ltb (suc a) (suc b) ≡ ltb a b
-less-suc a b = ⊎-elim (λ h. le-ltb (suc a) (suc b) (omega arith) ∙ sym (le-ltb a b h)) (λ h. lt-ltb (suc a) (suc b) (omega arith) ∙ sym (lt-ltb a b h)) (le-or-lt b a)
+less-suc a b =
+    ⊎-elim (λ h. le-ltb (suc a) (suc b) (omega arith) ∙ sym (le-ltb a b h))
+    (λ h. lt-ltb (suc a) (suc b) (omega arith) ∙ sym (lt-ltb a b h))
+    (le-or-lt b a)
 
 found-same : (es : List Entry) (name : List ℕ) → idAt es (firstOf (λ j. sameBytes (nth es j .name) name) 0 (length es)) ≡ idIn es name
 unfolding idAt idIn firstOf
@@ -138,7 +131,8 @@ found-same (e ∷ es) name = go (sameBytes (e .name) name) (found-same es name)
         → idAt (e ∷ es) (cond t 0 (firstOf (λ j. sameBytes (nth (e ∷ es) j .name) name) 1 (length es))) ≡ cond t (some (e .id)) (idIn es name)
     go true q = rw (lt-ltb 0 (suc (length es)) (omega arith)) refl
     go false q =
-        rw (first-shift (λ j. sameBytes (nth (e ∷ es) j .name) name) (length es) 0, less-suc (firstOf (λ j. sameBytes (nth es j .name) name) 0 (length es)) (length es)) q
+        let shifted = first-shift (λ j. sameBytes (nth (e ∷ es) j .name) name) (length es) 0 in
+        rw (shifted, less-suc (firstOf (λ j. sameBytes (nth es j .name) name) 0 (length es)) (length es)) q
 
 pub id-same : (es : List Entry) (name : List ℕ) → idOf es name ≡ idIn es name
 unfolding idOf findEntry first
@@ -146,18 +140,11 @@ id-same es name =
     let z : length es - 0 ≡ length es = omega arith in
     ap (λ (n : ℕ). idAt es (firstOf (λ j. sameBytes (nth es j .name) name) 0 n)) z ∙ found-same es name
 
-pub fits-size : (n left : ℕ) (row : List ℕ) → fits n left row ≡ true → length row ≡ n * 2
+pub fits-size : (test : ℕ → Bool) (n : ℕ) (row : List ℕ) → fits test n row ≡ true → length row ≡ n * 2
 unfolding fits
-fits-size n left row e = eqb-true (length row) (n * 2) (and-left (eqb (length row) (n * 2)) _ e)
+fits-size test n row e = eqb-true (length row) (n * 2) (and-left (eqb (length row) (n * 2)) _ e)
 
 pub map-at : {A B : Type 0} (f : A → B) (xs : List A) (k : ℕ) (d : A) → k < length xs → getElem? (map f xs) k ≡ some (f (getD xs k d))
 map-at f [] k d h = absurd (omega arith)
 map-at f (x ∷ xs) zero d h = refl
 map-at f (x ∷ xs) (suc k) d h = map-at f xs k d (omega arith)
-
-pub map-is : {A B : Type 0} (f : A → B) (xs : List A) (k : ℕ) (d : A) (y : B) → getElem? (map f xs) k ≡ some y → (k < length xs) × (y ≡ f (getD xs k d))
-map-is f [] k d y e = absurd (none-some y e)
-map-is f (x ∷ xs) zero d y e = (omega arith, sym (some-is (f x) y e))
-map-is f (x ∷ xs) (suc k) d y e =
-    let r = map-is f xs k d y e in
-    (omega (arith, r .0), r .1)

@@ -6,13 +6,13 @@ use Prim.Native.Nat.{ℕ, _+_, _*_, _-_, _/_, _%_, _≤_, _<_}
 use native.Mathlib.Omega.{arith}
 use lib.ListN.{length, getD, take, drop, length-append, length-drop, take-append-drop}
 use lib.Seq.{sets-eq, take-at, take-take, length-take-le}
-use Rattle.area.specs.Bytes.{two, bytes, fieldAt, fieldFrom}
+use Rattle.area.specs.Bytes.{two, bytes}
 use Rattle.area.specs.Records.{entryAt, entryWidth, entryBytes, entryFields, nthEntry}
-use Rattle.area.specs.Contents.{contents, entryFormat, relaid}
-use Rattle.area.proofs.Contents.{listOf-is}
+use Rattle.area.specs.Contents.{entryFormat, relaid}
 use Rattle.area.proofs.Fields.{bytes-append, bytes-single, bytes-length, bytes-at}
 use Rattle.area.proofs.Records.{entry-wide}
 use Rattle.run.specs.Run.{putState}
+use Rattle.run_laws.proofs.Stacks.{entry-bytes}
 
 -- ---- ids at the front of bytes
 
@@ -23,47 +23,36 @@ two-length : (v : ℕ) → length (two v) ≡ 2
 unfolding two
 two-length v = refl
 
-entry-bytes : (v : ℕ) → entryBytes v ≡ two v
+id-bytes : (v : ℕ) → entryBytes v ≡ two v
 unfolding bytes entryFields
-entry-bytes v = append-nil (two v)
+id-bytes v = append-nil (two v)
 
-pub front-read : (st t : List ℕ) (k : ℕ) → k < length st → entryAt (bytes entryBytes st ++ t) k ≡ nthEntry st k
-unfolding entryAt fieldFrom fieldAt two
-front-read st t k h =
-    let l : List ℕ = bytes entryBytes st ++ t in
-    let v : ℕ = nthEntry st k in
-    let low : getD l (k * entryWidth + 2 * 0) 0 ≡ v % 256 = ap (λ (i : ℕ). getD l i 0) {x = k * entryWidth + 2 * 0} {y = k * entryWidth + 0} (omega arith) ∙ bytes-at entryBytes entryWidth entry-wide 0 st t k 0 h (omega arith) ∙ ap (λ (b : List ℕ). getD b 0 0) (entry-bytes v) in
-    let high : getD l (k * entryWidth + 2 * 0 + 1) 0 ≡ v / 256 = ap (λ (i : ℕ). getD l i 0) {x = k * entryWidth + 2 * 0 + 1} {y = k * entryWidth + 1} (omega arith) ∙ bytes-at entryBytes entryWidth entry-wide 0 st t k 1 h (omega arith) ∙ ap (λ (b : List ℕ). getD b 1 0) (entry-bytes v) in
-    ap₂ (λ (x y : ℕ). x + y * 256) low high ∙ omega arith
-
--- its two bytes
-pub front-bytes : (st t : List ℕ) (k : ℕ) → k < length st
+-- the two bytes of one
+front-bytes : (st t : List ℕ) (k : ℕ) → k < length st
     → (getD (bytes entryBytes st ++ t) (k * 2) 0 ≡ nthEntry st k % 256) × (getD (bytes entryBytes st ++ t) (k * 2 + 1) 0 ≡ nthEntry st k / 256)
 unfolding two
-front-bytes st t k h =
-    let l : List ℕ = bytes entryBytes st ++ t in
-    let v : ℕ = nthEntry st k in (
-      ap (λ (i : ℕ). getD l i 0) {x = k * 2} {y = k * entryWidth + 0} (omega arith) ∙ bytes-at entryBytes entryWidth entry-wide 0 st t k 0 h (omega arith) ∙ ap (λ (b : List ℕ). getD b 0 0) (entry-bytes v),
-      bytes-at entryBytes entryWidth entry-wide 0 st t k 1 h (omega arith) ∙ ap (λ (b : List ℕ). getD b 1 0) (entry-bytes v),
-    )
+front-bytes st t k h = (
+  ap (λ (i : ℕ). getD (bytes entryBytes st ++ t) i 0) {x = k * 2} {y = k * entryWidth + 0} (omega arith) ∙ byte 0 (omega arith),
+  byte 1 (omega arith),
+)
+  where
+    byte : (j : ℕ) → j < 2 → getD (bytes entryBytes st ++ t) (k * entryWidth + j) 0 ≡ getD (two (nthEntry st k)) j 0
+    byte j l = bytes-at entryBytes entryWidth entry-wide 0 st t k j h l ∙ ap (λ (b : List ℕ). getD b j 0) (id-bytes (nthEntry st k))
 
 module _ (s st : List ℕ) where
-  pub laid-bytes : (k : ℕ) → k < length st → (getD (relaid entryFormat s st) (k * 2) 0 ≡ nthEntry st k % 256) × (getD (relaid entryFormat s st) (k * 2 + 1) 0 ≡ nthEntry st k / 256)
+  pub laid-bytes : (k : ℕ) → k < length st
+      → (getD (relaid entryFormat s st) (k * 2) 0 ≡ nthEntry st k % 256) × (getD (relaid entryFormat s st) (k * 2 + 1) 0 ≡ nthEntry st k / 256)
   unfolding relaid
   laid-bytes k h = front-bytes st (drop (length st * entryWidth) s) k h
 
   pub laid-read : (k : ℕ) → k < length st → entryAt (relaid entryFormat s st) k ≡ nthEntry st k
+  laid-read k h =
+      let b = laid-bytes k h in
+      entry-bytes (relaid entryFormat s st) k ∙ ap₂ (λ (x y : ℕ). x + y * 256) (b .0) (b .1) ∙ omega arith
+
+  laid-length : length st * entryWidth ≤ length s → length (relaid entryFormat s st) ≡ length s
   unfolding relaid
-  laid-read k h = front-read st (drop (length st * entryWidth) s) k h
-
-  pub laid-contents : contents entryFormat (relaid entryFormat s st) (length st) ≡ st
-  unfolding contents
-  laid-contents = listOf-is (entryAt (relaid entryFormat s st)) 0 st (length st) refl (λ k h. laid-read k h)
-
-  module _ (fits : length st * entryWidth ≤ length s) where
-    pub laid-length : length (relaid entryFormat s st) ≡ length s
-    unfolding relaid
-    laid-length = length-append (bytes entryBytes st) _ ∙ omega (arith, front-length st, length-drop (length st * entryWidth) s)
+  laid-length fits = length-append (bytes entryBytes st) _ ∙ omega (arith, fits, front-length st, length-drop (length st * entryWidth) s)
 
 -- the bytes b begin with the stack
 pub record Begins (st b : List ℕ) : Type 0 where
@@ -88,7 +77,9 @@ module _ (st b : List ℕ) (begins : Begins st b) where
   -- and so is a part of it
   pub laid-shorter : (k : ℕ) → k ≤ length st → Begins (take k st) b
   laid-shorter k h = record {
-    front = ap (λ (j : ℕ). take (j * entryWidth) b) part ∙ sym (take-take (k * entryWidth) (length st * entryWidth) b (omega arith)) ∙ ap (take (k * entryWidth)) (begins .front ∙ split)
+    front = ap (λ (j : ℕ). take (j * entryWidth) b) part
+        ∙ sym (take-take (k * entryWidth) (length st * entryWidth) b (omega arith))
+        ∙ ap (take (k * entryWidth)) (begins .front ∙ split)
         ∙ take-at (bytes entryBytes (take k st)) _ (k * entryWidth) (front-length (take k st) ∙ ap (λ (j : ℕ). j * entryWidth) part);
     long = omega (arith, part, begins .long);
   }
@@ -111,7 +102,7 @@ module _ (st b : List ℕ) (begins : Begins st b) where
     where
       more : (v : ℕ) → bytes entryBytes st ++ two v ≡ bytes entryBytes (st ++ (v ∷ []))
       more v =
-          ap (λ (x : List ℕ). bytes entryBytes st ++ x) (sym (bytes-single entryBytes v ∙ entry-bytes v))
+          ap (λ (x : List ℕ). bytes entryBytes st ++ x) (sym (bytes-single entryBytes v ∙ id-bytes v))
           ∙ sym (bytes-append entryBytes st (v ∷ []))
 
 -- an id at the bottom

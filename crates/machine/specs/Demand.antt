@@ -1,11 +1,11 @@
 -- Demand 3: one statement about a whole list of step calls, from an accepted parse, an accepted link and an accepted start. Where the link's map
 -- holds all rule names no answer is 'unlinked'; all else holds of any map (01, The run machine).
-use Prim.Native.Nat.{ℕ, _+_, _*_, _-_, _/_, _%_, _≤_, _<_}
+use Prim.Native.Nat.{ℕ, _+_, _*_, _/_, _%_, _≤_, _<_}
 use mathlib.Core.Path.{_≡_}
-use mathlib.Core.Bool.{cond, _&&_}
-use mathlib.Core.List.{List, [], _∷_, _++_}
+use mathlib.Core.Bool.{cond}
+use mathlib.Core.List.{List, [], _∷_}
 use mathlib.Core.Option.{Option, none, some}
-use lib.Dec.{leb, ltb}
+use lib.Dec.{ltb}
 use lib.ListN.{length, getD, getElem?}
 use Rattle.parse.specs.declared.Answer.the-variants.{Accepted}
 use Rattle.parse.specs.Parse.{Caps, parseCall}
@@ -14,13 +14,15 @@ use Rattle.parsed_sheet.specs.Accepted.{sheetLeftBy}
 use Rattle.link.specs.declared.LinkAnswer.the-variants.{Linked}
 use Rattle.link.specs.Map.{Entry}
 use Rattle.link.specs.Link.{LinkLeft, linkCall}
-use Rattle.run.specs.declared.Run.{Run}
+use Rattle.run.specs.declared.Begun.{Begun}
 use Rattle.run.specs.declared.Begun.the-variants.{Started}
 use Rattle.run.specs.declared.Step.{Step}
-use Rattle.run.specs.declared.Step.the-variants.{BrokenSheet, BrokenRun, RowMismatch, Done, Stopped, Unlinked, Skip, Token}
-use Rattle.run.specs.Run.{mostBytes, StartLeft, startCall, StepLeft, stepCall}
+use Rattle.run.specs.declared.Step.the-variants.{BrokenSheet, BrokenRun, Unlinked}
+use Rattle.run.specs.Run.{Running, mostBytes, Input, RunLeft, startCall}
+use Rattle.run_laws.specs.Calls.{calls, lastPosition}
+use Rattle.run_laws.specs.Pieces.{pieces, Adjoin, covered}
 use Rattle.machine.specs.File.{FileRule, File, mapOf, fileOf}
-use Rattle.machine.specs.Machine.{Given, Input, Machine, fresh, currentState, answered, step}
+use Rattle.machine.specs.Machine.{Given, Machine, fresh, currentState, answered, step}
 use Rattle.machine.specs.Means.{EntryOf, Means}
 
 -- ---- a run as the machine has it
@@ -39,11 +41,11 @@ abbrev pub PlaceHolds : Option ℕ → ℕ → List ℕ → List ℕ → Type 0
 PlaceHolds none p s b = (getD b (p * 2) 0 ≡ getD s (p * 2) 0) × (getD b (p * 2 + 1) 0 ≡ getD s (p * 2 + 1) 0)
 PlaceHolds (some v) p s b = (getD b (p * 2) 0 ≡ v % 256) × (getD b (p * 2 + 1) 0 ≡ v / 256)
 
--- the run r and the stack's bytes b are as the machine has them, which held these stacks before; and the current state is declared
-pub record AsMachine (g : Given) (m : Machine) (held : List (List ℕ)) (s : List ℕ) (r : Run) (b : List ℕ) : Type 0 where
-  pub run : r ≡ record { n = g .n; position = m .position; depth = length (m .stack); moves = m .moves }
-  pub places : (p : ℕ) → PlaceHolds (lastHeld p (m .stack ∷ held)) p s b
-  pub size : length b ≡ length s
+-- the run x and its stack's bytes are as the machine has them, which held these stacks before; and the current state is declared
+pub record AsMachine (g : Given) (m : Machine) (held : List (List ℕ)) (s : List ℕ) (x : Running) : Type 0 where
+  pub run : x .run ≡ record { n = g .n; position = m .position; depth = length (m .stack); moves = m .moves }
+  pub places : (p : ℕ) → PlaceHolds (lastHeld p (m .stack ∷ held)) p s (x .stack)
+  pub size : length (x .stack) ≡ length s
   pub declared : currentState (m .stack) < length (g .file .states)
 
 -- ---- each call
@@ -60,78 +62,33 @@ pub record Allowed (g : Given) (a : Step) : Type 0 where
 
 -- a call that left o: its answer is the machine's; this and what the machine holds then mean what they should, and nothing else would; and the run
 -- and the stack's bytes are as the machine has them
-pub record Call (g : Given) (s : List ℕ) (m : Machine) (held : List (List ℕ)) (i : Input) (o : StepLeft) : Type 0 where
+pub record Call (g : Given) (s : List ℕ) (m : Machine) (held : List (List ℕ)) (i : Input) (o : RunLeft Step) : Type 0 where
   pub answer : o .answer ≡ step g m i .answer
-  pub means : Means g m (i .row) (step g m i .answer) (step g m i .machine)
-  pub only : (a : Step) (next : Machine) → Means g m (i .row) a next → answered a next ≡ step g m i
+  pub means : Means g m i (step g m i .answer) (step g m i .machine)
+  pub only : (a : Step) (next : Machine) → Means g m i a next → answered a next ≡ step g m i
   pub allowed : Allowed g (o .answer)
-  pub leaves : AsMachine g (step g m i .machine) (m .stack ∷ held) s (o .run) (o .stack)
+  pub leaves : AsMachine g (step g m i .machine) (m .stack ∷ held) s (o .after)
 
 -- each of the calls, the machine going along
-unfoldable pub Follows : Given → List ℕ → Machine → List (List ℕ) → List Input → List StepLeft → Type 0
+unfoldable pub Follows : Given → List ℕ → Machine → List (List ℕ) → List Input → List (RunLeft Step) → Type 0
 Follows g s m held [] [] = Unit {0}
 Follows g s m held [] (o ∷ os) = ⊥
 Follows g s m held (i ∷ is) [] = ⊥
 Follows g s m held (i ∷ is) (o ∷ os) = Call g s m held i o × Follows g s (step g m i .machine) (m .stack ∷ held) is os
 
--- ---- what all the calls cover
-
--- so many bytes from a place on
-pub record Piece : Type 0 where
-  pub start : ℕ
-  pub bytes : ℕ
-
-abbrev pub piece : ℕ → ℕ → Piece
-piece start bytes = record { start = start; bytes = bytes }
-
--- the piece of a token, or of a skip from the position p to the position q; other answers have none
-abbrev pub pieceOf : ℕ → ℕ → Step → List Piece
-pieceOf p q BrokenSheet = []
-pieceOf p q BrokenRun = []
-pieceOf p q RowMismatch = []
-pieceOf p q Done = []
-pieceOf p q Stopped = []
-pieceOf p q Unlinked = []
-pieceOf p q Skip = piece p (q - p) ∷ []
-pieceOf p q (Token id start bytes) = piece start bytes ∷ []
-
--- the pieces of the tokens and skips that calls answered, in order, the first call at the position p
-unfoldable pub pieces : ℕ → List StepLeft → List Piece
-pieces p [] = []
-pieces p (o ∷ os) = pieceOf p (o .run .position) (o .answer) ++ pieces (o .run .position) os
-
--- each piece starts where the one before it ended, the first at p, and the last ends at e
-unfoldable pub Adjoin : ℕ → List Piece → ℕ → Type 0
-Adjoin p [] e = p ≡ e
-Adjoin p (x ∷ xs) e = (x .start ≡ p) × Adjoin (p + x .bytes) xs e
-
--- the position that the last call left
-unfoldable pub lastPosition : ℕ → List StepLeft → ℕ
-lastPosition p [] = p
-lastPosition p (o ∷ os) = lastPosition (o .run .position) os
-
--- 1 if x is one of so many bytes from start on, else 0
-unfoldable pub among : ℕ → ℕ → ℕ → ℕ
-among x start bytes = cond (leb start x && ltb x (start + bytes)) 1 0
-
--- how many of the pieces have the byte x
-unfoldable pub covered : ℕ → List Piece → ℕ
-covered x [] = 0
-covered x (y ∷ ys) = among x (y .start) (y .bytes) + covered x ys
-
 -- ---- the demand
 
 -- of step calls with these inputs that left os, after a start call that left f, over a stack whose bytes were s before it
-pub record Demand (g : Given) (s : List ℕ) (f : StartLeft) (is : List Input) (os : List StepLeft) : Type 0 where
+pub record Demand (g : Given) (s : List ℕ) (f : RunLeft Begun) (is : List Input) (os : List (RunLeft Step)) : Type 0 where
   -- n is within the limit, and at first the run is as the machine has it
   pub small : g .n ≤ g .limit
-  pub first : AsMachine g fresh [] s (f .run) (f .stack)
+  pub first : AsMachine g fresh [] s (f .after)
   -- after each call its answer, the run and the stack's bytes are as the machine has them
   pub each : Follows g s fresh [] is os
   -- the tokens and skips cover the bytes up to the position, one behind the other
-  pub cover : Adjoin 0 (pieces 0 os) (lastPosition 0 os)
+  pub cover : Adjoin 0 (pieces 0 os) (lastPosition (f .after) os)
   -- so each of these bytes is covered once, and no other
-  pub once : (x : ℕ) → covered x (pieces 0 os) ≡ cond (ltb x (lastPosition 0 os)) 1 0
+  pub once : (x : ℕ) → covered x (pieces 0 os) ≡ cond (ltb x (lastPosition (f .after) os)) 1 0
   -- at most n calls move
   pub few : length (pieces 0 os) ≤ g .n
 
@@ -148,8 +105,7 @@ pub record Session : Type 0 where
   pub area7 : List ℕ
   pub area8 : List ℕ
   pub n : ℕ
-  pub run : Run
-  pub stack : List ℕ
+  pub running : Running
 
 -- the sheet that the parse call left
 abbrev pub sheetParsed : Session → SheetBytes
@@ -164,8 +120,8 @@ abbrev pub linkedSheet : SheetBytes → LinkLeft → SheetBytes
 linkedSheet b l = sheetBytes (b .source) (b .area1) (l .area2) (b .area3) (b .area4) (b .area5) (b .counts)
 
 -- what the start call left
-abbrev pub startLeftOf : Session → StartLeft
-startLeftOf q = startCall (q .n) (q .run) (q .stack)
+abbrev pub startLeftOf : Session → RunLeft Begun
+startLeftOf q = startCall (q .n) (q .running)
 
 -- the file and the map, by their bytes alone
 abbrev pub sessionFile : Session → File
@@ -186,15 +142,10 @@ pub record Accepts (q : Session) : Type 0 where
   pub linked : linkLeftOf q .answer ≡ Linked unmapped unused
   pub started : startLeftOf q .answer ≡ Started
 
--- a list of step calls on a sheet, each with the run and the stack as the one before it left them
-unfoldable pub calls : SheetBytes → Run → List ℕ → List Input → List StepLeft
-calls b r s [] = []
-calls b r s (i ∷ is) = let o : StepLeft = stepCall b r s (i .row) in o ∷ calls b (o .run) (o .stack) is
-
 -- on the linked sheet, after the start
-abbrev pub sessionCalls : Session → List Input → List StepLeft
-sessionCalls q is = calls (linkedSheet (sheetParsed q) (linkLeftOf q)) (startLeftOf q .run) (startLeftOf q .stack) is
+abbrev pub sessionCalls : Session → List Input → List (RunLeft Step)
+sessionCalls q is = calls (linkedSheet (sheetParsed q) (linkLeftOf q)) (startLeftOf q .after) is
 
 -- the demand, of every session whose calls are accepted and of every list of rows
 unfoldable pub DEMAND : Type 0
-DEMAND = (q : Session) → Accepts q → (is : List Input) → Demand (given q) (q .stack) (startLeftOf q) is (sessionCalls q is)
+DEMAND = (q : Session) → Accepts q → (is : List Input) → Demand (given q) (q .running .stack) (startLeftOf q) is (sessionCalls q is)

@@ -43,25 +43,31 @@ fileState x = record { exclusive = eqb (x .exclusive) 1 }
 unfoldable pub operationBy : ℕ → ℕ → Operation
 operationBy number target = cond (eqb number 1) (replace target) (cond (eqb number 2) (push target) (cond (eqb number 3) pop keep))
 
--- the name of a named rule stands in the source
-unfoldable pub nameFrom : List ℕ → Rule → Option (List ℕ)
-nameFrom s x = cond (eqb (x .named) 1) (some (part s (x .«name_from») (x .«name_from» + x .«name_length»))) none
+-- the bytes of a rule's name stand in the source
+unfoldable pub nameAt : List ℕ → Rule → List ℕ
+nameAt s x = part s (x .«name_from») (x .«name_from» + x .«name_length»)
 
--- a rule with its own list of states
-abbrev pub fileRule : List ℕ → Contents → Rule → FileRule
-fileRule s c x = record {
-  name = nameFrom s x;
-  list = part (c .lists) (x .«list_from») (x .«list_from» + x .«list_count»);
-  operation = operationBy (x .operation) (x .target);
-}
+-- by the name of each rule
+module _ (name : Rule → List ℕ) where
+  -- the name of a named rule
+  unfoldable pub nameFrom : Rule → Option (List ℕ)
+  nameFrom x = cond (eqb (x .named) 1) (some (name x)) none
 
--- all states and all rules
-abbrev pub fileIn : List ℕ → Contents → File
-fileIn s c = record { states = map fileState (c .states); rules = map (fileRule s c) (c .rules) }
+  -- a rule with its own list of states
+  abbrev pub fileRule : Contents → Rule → FileRule
+  fileRule c x = record {
+    name = nameFrom x;
+    list = part (c .lists) (x .«list_from») (x .«list_from» + x .«list_count»);
+    operation = operationBy (x .operation) (x .target);
+  }
+
+  -- all states and all rules
+  abbrev pub fileIn : Contents → File
+  fileIn c = record { states = map fileState (c .states); rules = map (fileRule c) (c .rules) }
 
 -- a file that is not accepted has none
 abbrev pub fileBy : List ℕ → Outcome → File
-fileBy s (accepted c) = fileIn s c
+fileBy s (accepted c) = fileIn (nameAt s) c
 fileBy s longFile = record { states = []; rules = [] }
 fileBy s unknownFlag = record { states = []; rules = [] }
 fileBy s invalidUtf8 = record { states = []; rules = [] }

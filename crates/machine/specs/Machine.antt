@@ -6,9 +6,11 @@ use mathlib.Core.Option.{Option, none, some}
 use lib.Dec.{eqb, ltb, leb}
 use lib.ListN.{length, getD, take}
 use Rattle.text.specs.Range.{sameBytes}
+use Rattle.area.specs.Lists.{all}
 use Rattle.link.specs.Map.{Entry}
 use Rattle.run.specs.declared.Step.{Step}
 use Rattle.run.specs.declared.Step.the-variants.{RowMismatch, Done, Stopped, Unlinked, Skip, Token}
+use Rattle.run.specs.Run.{Input}
 use Rattle.machine.specs.File.{Operation, keep, replace, push, pop, FileState, FileRule, File}
 
 -- ---- what it is given, and what it holds
@@ -19,10 +21,6 @@ pub record Given : Type 0 where
   pub map : List Entry
   pub limit : ℕ
   pub n : ℕ
-
--- for a step
-pub record Input : Type 0 where
-  pub row : List ℕ
 
 -- the last of the stack is the current state
 pub record Machine : Type 0 where
@@ -46,14 +44,9 @@ lengths [] = []
 lengths (low ∷ []) = []
 lengths (low ∷ high ∷ row) = (low + high * 256) ∷ lengths row
 
--- no length is above the greatest that there may be
-unfoldable pub noneAbove : ℕ → List ℕ → Bool
-noneAbove most [] = true
-noneAbove most (l ∷ ls) = leb l most && noneAbove most ls
-
--- two bytes for each rule, and no length above what is left
-unfoldable pub fits : ℕ → ℕ → List ℕ → Bool
-fits rules left row = eqb (length row) (rules * 2) && noneAbove left (lengths row)
+-- two bytes for each rule, and each length passes the test
+unfoldable pub fits : (ℕ → Bool) → ℕ → List ℕ → Bool
+fits test rules row = eqb (length row) (rules * 2) && all test (lengths row)
 
 -- ---- the winner
 
@@ -144,11 +137,15 @@ unfoldable pub chooses : Given → Option Winner → Machine → Answered
 chooses g none m = answered Stopped m
 chooses g (some w) m = cond (eqb (w .bytes) 0) (answered Stopped m) (wins g (w .rule .name) w m)
 
+-- a length is not above what is left
+abbrev pub notAbove : ℕ → ℕ → Bool
+notAbove left l = leb l left
+
 -- 'done' at n; 10 where the row does not fit; both change nothing; else by the winner
 unfoldable pub step : Given → Machine → Input → Answered
 step g m i =
     let f = g .file in
     cond (eqb (m .position) (g .n)) (answered Done m)
-    (cond (fits (length (f .rules)) (g .n - m .position) (i .row))
+    (cond (fits (notAbove (g .n - m .position)) (length (f .rules)) (i .row))
     (chooses g (winnerOf (f .states) (currentState (m .stack)) (f .rules) (lengths (i .row))) m)
     (answered RowMismatch m))

@@ -10,6 +10,7 @@ use lib.ListN.{length, getD, getElem?}
 use Rattle.link.specs.Map.{Entry}
 use Rattle.run.specs.declared.Step.{Step}
 use Rattle.run.specs.declared.Step.the-variants.{BrokenSheet, BrokenRun, RowMismatch, Done, Stopped, Unlinked, Skip, Token}
+use Rattle.run.specs.Run.{Input}
 use Rattle.machine.specs.File.{FileRule}
 use Rattle.machine.specs.Machine.{Given, Machine, currentState, isExclusive, Winner, move}
 
@@ -19,17 +20,17 @@ use Rattle.machine.specs.Machine.{Given, Machine, currentState, isExclus
 abbrev pub lengthAt : List ℕ → ℕ → ℕ
 lengthAt row k = getD row (k * 2) 0 + getD row (k * 2 + 1) 0 * 256
 
--- the position is not n, and the row fits: two bytes for each rule, and no length above what is left
-pub record Fitting (g : Given) (m : Machine) (row : List ℕ) : Type 0 where
+-- the position is not n, and the input's row fits: two bytes for each rule, and no length above what is left
+pub record Fitting (g : Given) (m : Machine) (i : Input) : Type 0 where
   pub before : m .position ≡ g .n → ⊥
-  pub size : length row ≡ length (g .file .rules) * 2
-  pub low : (k : ℕ) → k < length (g .file .rules) → lengthAt row k ≤ g .n - m .position
+  pub size : length (i .row) ≡ length (g .file .rules) * 2
+  pub low : (k : ℕ) → k < length (g .file .rules) → lengthAt (i .row) k ≤ g .n - m .position
 
 -- the row has another size, or some rule's length is above what is left
-abbrev pub Misfit : Given → Machine → List ℕ → Type 0
-Misfit g m row =
-    (length row ≡ length (g .file .rules) * 2 → ⊥)
-    ⊎ ((k : ℕ) × (k < length (g .file .rules)) × (g .n - m .position < lengthAt row k))
+abbrev pub Misfit : Given → Machine → Input → Type 0
+Misfit g m i =
+    (length (i .row) ≡ length (g .file .rules) * 2 → ⊥)
+    ⊎ ((k : ℕ) × (k < length (g .file .rules)) × (g .n - m .position < lengthAt (i .row) k))
 
 -- ---- the winner
 
@@ -44,19 +45,19 @@ Live g m x =
     ⊎ ((x .list ≡ []) × (isExclusive (g .file .states) (currentState (m .stack)) ≡ false))
 
 -- every live rule has length 0; so it is too where none is live
-abbrev pub NoneMatches : Given → Machine → List ℕ → Type 0
-NoneMatches g m row = (k : ℕ) (x : FileRule) → getElem? (g .file .rules) k ≡ some x → Live g m x → lengthAt row k ≡ 0
+abbrev pub NoneMatches : Given → Machine → Input → Type 0
+NoneMatches g m i = (k : ℕ) (x : FileRule) → getElem? (g .file .rules) k ≡ some x → Live g m x → lengthAt (i .row) k ≡ 0
 
 -- the row fits; the winner is live and has so many bytes, at least one; no live rule has more, and no earlier one as many
-pub record Won (g : Given) (m : Machine) (row : List ℕ) (w : Winner) : Type 0 where
-  pub fitting : Fitting g m row
+pub record Won (g : Given) (m : Machine) (i : Input) (w : Winner) : Type 0 where
+  pub fitting : Fitting g m i
   pub place : ℕ
   pub rule : getElem? (g .file .rules) place ≡ some (w .rule)
   pub live : Live g m (w .rule)
-  pub has : lengthAt row place ≡ w .bytes
+  pub has : lengthAt (i .row) place ≡ w .bytes
   pub some-bytes : 0 < w .bytes
-  pub greatest : (k : ℕ) (x : FileRule) → getElem? (g .file .rules) k ≡ some x → Live g m x → lengthAt row k ≤ w .bytes
-  pub earliest : (k : ℕ) (x : FileRule) → k < place → getElem? (g .file .rules) k ≡ some x → Live g m x → lengthAt row k < w .bytes
+  pub greatest : (k : ℕ) (x : FileRule) → getElem? (g .file .rules) k ≡ some x → Live g m x → lengthAt (i .row) k ≤ w .bytes
+  pub earliest : (k : ℕ) (x : FileRule) → k < place → getElem? (g .file .rules) k ≡ some x → Live g m x → lengthAt (i .row) k < w .bytes
 
 -- an entry of the map has that name, and that id
 abbrev pub EntryOf : List Entry → List ℕ → ℕ → Type 0
@@ -64,16 +65,16 @@ EntryOf es name id = (j : ℕ) × (e : Entry) × (getElem? es j ≡ some e) × (
 
 -- ---- the answers
 
--- what an answer means of the machine m, a row, and the machine that is next; 6 and 9 the machine never gives
-abbrev pub Means : Given → Machine → List ℕ → Step → Machine → Type 0
-Means g m row BrokenSheet next = ⊥
-Means g m row BrokenRun next = ⊥
-Means g m row Done next = (m .position ≡ g .n) × (next ≡ m)
-Means g m row RowMismatch next = (m .position ≡ g .n → ⊥) × Misfit g m row × (next ≡ m)
-Means g m row Stopped next = Fitting g m row × NoneMatches g m row × (next ≡ m)
-Means g m row Unlinked next =
-    (w : Winner) × Won g m row w × (name : List ℕ) × (w .rule .name ≡ some name) × ((id : ℕ) → EntryOf (g .map) name id → ⊥) × (next ≡ m)
-Means g m row Skip next = (w : Winner) × Won g m row w × (w .rule .name ≡ none) × (next ≡ move w m)
-Means g m row (Token id start bytes) next =
-    (w : Winner) × Won g m row w × (name : List ℕ) × (w .rule .name ≡ some name) × EntryOf (g .map) name id
+-- what an answer means of the machine m, an input, and the machine that is next; 6 and 9 the machine never gives
+abbrev pub Means : Given → Machine → Input → Step → Machine → Type 0
+Means g m i BrokenSheet next = ⊥
+Means g m i BrokenRun next = ⊥
+Means g m i Done next = (m .position ≡ g .n) × (next ≡ m)
+Means g m i RowMismatch next = (m .position ≡ g .n → ⊥) × Misfit g m i × (next ≡ m)
+Means g m i Stopped next = Fitting g m i × NoneMatches g m i × (next ≡ m)
+Means g m i Unlinked next =
+    (w : Winner) × Won g m i w × (name : List ℕ) × (w .rule .name ≡ some name) × ((id : ℕ) → EntryOf (g .map) name id → ⊥) × (next ≡ m)
+Means g m i Skip next = (w : Winner) × Won g m i w × (w .rule .name ≡ none) × (next ≡ move w m)
+Means g m i (Token id start bytes) next =
+    (w : Winner) × Won g m i w × (name : List ℕ) × (w .rule .name ≡ some name) × EntryOf (g .map) name id
     × (start ≡ m .position) × (bytes ≡ w .bytes) × (next ≡ move w m)

@@ -37,15 +37,16 @@ use Rattle.declarations.specs.declared.DeclarationProgress.the-variants as Decl
 use Rattle.declarations.specs.Declarations.{Declared, declarations, nextDeclaration, endDeclarations, state}
 use Rattle.declarations.specs.Declarations as D
 use Rattle.declarations.specs.Answers.{HeldDeclared, declaredIn, declarationProgress, capsOf}
-use Rattle.rules.specs.Rules.{Ruled, rulesSection}
-use Rattle.parse.specs.declared.RuleCounts.{RuleCounts}
-use Rattle.parse.specs.declared.RuleProgress.{RuleProgress}
-use Rattle.parse.specs.declared.RuleProgress.the-variants as Ruling
+use Rattle.rules_section.specs.RulesSection.{Ruled, rulesSection}
+use Rattle.rules_section.specs.declared.RuleCounts.{RuleCounts}
+use Rattle.rules_section.specs.declared.RuleProgress.{RuleProgress}
+use Rattle.rules_section.specs.declared.RuleProgress.the-variants as Ruling
 use Rattle.parse.specs.declared.FileCounts.{FileCounts}
 use Rattle.parse.specs.declared.Parsed.{Parsed}
 use Rattle.parse.specs.declared.Parsed.the-variants.{Clean, Faulty, Short}
 use Rattle.parse.specs.Parse.{Caps, Outcome, accepted, faulty, areaFull, caps, closed, ending, judge, contentsOf, rulesFrom, undeclared, withStates, opening, file}
-use Rattle.parse.specs.Answers.{ruleProgress, ruledIn, HeldRuled, ruleCounts, sizesOf, closedBy, judgedBy, contentsIn, HeldFile, Parses, Zeroed}
+use Rattle.rules_section.specs.Answers.{ruleProgress, ruledIn, HeldRuled, ruleCounts, sizesOf}
+use Rattle.parse.specs.Answers.{closedBy, judgedBy, contentsIn, HeldFile, Parses, Zeroed}
 
 -- ---- state 0 and the declarations
 

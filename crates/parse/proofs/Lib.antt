@@ -1,6 +1,3 @@
-pub mod Patterns
-pub mod Extending
-pub mod RuleLines
 pub mod Files
 pub mod Calls
 pub mod AnswerWords

@@ -1,5 +1,5 @@
 -- The meaning of a file, and of the parse call (01, Numbers given at the counter, and Areas).
-use Prim.Native.Nat.{ℕ, _+_, _*_}
+use Prim.Native.Nat.{ℕ}
 use mathlib.Core.Bool.{cond}
 use mathlib.Core.List.{List, [], _∷_}
 use mathlib.Core.Option.{Option, none, some}
@@ -17,9 +17,9 @@ use Rattle.area.specs.Contents.{append, laid, stateFormat, ruleFormat, entryFor
 use Rattle.fault.specs.Step.{Out, go, bad, full, next, onto, written}
 use Rattle.fault.specs.Faults.{addFault}
 use Rattle.declarations.specs.Declarations.{Declared, declarations, state}
-use Rattle.rules.specs.Rules.{Ruled, rulesSection}
+use Rattle.rules_section.specs.RulesSection.{Ruled, rulesSection}
 use Rattle.declarations.specs.Declarations as D
-use Rattle.rules.specs.Rules as R
+use Rattle.rules_section.specs.RulesSection as R
 use Rattle.parse.specs.declared.Answer.{Answer}
 use Rattle.parse.specs.declared.Answer.the-variants.{Accepted, LongFile, UnknownFlag, InvalidUtf8, AreaFull, FaultyFile}
 

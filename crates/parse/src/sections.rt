@@ -9,9 +9,6 @@ ghost use Rattle.parse.specs.Parse.{opening, undeclared, file, caps};
 ghost use Rattle.parse.specs.Answers.{closedBy, judgedBy, Parses, Zeroed};
 use crate::FileCounts;
 use crate::Parsed;
-use crate::RuleCounts;
-use crate::RuleProgress;
-use crate::rules_section::parse_rules;
 use area::Appended;
 use area::FAULT_AREA;
 use area::STATE_AREA;
@@ -21,6 +18,9 @@ use declarations::DeclarationCounts;
 use declarations::DeclarationProgress;
 use declarations::parse_declarations;
 use fault::add_fault;
+use rules_section::RuleCounts;
+use rules_section::RuleProgress;
+use rules_section::lines::parse_rules;
 
 // State 0, then the declarations.
 fn parse_opening(

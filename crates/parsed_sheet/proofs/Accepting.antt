@@ -18,7 +18,7 @@ use Rattle.area.specs.Contents.{Format, append, stateFormat, ruleFormat, entryF
 use Rattle.fault.specs.Step.{Out, go, bad, full, onto, written}
 use Rattle.fault.specs.Faults.{addFault}
 use Rattle.declarations.specs.Declarations.{Declared, declarations, state}
-use Rattle.rules.specs.Rules.{sheetOf, rulesSection}
+use Rattle.rules_section.specs.RulesSection.{sheetOf, rulesSection}
 use Rattle.parse.specs.Parse.{Contents, Caps, declarationCaps, ruleCaps, Outcome, longFile, unknownFlag, invalidUtf8, areaFull, faulty, accepted, closed, ending, judge, contentsOf, noRules, rulesFrom, undeclared, withStates, opening, file, outcome}
 use Rattle.area.specs.Lists.{all}
 use Rattle.parsed_sheet.specs.Accepted.{Fits, StateHolds, ExpectedHolds, EntryHolds, RuleHolds, StatesHold, ContentsHold, isByte}

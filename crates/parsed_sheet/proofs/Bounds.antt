@@ -30,14 +30,13 @@ use Rattle.section.specs.Section.{found, percents, isComment, pastComment, past
 use Rattle.declarations.specs.declared.Declaration.{Declaration}
 use Rattle.declarations.specs.declared.Declaration.the-variants.{States, Expecting, Unknown}
 use Rattle.names.specs.Names.{isStateName}
-use Rattle.declarations.specs.Declarations.{range, Names, names, NameCaps, nameCaps, Declared, Caps, state, trimmed, wordEnd, firstWord, restOf, isInclusive, isExclusive, isExpecting, statesOf, declarationOf}
-use Rattle.declarations.specs.Declarations.{behindName, addState, repeatState, stateNamed, declareState, stateNames, expectedNames, withNames, withExpected, thenAt, declareAs, declaration, nextDeclaration, endDeclarations, declarations}
+use Rattle.declarations.specs.Declarations.{range, Names, names, NameCaps, nameCaps, Declared, Caps, state, trimmed, wordEnd, firstWord, restOf, isInclusive, isExclusive, isExpecting, statesOf, declarationOf, behindName, addState, repeatState, stateNamed, declareState, stateNames, expectedNames, withNames, withExpected, thenAt, declareAs, declaration, nextDeclaration, endDeclarations, declarations}
 use Rattle.declarations.proofs.Lines.{names-within}
 use Rattle.rules.specs.declared.Heading.{Heading}
 use Rattle.rules.specs.declared.Heading.the-variants.{Faulty, Repeated, Fresh}
 use Rattle.rules.specs.Heading.{headingOf}
-use Rattle.rules.specs.Rules.{Ruled, Sheet, sheetOf, withSheet, withFaults, pattern, ruleAs, rule, line, nextRule, rules, routines, rulesSection}
-use Rattle.rules.specs.Rules as R
+use Rattle.rules_section.specs.RulesSection.{Ruled, Sheet, sheetOf, withSheet, withFaults, pattern, ruleAs, rule, line, nextRule, rules, routines, rulesSection}
+use Rattle.rules_section.specs.RulesSection as R
 use Rattle.parse.specs.Parse.{Contents, declarationCaps, ruleCaps, Outcome, longFile, unknownFlag, invalidUtf8, areaFull, faulty, accepted, closed, ending, judge, contentsOf, noRules, rulesFrom, undeclared, withStates, opening, file, outcome}
 use Rattle.parse.specs.Parse as P
 use Rattle.parsed_sheet.specs.Accepted.{Fits}

@@ -18,9 +18,9 @@ use Rattle.area.proofs.Contents.{Sound, contents-are, held-of, state-sound, rul
 use Rattle.parse.specs.declared.Answer.{Answer}
 use Rattle.parse.specs.declared.Answer.the-variants.{Accepted, LongFile, UnknownFlag, InvalidUtf8, AreaFull, FaultyFile}
 use Rattle.parse.specs.Parse.{Contents, Caps, Outcome, longFile, unknownFlag, invalidUtf8, areaFull, faulty, accepted, outcome, Left, sheetLeft, leaves, parseCall}
-use Rattle.sheet_check.specs.SheetCheck.{SheetBytes, decoded, longEnough, sheetCheck}
+use Rattle.sheet_check.specs.SheetCheck.{SheetBytes, decoded, sizesOf, longEnough, goodSizes, sheetCheck}
 use Rattle.parsed_sheet.specs.Accepted.{Fits, ContentsFit, AreasHold, sheetLeftBy}
-use Rattle.parsed_sheet.proofs.Checking.{accepted-good, accepted-fits, accepted-faultless}
+use Rattle.parsed_sheet.proofs.Checking.{accepted-counts, accepted-good, accepted-fits, accepted-faultless}
 
 -- ---- one list in its area
 
@@ -56,7 +56,7 @@ module _ (s : List ℕ) (k : Caps) (c : Contents) (f : ContentsFit k c) where
       λ i. contentsMade (laid-contents state-sound (f .states) i) (laid-contents rule-sound (f .rules) i) (laid-contents entry-sound (f .lists) i) (laid-contents text-sound (f .text) i)
       (laid-contents expected-sound (f .expected) i) (sym e i)
 
-  laid-enough : longEnough bytes ≡ true
+  laid-enough : longEnough (sizesOf bytes) ≡ true
   unfolding longEnough
   laid-enough =
       rw (le-leb _ _ (laid-long state-sound (f .states)), le-leb _ _ (laid-long rule-sound (f .rules)), le-leb _ _ (laid-long entry-sound (f .lists)), le-leb (length (c .text)) (length (laid textFormat (k .c4) (c .text))) (omega (arith, laid-long text-sound (f .text))), le-leb _ _ (laid-long expected-sound (f .expected)))
@@ -88,9 +88,10 @@ module _ (s : List ℕ) (flags : ℕ) (verdicts : List ℕ) (k : Caps) where
 
     -- and they pass the sheet check
     pub accepted-checks : sheetCheck sheet ≡ true
-    unfolding sheetCheck
+    unfolding sheetCheck goodSizes
     accepted-checks =
-        rw (accepted-decodes, accepted-leaves, laid-enough s k c (accepted-fits s flags verdicts k c is)) (accepted-good s flags verdicts k c is)
+        rw (accepted-decodes, accepted-leaves, laid-enough s k c (accepted-fits s flags verdicts k c is), accepted-counts s flags verdicts k c is)
+        (accepted-good s flags verdicts k c is)
 
     -- each area holds its list, and zeros behind it
     pub accepted-held : AreasHold c (parseCall s flags verdicts k)

@@ -29,16 +29,16 @@ use Rattle.fault.specs.Faults.{findFault, UnknownDeclaration, InvalidName, Unkn
 use Rattle.declarations.specs.declared.Declaration.{Declaration}
 use Rattle.declarations.specs.declared.Declaration.the-variants.{States, Expecting, Unknown}
 use Rattle.names.specs.Names.{isStateName}
-use Rattle.declarations.specs.Declarations.{Range, range, Names, names, nameCaps, state, Declared, withNames, withExpected, expected, isQuoted, behindName}
-use Rattle.declarations.specs.Declarations.{addState, repeatState, stateNamed, declareState, stateNames, declareExpected, expectedNames, declareAs, declaration, nextDeclaration, endDeclarations, declarations}
+use Rattle.declarations.specs.Declarations.{Range, range, Names, names, nameCaps, state, Declared, withNames, withExpected, expected, isQuoted, behindName, addState, repeatState, stateNamed, declareState, stateNames, declareExpected, expectedNames, declareAs, declaration, nextDeclaration, endDeclarations, declarations}
 use Rattle.rules.specs.declared.Head.{Head}
 use Rattle.rules.specs.declared.Heading.{Heading}
 use Rattle.rules.specs.declared.Heading.the-variants.{Faulty, Repeated, Fresh}
 use Rattle.rules.specs.declared.Body.{Body}
 use Rattle.rules.specs.declared.Body.the-variants.{Unclosed, Listed, Rewritten, Plain}
 use Rattle.rules.specs.Heading.{bodyOf}
-use Rattle.rules.specs.Rules.{Sheet, sheet, Text, StateList, Ruled, sheetOf, withSheet, withFaults, refuses, entryEnd, entryId, nextEntry, entries, recordRule, withRule, listedRule, rewrittenRule, pattern, ruleAs, rule, line, nextRule, rules, routines, rulesSection}
-use Rattle.rules.proofs.Patterns.{pattern-is-unclosed, pattern-is-listed, pattern-is-rewritten, pattern-is-plain}
+use Rattle.rules.specs.Rules.{refuses, entryEnd, entryId, nextEntry, entries, recordRule}
+use Rattle.rules_section.specs.RulesSection.{Sheet, sheet, Text, StateList, Ruled, sheetOf, withSheet, withFaults, withRule, listedRule, rewrittenRule, pattern, ruleAs, rule, line, nextRule, rules, routines, rulesSection}
+use Rattle.rules_section.proofs.Patterns.{pattern-is-unclosed, pattern-is-listed, pattern-is-rewritten, pattern-is-plain}
 use Rattle.parse.specs.Parse.{Contents, Caps, Outcome, longFile, unknownFlag, invalidUtf8, areaFull, faulty, accepted, closed, ending, judge, contentsOf, rulesFrom, opening, file, outcome, declarationCaps, ruleCaps, undeclared, withStates, noRules}
 use Rattle.parsed_sheet.specs.Meaning.{whole, limits, meaning}
 

@@ -29,10 +29,11 @@ use Rattle.rules.specs.declared.Head.{Head}
 use Rattle.rules.specs.declared.Heading.{Heading}
 use Rattle.rules.specs.declared.Heading.the-variants.{Faulty, Repeated, Fresh}
 use Rattle.rules.specs.Heading.{headingOf}
-use Rattle.rules.specs.Rules.{Sheet, Caps, sheet, entryEnd, entryId, nextEntry, entries, refuses, Text, StateList, recordRule, sourceText, textSince, noList, listSince, withRule, listedRule, rewrittenRule, pattern, Ruled, sheetOf, withSheet, withFaults, ruleAs, rule, line, nextRule, rules, routines, rulesSection}
-use Rattle.rules.specs.Rules as R
+use Rattle.rules.specs.Rules.{entryEnd, entryId, nextEntry, entries, refuses, recordRule}
+use Rattle.rules_section.specs.RulesSection.{Sheet, Caps, sheet, Text, StateList, sourceText, textSince, noList, listSince, withRule, listedRule, rewrittenRule, pattern, Ruled, sheetOf, withSheet, withFaults, ruleAs, rule, line, nextRule, rules, routines, rulesSection}
+use Rattle.rules_section.specs.RulesSection as R
 use Rattle.rules.proofs.Heads.{fresh-from, fresh-to}
-use Rattle.rules.proofs.Patterns.{pattern-cases}
+use Rattle.rules_section.proofs.Patterns.{pattern-cases}
 use Rattle.area.specs.Lists.{all}
 use Rattle.parsed_sheet.specs.Accepted.{Fits, RuleHolds, EntryHolds, NamesDiffer, RulesHold, EntriesHold, TextHolds, isByte}
 use Rattle.fault.proofs.Yielding.{Yields, yields-next, yields-onto, yields-loop}

@@ -1,7 +1,5 @@
 // Parses each recorded file anew and compares all that the call leaves with what was recorded: the word, the counts and every byte of the
 // areas. The records are in the file `answers`; compare/FORMAT.md has their form.
-mod compared;
-mod reader;
 mod record;
 
 use libc::STDOUT_FILENO;

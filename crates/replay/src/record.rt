@@ -1,76 +1,21 @@
-// A record: the file and what is lent, then what the call left.
-ghost use mathlib.Core.Path.{_≡_};
+// A record replayed: its file is parsed anew, and what the call left is compared with what was recorded.
 ghost use Prim.Native.Nat.{_+_, _≤_, _<_};
 ghost use lib.ListN.{length, take};
-ghost use Rattle.text.specs.Range.{part};
-ghost use Rattle.sheet_print.specs.Output.{Appends};
-ghost use Rattle.replay.specs.Records.{lentAt, repeated, sourceAt, sourceEnd, Sourced, Told, AreaIs, ThreeAre, NumbersAre, LeftIs, Compares, Called, Agrees, recordEnd, areasAt, fourthAt};
-use crate::compared::counted;
-use crate::compared::holds;
-use crate::reader::bytes_end;
-use crate::reader::long;
-use crate::reader::number;
-use crate::reader::skip;
+ghost use Rattle.output.specs.Contracts.{before, after};
+ghost use Rattle.recorded.specs.Comparison.{Compares};
+ghost use Rattle.recorded.specs.Records.{sourceAt, sourceEnd};
+ghost use Rattle.replay.specs.Records.{sizes, buffers, Called, Agrees, recordEnd};
 use libc::STDOUT_FILENO;
-use sheet_print::output::put_part;
+use recorded::compared::Compared;
+use recorded::compared::compare;
+use recorded::compared::lent;
+use recorded::reader::bytes_end;
+use recorded::reader::long;
+use recorded::reader::skip;
+use recorded::source::read_source;
 use troymantle::troymantle_parse;
 
-struct Source {
-    length: usize,
-    next: usize,
-}
-
-struct Replayed {
-    equal: bool,
-    next: usize,
-}
-
-// The bytes of a piece, as many times as it stands.
-fn put_times(out: &mut [u8], n: usize, answers: &[u8], from: usize, to: usize, times: u32) -> usize
-    ensures { λ r. ⌜ Appends (repeated times (part (now (answers .entry)) from to)) (now (out .entry)) n (now (out .exit)) r ⌝ }
-{
-    let mut m = n;
-    let mut i = 0;
-    while i < times {
-        m = put_part(out, m, answers, from, to);
-        i += 1;
-    }
-    m
-}
-
-// The pieces of the source, one behind the other.
-fn read_source(answers: &[u8], at: usize, out: &mut [u8]) -> Source
-    requires { ⌜ at ≤ length (now answers) ⌝ }
-    ensures { λ r. ⌜ Sourced (now (answers .entry)) at (now (out .exit)) r ⌝ }
-{
-    let pieces = number(answers, at);
-    let mut n = 0;
-    let mut next = skip(answers, at, 4);
-    let mut i = 0;
-    while i < pieces {
-        let times = number(answers, next);
-        let piece = skip(answers, next, 4);
-        let to = bytes_end(answers, piece);
-        n = put_times(out, n, answers, skip(answers, piece, 4), to, times);
-        next = to;
-        i += 1;
-    }
-    Source {
-        length: n,
-        next: next,
-    }
-}
-
-// The length of area k, of those that stand at a place, and no more than there is.
-fn lent(answers: &[u8], at: usize, k: usize, most: usize) -> usize
-    requires { ⌜ at ≤ length (now answers) ⌝ }
-    requires { ⌜ k ≤ 5 ⌝ }
-    ensures { λ r. ⌜ r ≡ lentAt (now (answers .entry)) at k most ⌝ }
-{
-    let n = number(answers, skip(answers, at, 4 * k)) as usize;
-    if n < most { n } else { most }
-}
-
+// The parse call, with as much of each buffer as the record has for the area.
 fn call(
     src: &[u8],
     flags: u64,
@@ -86,7 +31,10 @@ fn call(
     area6: &mut [u8],
 ) -> u64
     requires { ⌜ at ≤ length (now answers) ⌝ }
-    ensures { λ r. ⌜ Called (now (src .entry)) flags (now (verdicts .entry)) (now (answers .entry)) at r (now (counts .exit)) (now (area1 .exit)) (now (area2 .exit)) (now (area3 .exit)) (now (area4 .exit)) (now (area5 .exit)) (now (area6 .exit)) ⌝ }
+    ensures { λ r. ⌜
+        Called (before src) flags (before verdicts) (before answers) at r (after counts)
+        (after area1) (after area2) (after area3) (after area4) (after area5) (after area6)
+        ⌝ }
 {
     let c1 = lent(answers, at, 0, area1.len());
     let c2 = lent(answers, at, 1, area2.len());
@@ -108,86 +56,7 @@ fn call(
     )
 }
 
-// Whether area k, of the length at a place, is the one recorded at another.
-fn same_area(answers: &[u8], lengths: usize, k: usize, area: &[u8], at: usize) -> bool
-    requires { ⌜ lengths ≤ length (now answers) ⌝ }
-    requires { ⌜ k ≤ 5 ⌝ }
-    requires { ⌜ at ≤ length (now answers) ⌝ }
-    ensures { λ r. ⌜ Told (AreaIs (now (area .entry)) (now (answers .entry)) lengths k at) r ⌝ }
-{
-    let c = lent(answers, lengths, k, area.len());
-    holds(&area[0..c], answers, at)
-}
-
-// Whether areas k, k + 1 and k + 2 are those recorded one behind the other at a place, and where the next one is.
-fn same_three(
-    answers: &[u8],
-    lengths: usize,
-    k: usize,
-    at: usize,
-    first: &[u8],
-    second: &[u8],
-    third: &[u8],
-) -> Replayed
-    requires { ⌜ lengths ≤ length (now answers) ⌝ }
-    requires { ⌜ k ≤ 3 ⌝ }
-    requires { ⌜ at ≤ length (now answers) ⌝ }
-    ensures { λ r. ⌜ Compares (ThreeAre (now (answers .entry)) lengths k at (now (first .entry)) (now (second .entry)) (now (third .entry))) (now (answers .entry)) at (fourthAt (now (answers .entry)) at) r ⌝ }
-{
-    let at2 = bytes_end(answers, at);
-    let at3 = bytes_end(answers, at2);
-    let next = bytes_end(answers, at3);
-    let equal = same_area(answers, lengths, k, first, at)
-        & same_area(answers, lengths, k + 1, second, at2)
-        & same_area(answers, lengths, k + 2, third, at3);
-    Replayed {
-        equal: equal,
-        next: next,
-    }
-}
-
-// Whether the word and the counts are those recorded behind the lengths, and where the areas are.
-fn same_numbers(answers: &[u8], lengths: usize, word: u64, counts: &[u16]) -> Replayed
-    requires { ⌜ length (now counts) ≤ 6 ⌝ }
-    requires { ⌜ lengths ≤ length (now answers) ⌝ }
-    ensures { λ r. ⌜ Compares (NumbersAre (now (answers .entry)) lengths word (now (counts .entry))) (now (answers .entry)) lengths (areasAt (now (answers .entry)) lengths) r ⌝ }
-{
-    let at = skip(answers, lengths, 24);
-    let tally = skip(answers, at, 4);
-    let same = word == number(answers, at) as u64;
-    let equal = same & counted(counts, answers, tally);
-    Replayed {
-        equal: equal,
-        next: skip(answers, tally, 12),
-    }
-}
-
-fn compare(
-    answers: &[u8],
-    lengths: usize,
-    word: u64,
-    counts: &[u16],
-    area1: &[u8],
-    area2: &[u8],
-    area3: &[u8],
-    area4: &[u8],
-    area5: &[u8],
-    area6: &[u8],
-) -> Replayed
-    requires { ⌜ length (now counts) ≤ 6 ⌝ }
-    requires { ⌜ lengths ≤ length (now answers) ⌝ }
-    ensures { λ r. ⌜ Compares (LeftIs (now (answers .entry)) lengths word (now (counts .entry)) (now (area1 .entry)) (now (area2 .entry)) (now (area3 .entry)) (now (area4 .entry)) (now (area5 .entry)) (now (area6 .entry))) (now (answers .entry)) lengths (fourthAt (now (answers .entry)) (fourthAt (now (answers .entry)) (areasAt (now (answers .entry)) lengths))) r ⌝ }
-{
-    let numbers = same_numbers(answers, lengths, word, counts);
-    let first = same_three(answers, lengths, 0, numbers.next, area1, area2, area3);
-    let second = same_three(answers, lengths, 3, first.next, area4, area5, area6);
-    Replayed {
-        equal: numbers.equal & first.equal & second.equal,
-        next: second.next,
-    }
-}
-
-// The rest of a record, behind its source, in areas that are long enough for it.
+// The rest of a record, behind its source, in buffers that are lent.
 fn replay_in(
     answers: &[u8],
     at: usize,
@@ -198,9 +67,14 @@ fn replay_in(
     area4: &mut [u8],
     area5: &mut [u8],
     area6: &mut [u8],
-) -> Replayed
+) -> Compared
     requires { ⌜ at ≤ length (now answers) ⌝ }
-    ensures { λ r. ⌜ Compares (Agrees (now (src .entry)) (now (answers .entry)) at (length (now (area1 .entry))) (length (now (area2 .entry))) (length (now (area3 .entry))) (length (now (area4 .entry))) (length (now (area5 .entry))) (length (now (area6 .entry)))) (now (answers .entry)) at (recordEnd (now (answers .entry)) at) r ⌝ }
+    ensures { λ r. ⌜
+        Compares
+        (Agrees (before src) (before answers) at
+        (sizes (before area1) (before area2) (before area3) (before area4) (before area5) (before area6)))
+        (before answers) at (recordEnd (before answers) at) r
+        ⌝ }
 {
     let mut counts = [0u16; 6];
     let flags = long(answers, at);
@@ -235,9 +109,12 @@ fn replay_in(
     )
 }
 
-fn replay_rest(answers: &[u8], at: usize, src: &[u8]) -> Replayed
+// The same, in buffers of its own.
+fn replay_rest(answers: &[u8], at: usize, src: &[u8]) -> Compared
     requires { ⌜ at ≤ length (now answers) ⌝ }
-    ensures { λ r. ⌜ Compares (Agrees (now (src .entry)) (now (answers .entry)) at 512 65536 65536 65536 65536 65536) (now (answers .entry)) at (recordEnd (now (answers .entry)) at) r ⌝ }
+    ensures { λ r. ⌜
+        Compares (Agrees (before src) (before answers) at buffers) (before answers) at (recordEnd (before answers) at) r
+        ⌝ }
 {
     let mut area1 = [0u8; 512];
     let mut area2 = [0u8; 65536];
@@ -258,9 +135,13 @@ fn replay_rest(answers: &[u8], at: usize, src: &[u8]) -> Replayed
     )
 }
 
-fn replay(answers: &[u8], at: usize) -> Replayed
+// A record, from its source on.
+fn replay(answers: &[u8], at: usize) -> Compared
     requires { ⌜ at < length (now answers) ⌝ }
-    ensures { λ r. ⌜ Compares (Agrees (take 65536 (sourceAt (now (answers .entry)) at)) (now (answers .entry)) (sourceEnd (now (answers .entry)) at) 512 65536 65536 65536 65536 65536) (now (answers .entry)) (at + 1) (recordEnd (now (answers .entry)) (sourceEnd (now (answers .entry)) at)) r ⌝ }
+    ensures { λ r. ⌜
+        Compares (Agrees (take 65536 (sourceAt (before answers) at)) (before answers) (sourceEnd (before answers) at) buffers)
+        (before answers) (at + 1) (recordEnd (before answers) (sourceEnd (before answers) at)) r
+        ⌝ }
 {
     let mut src = [0u8; 65536];
     let read = read_source(answers, at, &mut src);
@@ -270,7 +151,7 @@ fn replay(answers: &[u8], at: usize) -> Replayed
 
 // Behind the first empty line.
 fn first_record(answers: &[u8]) -> usize
-    ensures { λ r. ⌜ r ≤ length (now (answers .entry)) ⌝ }
+    ensures { λ r. ⌜ r ≤ length (before answers) ⌝ }
 {
     let mut i = 1;
     while i < answers.len() {
@@ -291,7 +172,7 @@ fn say(word: &[u8], n: usize) {
 }
 
 // How many cases are equal, with this one: a different one is named by its number from 1 on.
-fn tell(equal: bool, cases: usize, before: usize) -> usize
+fn count_equal(equal: bool, cases: usize, before: usize) -> usize
     requires { ⌜ before < cases ⌝ }
     ensures { λ r. ⌜ r ≤ cases ⌝ }
 {
@@ -310,7 +191,7 @@ pub fn replay_all(answers: &[u8]) {
         let r = replay(answers, at);
         at = r.next;
         cases += 1;
-        equal = tell(r.equal, cases, equal);
+        equal = count_equal(r.equal, cases, equal);
     }
     say(b"cases: ", cases);
     say(b"equal: ", equal);

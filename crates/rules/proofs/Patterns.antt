@@ -1,5 +1,5 @@
 -- What a pattern is: a law for each way through. The `>` that closes a list of states stands within the pattern.
-use mathlib.Core.Path.{_≡_, refl, subst, sym, _∙_}
+use mathlib.Core.Path.{_≡_, subst, sym, _∙_}
 use mathlib.Core.Bool.{Bool, true, false, cond, _&&_}
 use mathlib.Core.List.{List}
 use Prim.Native.Nat.{ℕ, _≤_, _<_}
@@ -11,15 +11,10 @@ use Rattle.text.specs.Whitespace.{byte}
 use Rattle.text.specs.Scan.{findByte}
 use Rattle.text.proofs.Tests.{by-test}
 use Rattle.text.proofs.Walks.{first-from}
-use Rattle.area.specs.declared.State.{State}
-use Rattle.fault.specs.Step.{Out, bad}
-use Rattle.fault.specs.Faults.{InvalidStartState}
 use Rattle.escape.specs.Escape.{isRewritten}
-use Rattle.rules.specs.declared.Head.{Head}
 use Rattle.rules.specs.declared.Body.{Body}
 use Rattle.rules.specs.declared.Body.the-variants.{Unclosed, Listed, Rewritten, Plain}
 use Rattle.rules.specs.Heading.{hasList, listEnd, bodyOf}
-use Rattle.rules.specs.Rules.{Sheet, Caps, sourceText, noList, withRule, listedRule, rewrittenRule, pattern}
 
 module _ (s : List ℕ) (i c x : ℕ) (q : x ≡ byte s i) (listed : Bool) (is : ltb i c && eqb x 0x3c ≡ listed) where
   module _ (yes : listed ≡ true) (g : ℕ) (b : Between i c (findByte s i c 0x3e) g) where
@@ -65,33 +60,3 @@ module _ (s : List ℕ) (i c : ℕ) where
 
     pub listed-to : g < c
     listed-to = subst (Closes i c) (sym is ∙ q) closes .1
-
--- ---- what becomes of a pattern, by what it is
-
-module _ (s : List ℕ) (flags : ℕ) (verdicts : List ℕ) (xs : List State) (k : Caps) (i e : ℕ) (h : Head) (c : ℕ) (w : Sheet) where
-  pub pattern-is-unclosed : bodyOf s i c ≡ Unclosed → pattern s flags verdicts xs k i e h c w ≡ bad InvalidStartState i w
-  unfolding pattern
-  pattern-is-unclosed q = rw (q, pattern)
-
-  pub pattern-is-listed : (g : ℕ) → bodyOf s i c ≡ Listed g → pattern s flags verdicts xs k i e h c w ≡ listedRule s flags verdicts xs k i e h c g w
-  unfolding pattern
-  pattern-is-listed g q = rw (q, pattern)
-
-  pub pattern-is-rewritten : bodyOf s i c ≡ Rewritten → pattern s flags verdicts xs k i e h c w ≡ rewrittenRule s flags verdicts xs k i e h c w
-  unfolding pattern
-  pattern-is-rewritten q = rw (q, pattern)
-
-  pub pattern-is-plain : bodyOf s i c ≡ Plain → pattern s flags verdicts xs k i e h c w ≡ withRule s flags verdicts xs k i e h c (sourceText i c) (noList w) w
-  unfolding pattern
-  pattern-is-plain q = rw (q, pattern)
-
-  -- what holds of each outcome holds of the pattern
-  pub pattern-cases : (P : Out Sheet → Type 0) → P (bad InvalidStartState i w) → ((g : ℕ) → i ≤ g → g < c → P (listedRule s flags verdicts xs k i e h c g w))
-      → P (rewrittenRule s flags verdicts xs k i e h c w) → P (withRule s flags verdicts xs k i e h c (sourceText i c) (noList w) w) → P (pattern s flags verdicts xs k i e h c w)
-  pattern-cases P unclosed listed rewritten plain = by (bodyOf s i c) refl
-    where
-      by : (b : Body) → bodyOf s i c ≡ b → P (pattern s flags verdicts xs k i e h c w)
-      by Unclosed q = subst P (sym (pattern-is-unclosed q)) unclosed
-      by (Listed g) q = subst P (sym (pattern-is-listed g q)) (listed g (listed-from s i c (Listed g) (sym q) g refl) (listed-to s i c (Listed g) (sym q) g refl))
-      by Rewritten q = subst P (sym (pattern-is-rewritten q)) rewritten
-      by Plain q = subst P (sym (pattern-is-plain q)) plain

@@ -6,7 +6,7 @@ use mathlib.Core.List.{List, [], _∷_, _++_}
 use mathlib.Core.Logic.{_⊎_, inl, inr}
 use Prim.Native.Nat.{ℕ, zero, suc, _+_, _≤_, _<_}
 use native.Mathlib.Omega.{arith}
-use lib.Dec.{eqb, leb}
+use lib.Dec.{leb}
 use lib.ListN.{length, getD, List·getD-append}
 use lib.Seq.{getD-at}
 use borrow.Author.Tests.{leb-true, ltb-true, eq-eqb, ne-eqb}
@@ -17,33 +17,33 @@ use Rattle.area.specs.declared.Expected.{Expected}
 use Rattle.area.specs.Records.{mostStates, mostRules, stateAt, ruleAt, entryAt, expectedAt}
 use Rattle.area.specs.Contents.{Format, contents, listOf, stateFormat, ruleFormat, entryFormat, textFormat, expectedFormat}
 use Rattle.area.proofs.Contents.{listOf-length}
-use Rattle.parse.specs.Parse.{Contents}
-use Rattle.sheet_check.specs.SheetCheck.{SheetBytes, count, decoded, ordered, within, declared, mark, goodState, goodRule, goodExpected, goodContents, longEnough, sheetCheck}
+use Rattle.sheet_check.specs.declared.Sizes.{Sizes}
+use Rattle.sheet_check.specs.SheetCheck.{SheetBytes, count, decoded, sizesOf, longEnough, goodCounts, goodSizes, ordered, within, declared, mark, bytesAt, goodState, goodRule, goodExpected, goodRecords, sheetCheck}
 use Rattle.area.specs.Lists.{all}
-use Rattle.sheet_check.proofs.Judging.{Long, long-areas, contents-count}
+use Rattle.sheet_check.proofs.Judging.{Long, sizes-long, contents-count}
 
 -- ---- a record that passed, as plain facts
 
-pub record GoodState (n : ℕ) (x : State) : Type 0 where
+pub record GoodState (z : Sizes) (x : State) : Type 0 where
   pub ordered : x .start ≤ x .end
-  pub inside : x .end ≤ n
+  pub inside : x .end ≤ z .source
   pub exclusive : x .exclusive ≤ 1
 
-pub record GoodRule (n states entries text : ℕ) (x : Rule) : Type 0 where
+pub record GoodRule (z : Sizes) (x : Rule) : Type 0 where
   pub has-id : x .«has_id» ≤ 1
   pub named : x .named ≤ 1
   pub place : x .place ≤ 1
   pub span-ordered : x .«span_start» ≤ x .«span_end»
-  pub span-inside : x .«span_end» ≤ n
-  pub name-inside : x .«name_from» + x .«name_length» ≤ n
-  pub text-inside : x .«text_from» + x .«text_length» ≤ cond (eqb (x .place) 1) text n
-  pub list-inside : x .«list_from» + x .«list_count» ≤ entries
+  pub span-inside : x .«span_end» ≤ z .source
+  pub name-inside : x .«name_from» + x .«name_length» ≤ z .source
+  pub text-inside : x .«text_from» + x .«text_length» ≤ bytesAt z (x .place)
+  pub list-inside : x .«list_from» + x .«list_count» ≤ z .entries
   pub operation : x .operation ≤ 3
-  pub target : x .target < states
+  pub target : x .target < z .states
 
-pub record GoodExpected (n : ℕ) (x : Expected) : Type 0 where
+pub record GoodExpected (z : Sizes) (x : Expected) : Type 0 where
   pub ordered : x .start ≤ x .end
-  pub inside : x .end ≤ n
+  pub inside : x .end ≤ z .source
 
 both : (p q : Bool) → p && q ≡ true → (p ≡ true) × (q ≡ true)
 both p q e = (and-left p q e, and-right p q e)
@@ -53,59 +53,59 @@ range-ordered start end n e =
     let t = both (leb start end) (leb end n) e in
     (leb-true start end (t .0), leb-true end n (t .1))
 
-pub good-state : (n : ℕ) (x : State) → goodState n x ≡ true → GoodState n x
-unfolding goodState
-good-state n x e =
-    let t = both (ordered (x .start) (x .end) n) (mark (x .exclusive)) e in
-    let o = range-ordered (x .start) (x .end) n (t .0) in
-    record { ordered = o .0; inside = o .1; exclusive = leb-true (x .exclusive) 1 (t .1) }
+module _ (z : Sizes) where
+  pub good-state : (x : State) → goodState z x ≡ true → GoodState z x
+  unfolding goodState
+  good-state x e =
+      let t = both (ordered (x .start) (x .end) (z .source)) (mark (x .exclusive)) e in
+      let o = range-ordered (x .start) (x .end) (z .source) (t .0) in
+      record { ordered = o .0; inside = o .1; exclusive = leb-true (x .exclusive) 1 (t .1) }
 
-pub good-expected : (n : ℕ) (x : Expected) → goodExpected n x ≡ true → GoodExpected n x
-unfolding goodExpected
-good-expected n x e = let o = range-ordered (x .start) (x .end) n e in record { ordered = o .0; inside = o .1 }
+  pub good-expected : (x : Expected) → goodExpected z x ≡ true → GoodExpected z x
+  unfolding goodExpected
+  good-expected x e = let o = range-ordered (x .start) (x .end) (z .source) e in record { ordered = o .0; inside = o .1 }
 
-pub good-rule : (n states entries text : ℕ) (x : Rule) → goodRule n states entries text x ≡ true → GoodRule n states entries text x
-unfolding goodRule
-good-rule n states entries text x e =
-    let a1 : Bool = mark (x .«has_id») in
-    let a2 : Bool = mark (x .named) in
-    let a3 : Bool = mark (x .place) in
-    let a4 : Bool = ordered (x .«span_start») (x .«span_end») n in
-    let a5 : Bool = within (x .«name_from») (x .«name_length») n in
-    let bytes : ℕ = cond (eqb (x .place) 1) text n in
-    let a6 : Bool = within (x .«text_from») (x .«text_length») bytes in
-    let a7 : Bool = within (x .«list_from») (x .«list_count») entries in
-    let a8 : Bool = leb (x .operation) 3 in
-    let a9 : Bool = declared states (x .target) in
-    let t9 = both (a1 && a2 && a3 && a4 && a5 && a6 && a7 && a8) a9 e in
-    let t8 = both (a1 && a2 && a3 && a4 && a5 && a6 && a7) a8 (t9 .0) in
-    let t7 = both (a1 && a2 && a3 && a4 && a5 && a6) a7 (t8 .0) in
-    let t6 = both (a1 && a2 && a3 && a4 && a5) a6 (t7 .0) in
-    let t5 = both (a1 && a2 && a3 && a4) a5 (t6 .0) in
-    let t4 = both (a1 && a2 && a3) a4 (t5 .0) in
-    let t3 = both (a1 && a2) a3 (t4 .0) in
-    let t2 = both a1 a2 (t3 .0) in
-    let o = range-ordered (x .«span_start») (x .«span_end») n (t4 .1) in
-    record {
-      has-id = leb-true (x .«has_id») 1 (t2 .0);
-      named = leb-true (x .named) 1 (t2 .1);
-      place = leb-true (x .place) 1 (t3 .1);
-      span-ordered = o .0;
-      span-inside = o .1;
-      name-inside = leb-true (x .«name_from» + x .«name_length») n (t5 .1);
-      text-inside = leb-true (x .«text_from» + x .«text_length») bytes (t6 .1);
-      list-inside = leb-true (x .«list_from» + x .«list_count») entries (t7 .1);
-      operation = leb-true (x .operation) 3 (t8 .1);
-      target = ltb-true (x .target) states (t9 .1);
-    }
+  pub good-rule : (x : Rule) → goodRule z x ≡ true → GoodRule z x
+  unfolding goodRule
+  good-rule x e =
+      let a1 : Bool = mark (x .«has_id») in
+      let a2 : Bool = mark (x .named) in
+      let a3 : Bool = mark (x .place) in
+      let a4 : Bool = ordered (x .«span_start») (x .«span_end») (z .source) in
+      let a5 : Bool = within (x .«name_from») (x .«name_length») (z .source) in
+      let a6 : Bool = within (x .«text_from») (x .«text_length») (bytesAt z (x .place)) in
+      let a7 : Bool = within (x .«list_from») (x .«list_count») (z .entries) in
+      let a8 : Bool = leb (x .operation) 3 in
+      let a9 : Bool = declared (z .states) (x .target) in
+      let t9 = both (a1 && a2 && a3 && a4 && a5 && a6 && a7 && a8) a9 e in
+      let t8 = both (a1 && a2 && a3 && a4 && a5 && a6 && a7) a8 (t9 .0) in
+      let t7 = both (a1 && a2 && a3 && a4 && a5 && a6) a7 (t8 .0) in
+      let t6 = both (a1 && a2 && a3 && a4 && a5) a6 (t7 .0) in
+      let t5 = both (a1 && a2 && a3 && a4) a5 (t6 .0) in
+      let t4 = both (a1 && a2 && a3) a4 (t5 .0) in
+      let t3 = both (a1 && a2) a3 (t4 .0) in
+      let t2 = both a1 a2 (t3 .0) in
+      let o = range-ordered (x .«span_start») (x .«span_end») (z .source) (t4 .1) in
+      record {
+        has-id = leb-true (x .«has_id») 1 (t2 .0);
+        named = leb-true (x .named) 1 (t2 .1);
+        place = leb-true (x .place) 1 (t3 .1);
+        span-ordered = o .0;
+        span-inside = o .1;
+        name-inside = leb-true (x .«name_from» + x .«name_length») (z .source) (t5 .1);
+        text-inside = leb-true (x .«text_from» + x .«text_length») (bytesAt z (x .place)) (t6 .1);
+        list-inside = leb-true (x .«list_from» + x .«list_count») (z .entries) (t7 .1);
+        operation = leb-true (x .operation) 3 (t8 .1);
+        target = ltb-true (x .target) (z .states) (t9 .1);
+      }
 
 -- the text of a rule stands in the rewritten text at place 1, and in the source at any other
-module _ {n states entries text : ℕ} {x : Rule} (g : GoodRule n states entries text x) where
-  pub text-rewritten : x .place ≡ 1 → x .«text_from» + x .«text_length» ≤ text
-  text-rewritten e = subst (λ (t : Bool). x .«text_from» + x .«text_length» ≤ cond t text n) (eq-eqb (x .place) 1 e) (g .text-inside)
+module _ {z : Sizes} {x : Rule} (g : GoodRule z x) where
+  pub text-rewritten : x .place ≡ 1 → x .«text_from» + x .«text_length» ≤ z .text
+  text-rewritten e = subst (λ (t : Bool). x .«text_from» + x .«text_length» ≤ cond t (z .text) (z .source)) (eq-eqb (x .place) 1 e) (g .text-inside)
 
-  pub text-source : (x .place ≡ 1 → ⊥) → x .«text_from» + x .«text_length» ≤ n
-  text-source h = subst (λ (t : Bool). x .«text_from» + x .«text_length» ≤ cond t text n) (ne-eqb (x .place) 1 h) (g .text-inside)
+  pub text-source : (x .place ≡ 1 → ⊥) → x .«text_from» + x .«text_length» ≤ z .source
+  text-source h = subst (λ (t : Bool). x .«text_from» + x .«text_length» ≤ cond t (z .text) (z .source)) (ne-eqb (x .place) 1 h) (g .text-inside)
 
 -- ---- record k of a list
 
@@ -138,42 +138,24 @@ record-at : {A : Type 0} (F : Format A) (test : A → Bool) (l : List ℕ) (n k 
 record-at F test l n k e h =
     ap test (sym (contents-read F l n k h)) ∙ all-at test (contents F l n) (F .blank) k e (omega (arith, contents-count F l n))
 
--- ---- contents that are good
+-- ---- records that are good
 
-pub record GoodContents (n : ℕ) (c : Contents) : Type 0 where
-  pub some-states : 1 ≤ length (c .states)
-  pub few-states : length (c .states) ≤ mostStates
-  pub few-rules : length (c .rules) ≤ mostRules
-  pub states : all (goodState n) (c .states) ≡ true
-  pub rules : all (goodRule n (length (c .states)) (length (c .lists)) (length (c .text))) (c .rules) ≡ true
-  pub lists : all (declared (length (c .states))) (c .lists) ≡ true
-  pub expected : all (goodExpected n) (c .expected) ≡ true
+pub record GoodRecords (z : Sizes) (xs : List State) (rs : List Rule) (ids : List ℕ) (es : List Expected) : Type 0 where
+  pub states : all (goodState z) xs ≡ true
+  pub rules : all (goodRule z) rs ≡ true
+  pub lists : all (declared (z .states)) ids ≡ true
+  pub expected : all (goodExpected z) es ≡ true
 
-pub good-contents : (n : ℕ) (c : Contents) → goodContents n c ≡ true → GoodContents n c
-unfolding goodContents
-good-contents n c e =
-    let a1 : Bool = leb 1 (length (c .states)) in
-    let a2 : Bool = leb (length (c .states)) mostStates in
-    let a3 : Bool = leb (length (c .rules)) mostRules in
-    let a4 : Bool = all (goodState n) (c .states) in
-    let a5 : Bool = all (goodRule n (length (c .states)) (length (c .lists)) (length (c .text))) (c .rules) in
-    let a6 : Bool = all (declared (length (c .states))) (c .lists) in
-    let a7 : Bool = all (goodExpected n) (c .expected) in
-    let t7 = both (a1 && a2 && a3 && a4 && a5 && a6) a7 e in
-    let t6 = both (a1 && a2 && a3 && a4 && a5) a6 (t7 .0) in
-    let t5 = both (a1 && a2 && a3 && a4) a5 (t6 .0) in
-    let t4 = both (a1 && a2 && a3) a4 (t5 .0) in
+pub good-records : (z : Sizes) (xs : List State) (rs : List Rule) (ids : List ℕ) (es : List Expected) → goodRecords z xs rs ids es ≡ true → GoodRecords z xs rs ids es
+unfolding goodRecords
+good-records z xs rs ids es e =
+    let a1 : Bool = all (goodState z) xs in
+    let a2 : Bool = all (goodRule z) rs in
+    let a3 : Bool = all (declared (z .states)) ids in
+    let t4 = both (a1 && a2 && a3) (all (goodExpected z) es) e in
     let t3 = both (a1 && a2) a3 (t4 .0) in
     let t2 = both a1 a2 (t3 .0) in
-    record {
-      some-states = leb-true 1 (length (c .states)) (t2 .0);
-      few-states = leb-true (length (c .states)) mostStates (t2 .1);
-      few-rules = leb-true (length (c .rules)) mostRules (t3 .1);
-      states = t4 .1;
-      rules = t5 .1;
-      lists = t6 .1;
-      expected = t7 .1;
-    }
+    record { states = t2 .0; rules = t2 .1; lists = t3 .1; expected = t4 .1 }
 
 -- ---- a sheet that passed the check
 
@@ -196,45 +178,45 @@ module _ (b : SheetBytes) where
   text-count = contents-count textFormat (b .area4) (count b 4)
 
   module _ (passed : sheetCheck b ≡ true) where
-    -- each area is long enough for what it counts
-    pub checked-long : Long b
-    unfolding sheetCheck
-    checked-long = long-areas b (both (longEnough b) (goodContents (length (b .source)) (decoded b)) passed .0)
+    abbrev z : Sizes
+    z = sizesOf b
 
-    pub checked-contents : GoodContents (length (b .source)) (decoded b)
+    checked : (goodSizes z ≡ true) × (goodRecords z (decoded b .states) (decoded b .rules) (decoded b .lists) (decoded b .expected) ≡ true)
     unfolding sheetCheck
-    checked-contents = good-contents (length (b .source)) (decoded b) (both (longEnough b) (goodContents (length (b .source)) (decoded b)) passed .1)
+    checked = both (goodSizes z) (goodRecords z (decoded b .states) (decoded b .rules) (decoded b .lists) (decoded b .expected)) passed
+
+    pub checked-sizes : goodSizes z ≡ true
+    checked-sizes = checked .0
+
+    -- each area is long enough for what it counts
+    pub checked-long : Long z
+    checked-long = sizes-long z checked-sizes
 
     pub checked-counts : (1 ≤ count b 1) × (count b 1 ≤ mostStates) × (count b 2 ≤ mostRules)
+    unfolding goodSizes goodCounts
     checked-counts =
-        let g = checked-contents in
-        (subst (λ (m : ℕ). 1 ≤ m) states-count (g .some-states), subst (λ (m : ℕ). m ≤ mostStates) states-count (g .few-states), subst (λ (m : ℕ). m ≤ mostRules) rules-count (g .few-rules))
+        let t = both (leb 1 (z .states) && leb (z .states) mostStates) (leb (z .rules) mostRules) (and-right (longEnough z) (goodCounts (z .states) (z .rules)) checked-sizes) in
+        let f = both (leb 1 (z .states)) (leb (z .states) mostStates) (t .0) in
+        (leb-true 1 (z .states) (f .0), leb-true (z .states) mostStates (f .1), leb-true (z .rules) mostRules (t .1))
+
+    pub checked-records : GoodRecords z (decoded b .states) (decoded b .rules) (decoded b .lists) (decoded b .expected)
+    checked-records = good-records z (decoded b .states) (decoded b .rules) (decoded b .lists) (decoded b .expected) (checked .1)
 
     -- record k of each area is good
-    pub checked-state : (k : ℕ) → k < count b 1 → GoodState (length (b .source)) (stateAt (b .area1) k)
+    pub checked-state : (k : ℕ) → k < count b 1 → GoodState z (stateAt (b .area1) k)
     unfolding decoded
-    checked-state k h =
-        good-state (length (b .source)) (stateAt (b .area1) k)
-        (record-at stateFormat (goodState (length (b .source))) (b .area1) (count b 1) k (checked-contents .states) h)
+    checked-state k h = good-state z (stateAt (b .area1) k) (record-at stateFormat (goodState z) (b .area1) (count b 1) k (checked-records .states) h)
 
-    pub checked-rule : (k : ℕ) → k < count b 2 → GoodRule (length (b .source)) (count b 1) (count b 3) (count b 4) (ruleAt (b .area2) k)
+    pub checked-rule : (k : ℕ) → k < count b 2 → GoodRule z (ruleAt (b .area2) k)
     unfolding decoded
-    checked-rule k h =
-        let n : ℕ = length (b .source) in
-        let all-good : all (goodRule n (count b 1) (count b 3) (count b 4)) (contents ruleFormat (b .area2) (count b 2)) ≡ true =
-        rw (← states-count, ← lists-count, ← text-count) (checked-contents .rules) in
-        good-rule n (count b 1) (count b 3) (count b 4) (ruleAt (b .area2) k)
-        (record-at ruleFormat (goodRule n (count b 1) (count b 3) (count b 4)) (b .area2) (count b 2) k all-good h)
+    checked-rule k h = good-rule z (ruleAt (b .area2) k) (record-at ruleFormat (goodRule z) (b .area2) (count b 2) k (checked-records .rules) h)
 
     pub checked-entry : (k : ℕ) → k < count b 3 → entryAt (b .area3) k < count b 1
     unfolding decoded
     checked-entry k h =
-        let all-good : all (declared (count b 1)) (contents entryFormat (b .area3) (count b 3)) ≡ true =
-        subst (λ (m : ℕ). all (declared m) (contents entryFormat (b .area3) (count b 3)) ≡ true) states-count (checked-contents .lists) in
-        ltb-true (entryAt (b .area3) k) (count b 1) (record-at entryFormat (declared (count b 1)) (b .area3) (count b 3) k all-good h)
+        ltb-true (entryAt (b .area3) k) (count b 1) (record-at entryFormat (declared (count b 1)) (b .area3) (count b 3) k (checked-records .lists) h)
 
-    pub checked-expected : (k : ℕ) → k < count b 5 → GoodExpected (length (b .source)) (expectedAt (b .area5) k)
+    pub checked-expected : (k : ℕ) → k < count b 5 → GoodExpected z (expectedAt (b .area5) k)
     unfolding decoded
     checked-expected k h =
-        good-expected (length (b .source)) (expectedAt (b .area5) k)
-        (record-at expectedFormat (goodExpected (length (b .source))) (b .area5) (count b 5) k (checked-contents .expected) h)
+        good-expected z (expectedAt (b .area5) k) (record-at expectedFormat (goodExpected z) (b .area5) (count b 5) k (checked-records .expected) h)

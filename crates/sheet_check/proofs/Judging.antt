@@ -1,50 +1,54 @@
 -- What the tests of a sheet come to when they are joined: each record's as its code joins them, and an area's one record at a time.
 -- A list that grows at its end passes a test where it passed before and the new element does.
-use mathlib.Core.Path.{_≡_, refl, sym, ap, ap₂, _∙_}
-use mathlib.Core.Bool.{Bool, true, false, cond, _&&_, and-true, and-assoc}
+use mathlib.Core.Path.{_≡_, refl, sym, ap, ap₂, subst⁻¹, _∙_}
+use mathlib.Core.Bool.{Bool, true, false, _&&_, and-true, and-assoc}
 use mathlib.Core.List.{List, [], _∷_, _++_}
-use Prim.Native.Nat.{ℕ, _+_, _*_, _-_, _≤_}
+use Prim.Native.Nat.{ℕ, _+_, _*_, _≤_}
+use native.Mathlib.Nat.{mul-one}
 use native.Mathlib.Numerals.{add-one}
-use lib.Dec.{eqb, leb, ltb}
+use lib.Dec.{leb, ltb}
 use native.Mathlib.Omega.{arith}
-use lib.ListN.{length, getD}
+use lib.ListN.{length}
 use borrow.Author.Needs.{needs}
 use borrow.Author.Tests.{eq-eqb, ne-eqb, leb-true}
 use Rattle.area.specs.declared.State.{State}
 use Rattle.area.specs.declared.Rule.{Rule}
-use Rattle.area.specs.Records.{stateWidth, ruleWidth, entryWidth, expectedWidth, mostStates, mostRules}
-use Rattle.area.specs.Contents.{Format, contents, listOf, stateFormat, ruleFormat, entryFormat, textFormat, expectedFormat}
+use Rattle.area.specs.declared.Expected.{Expected}
+use Rattle.area.specs.Records.{stateWidth, ruleWidth, entryWidth, expectedWidth}
+use Rattle.area.specs.Contents.{Format, contents, listOf, stateFormat, ruleFormat, entryFormat, expectedFormat}
 use Rattle.area.proofs.Contents.{listOf-length}
 use Rattle.text.proofs.Tests.{and-left, and-right}
-use Rattle.sheet_check.specs.SheetCheck.{SheetBytes, sheetBytes, count, decoded, ordered, within, declared, goodState, goodRule, goodExpected, goodContents, longEnough, sheetCheck}
+use Rattle.sheet_check.specs.declared.Sizes.{Sizes}
+use Rattle.sheet_check.specs.SheetCheck.{SheetBytes, sizesOf, longEnough, goodCounts, goodSizes, ordered, within, declared, bytesAt, goodState, goodRule, goodExpected, goodRecords, decoded, sheetCheck}
+use Rattle.sheet_check.specs.Contracts.{AreasLong}
 use Rattle.area.specs.Lists.{all}
 
 -- ---- a record
 
-module _ (place text n : ℕ) where
-  pub rewritten-bytes : place ≡ 1 → text ≡ cond (eqb place 1) text n
-  rewritten-bytes e = rw (eq-eqb place 1 e)
+module _ (z : Sizes) where
+  module _ (place : ℕ) where
+    pub rewritten-bytes : place ≡ 1 → z .text ≡ bytesAt z place
+    rewritten-bytes e = rw (eq-eqb place 1 e)
 
-  pub source-bytes : (place ≡ 1 → ⊥) → n ≡ cond (eqb place 1) text n
-  source-bytes h = rw (ne-eqb place 1 h)
+    pub source-bytes : (place ≡ 1 → ⊥) → z .source ≡ bytesAt z place
+    source-bytes h = rw (ne-eqb place 1 h)
 
-pub ruleset places = (rewritten-bytes, source-bytes)
+  pub state-judged : (x : State) (r : Bool) → r ≡ ordered (x .start) (x .end) (z .source) → r && leb (x .exclusive) 1 ≡ goodState z x
+  unfolding goodState
+  state-judged x r e = rw e
 
-pub state-judged : (n : ℕ) (x : State) (r : Bool) → r ≡ ordered (x .start) (x .end) n → r && leb (x .exclusive) 1 ≡ goodState n x
-unfolding goodState
-state-judged n x r e = rw e
-
-module _ (n states entries text : ℕ) (x : Rule) where
-  pub rule-judged : (span name pattern list : Bool) (bytes : ℕ)
-      → span ≡ ordered (x .«span_start») (x .«span_end») n
-      → name ≡ within (x .«name_from») (x .«name_length») n
-      → bytes ≡ cond (eqb (x .place) 1) text n
+  pub rule-judged : (x : Rule) (span name pattern list : Bool) (bytes : ℕ)
+      → span ≡ ordered (x .«span_start») (x .«span_end») (z .source)
+      → name ≡ within (x .«name_from») (x .«name_length») (z .source)
+      → bytes ≡ bytesAt z (x .place)
       → pattern ≡ within (x .«text_from») (x .«text_length») bytes
-      → list ≡ within (x .«list_from») (x .«list_count») entries
-      → leb (x .«has_id») 1 && leb (x .named) 1 && leb (x .place) 1 && span && name && pattern && list && leb (x .operation) 3 && ltb (x .target) states
-      ≡ goodRule n states entries text x
+      → list ≡ within (x .«list_from») (x .«list_count») (z .entries)
+      → leb (x .«has_id») 1 && leb (x .named) 1 && leb (x .place) 1 && span && name && pattern && list && leb (x .operation) 3 && ltb (x .target) (z .states)
+      ≡ goodRule z x
   unfolding goodRule
-  rule-judged span name pattern list bytes e1 e2 e3 e4 e5 = simp (e1, e2, e4, e3, e5)
+  rule-judged x span name pattern list bytes e1 e2 e3 e4 e5 = simp (e1, e2, e4, e3, e5)
+
+pub ruleset places = (needs, rewritten-bytes, source-bytes)
 
 -- ---- the records of an area
 
@@ -70,62 +74,80 @@ module _ {A : Type 0} (F : Format A) (test : A → Bool) (l : List ℕ) where
 
 pub ruleset judging = (needs, all-none, all-next, all-read)
 
--- ---- the sheet
-
 -- an area read back has as many records as it counts
 pub contents-count : {A : Type 0} (F : Format A) (l : List ℕ) (n : ℕ) → length (contents F l n) ≡ n
 unfolding contents
 contents-count F l n = listOf-length (F .read l) n
 
-each-of-5 : (a b c d e : Bool) → a && b && c && d && e ≡ true → (a ≡ true) × (b ≡ true) × (c ≡ true) × (d ≡ true) × (e ≡ true)
-each-of-5 a b c d e h =
-    let h4 = and-left (a && b && c && d) e h in
-    let h3 = and-left (a && b && c) d h4 in
-    let h2 = and-left (a && b) c h3 in
-    (and-left a b h2, and-right a b h2, and-right (a && b) c h3, and-right (a && b && c) d h4, and-right (a && b && c && d) e h)
+-- ---- the sizes
 
--- the areas of a sheet that are long enough
-pub record Long (b : SheetBytes) : Type 0 where
-  pub long1 : count b 1 * stateWidth ≤ length (b .area1)
-  pub long2 : count b 2 * ruleWidth ≤ length (b .area2)
-  pub long3 : count b 3 * entryWidth ≤ length (b .area3)
-  pub long4 : count b 4 ≤ length (b .area4)
-  pub long5 : count b 5 * expectedWidth ≤ length (b .area5)
+-- the areas of these sizes are long enough
+pub record Long (z : Sizes) : Type 0 where
+  pub long1 : z .states * stateWidth ≤ z .area1
+  pub long2 : z .rules * ruleWidth ≤ z .area2
+  pub long3 : z .entries * entryWidth ≤ z .area3
+  pub long4 : z .text ≤ z .area4
+  pub long5 : z .expected * expectedWidth ≤ z .area5
 
-pub long-areas : (b : SheetBytes) → longEnough b ≡ true → Long b
-unfolding longEnough
-long-areas b e =
-    let t = each-of-5 (leb (count b 1 * stateWidth) (length (b .area1))) (leb (count b 2 * ruleWidth) (length (b .area2))) (leb (count b 3 * entryWidth) (length (b .area3))) (leb (count b 4) (length (b .area4))) (leb (count b 5 * expectedWidth) (length (b .area5))) e in
-    record {
-      long1 = leb-true (count b 1 * stateWidth) (length (b .area1)) (t .0);
-      long2 = leb-true (count b 2 * ruleWidth) (length (b .area2)) (t .1);
-      long3 = leb-true (count b 3 * entryWidth) (length (b .area3)) (t .2);
-      long4 = leb-true (count b 4) (length (b .area4)) (t .3);
-      long5 = leb-true (count b 5 * expectedWidth) (length (b .area5)) (t .4);
-    }
+module _ (z : Sizes) where
+  pub long-areas : longEnough z ≡ true → Long z
+  unfolding longEnough
+  long-areas e =
+      let a1 : Bool = leb (z .states * stateWidth) (z .area1) in
+      let a2 : Bool = leb (z .rules * ruleWidth) (z .area2) in
+      let a3 : Bool = leb (z .entries * entryWidth) (z .area3) in
+      let a4 : Bool = leb (z .text) (z .area4) in
+      let a5 : Bool = leb (z .expected * expectedWidth) (z .area5) in
+      let t4 = and-left (a1 && a2 && a3 && a4) a5 e in
+      let t3 = and-left (a1 && a2 && a3) a4 t4 in
+      let t2 = and-left (a1 && a2) a3 t3 in
+      record {
+        long1 = leb-true (z .states * stateWidth) (z .area1) (and-left a1 a2 t2);
+        long2 = leb-true (z .rules * ruleWidth) (z .area2) (and-right a1 a2 t2);
+        long3 = leb-true (z .entries * entryWidth) (z .area3) (and-right (a1 && a2) a3 t3);
+        long4 = leb-true (z .text) (z .area4) (and-right (a1 && a2 && a3) a4 t4);
+        long5 = leb-true (z .expected * expectedWidth) (z .area5) (and-right (a1 && a2 && a3 && a4) a5 e);
+      }
 
-module _ (n : ℕ) (b : SheetBytes) where
-  pub contents-judged : (g1 g2 g3 g5 : Bool)
-      → g1 ≡ all (goodState n) (contents stateFormat (b .area1) (count b 1))
-      → g2 ≡ all (goodRule n (count b 1) (count b 3) (count b 4)) (contents ruleFormat (b .area2) (count b 2))
-      → g3 ≡ all (declared (count b 1)) (contents entryFormat (b .area3) (count b 3))
-      → g5 ≡ all (goodExpected n) (contents expectedFormat (b .area5) (count b 5))
-      → leb 1 (count b 1) && leb (count b 1) mostStates && leb (count b 2) mostRules && g1 && g2 && g3 && g5 ≡ goodContents n (decoded b)
-  unfolding goodContents decoded
-  contents-judged g1 g2 g3 g5 e1 e2 e3 e5 =
-      simp (e1, e2, e3, e5, contents-count stateFormat (b .area1) (count b 1), contents-count ruleFormat (b .area2) (count b 2), contents-count entryFormat (b .area3) (count b 3), contents-count textFormat (b .area4) (count b 4))
+  pub sizes-long : goodSizes z ≡ true → Long z
+  unfolding goodSizes
+  sizes-long e = long-areas (and-left (longEnough z) (goodCounts (z .states) (z .rules)) e)
 
-module _ (b : SheetBytes) (t : Bool) (is : t ≡ longEnough b) where
-  pub check-long : (r : Bool) → t ≡ true → r ≡ goodContents (length (b .source)) (decoded b) → r ≡ sheetCheck b
-  unfolding sheetCheck
-  check-long r e q = q ∙ ap (λ (x : Bool). x && goodContents (length (b .source)) (decoded b)) (sym e ∙ is)
+  pub sizes-judged : (a1 a2 a3 a4 a5 few : Bool) → a1 ≡ leb (z .states * stateWidth) (z .area1) → a2 ≡ leb (z .rules * ruleWidth) (z .area2)
+      → a3 ≡ leb (z .entries * entryWidth) (z .area3) → a4 ≡ leb (z .text * 1) (z .area4) → a5 ≡ leb (z .expected * expectedWidth) (z .area5)
+      → few ≡ goodCounts (z .states) (z .rules) → a1 && a2 && a3 && a4 && a5 && few ≡ goodSizes z
+  unfolding goodSizes longEnough
+  sizes-judged a1 a2 a3 a4 a5 few e1 e2 e3 e4 e5 e6 = simp (e1, e2, e3, e4, e5, e6, mul-one (z .text))
+
+-- ---- the sheet
+
+module _ (z : Sizes) (states : List State) (rules : List Rule) (lists : List ℕ) (expected : List Expected) where
+  pub records-judged : (g1 g2 g3 g5 : Bool) → g1 ≡ all (goodState z) states → g2 ≡ all (goodRule z) rules → g3 ≡ all (declared (z .states)) lists
+      → g5 ≡ all (goodExpected z) expected → g1 && g2 && g3 && g5 ≡ goodRecords z states rules lists expected
+  unfolding goodRecords
+  records-judged g1 g2 g3 g5 e1 e2 e3 e5 = simp (e1, e2, e3, e5)
+
+-- sizes that were taken of a sheet, and passed
+module _ (b : SheetBytes) (z : Sizes) (of : z ≡ sizesOf b) (t : Bool) (is : t ≡ goodSizes z) where
+  sizes-good : goodSizes (sizesOf b) ≡ t
+  sizes-good = sym (is ∙ ap goodSizes of)
+
+  pub check-long : t ≡ true → AreasLong z (b .area1) (b .area2) (b .area3) (b .area5)
+  check-long e =
+      let l = sizes-long (sizesOf b) (sizes-good ∙ e) in
+      subst⁻¹ (λ (y : Sizes). AreasLong y (b .area1) (b .area2) (b .area3) (b .area5)) of
+      (record { long1 = l .long1; long2 = l .long2; long3 = l .long3; long5 = l .long5 })
+
+  pub check-good : (r : Bool) → t ≡ true
+      → r ≡ goodRecords z (contents stateFormat (b .area1) (z .states)) (contents ruleFormat (b .area2) (z .rules)) (contents entryFormat (b .area3) (z .entries))
+      (contents expectedFormat (b .area5) (z .expected))
+      → r ≡ sheetCheck b
+  unfolding sheetCheck decoded
+  check-good r e q =
+      rw (sizes-good, e)
+      (q
+      ∙ ap (λ (y : Sizes). goodRecords y (contents stateFormat (b .area1) (y .states)) (contents ruleFormat (b .area2) (y .rules)) (contents entryFormat (b .area3) (y .entries)) (contents expectedFormat (b .area5) (y .expected))) of)
 
   pub check-short : t ≡ false → false ≡ sheetCheck b
   unfolding sheetCheck
-  check-short e = ap (λ (x : Bool). x && goodContents (length (b .source)) (decoded b)) (sym e ∙ is)
-
--- the check reads five numbers of the counts, so those five are as good as the whole list
-pub check-listed : (s x1 x2 x3 x4 x5 n m : List ℕ) (r : Bool) → r ≡ sheetCheck (sheetBytes s x1 x2 x3 x4 x5 m)
-    → m ≡ getD n 0 0 ∷ getD n 1 0 ∷ getD n 2 0 ∷ getD n 3 0 ∷ getD n 4 0 ∷ [] → r ≡ sheetCheck (sheetBytes s x1 x2 x3 x4 x5 n)
-unfolding sheetCheck longEnough decoded
-check-listed s x1 x2 x3 x4 x5 n m r q e = q ∙ ap (λ (l : List ℕ). sheetCheck (sheetBytes s x1 x2 x3 x4 x5 l)) e
+  check-short e = rw (sizes-good, e)

@@ -17,7 +17,7 @@ use Rattle.area.specs.Contents.{contents, ruleFormat}
 use Rattle.area.proofs.Contents.{listOf-is}
 use Rattle.sheet_check.specs.declared.Located.{Located}
 use Rattle.sheet_check.specs.declared.Located.the-variants.{Part, BrokenSheet}
-use Rattle.sheet_check.specs.SheetCheck.{SheetBytes, count, decoded, sheetCheck}
+use Rattle.sheet_check.specs.SheetCheck.{SheetBytes, count, decoded, sizesOf, sheetCheck}
 use Rattle.sheet_check.specs.Pattern.{hasRule, partOf, patternPart, textOf, startOf, handed, patternCall, numberOf}
 use Rattle.sheet_check.proofs.Checked.{GoodRule, text-rewritten, text-source, contents-read, checked-long, checked-rule, rules-count}
 
@@ -57,7 +57,7 @@ pub record Inside (b : SheetBytes) (place from len : ℕ) : Type 0 where
   pub long : count b 4 ≤ length (b .area4)
 
 module _ (b : SheetBytes) (k place from len : ℕ) where
-  rule-inside : (x : Rule) → sheetCheck b ≡ true → GoodRule (length (b .source)) (count b 1) (count b 3) (count b 4) x → Part place from len ≡ partOf x → Inside b place from len
+  rule-inside : (x : Rule) → sheetCheck b ≡ true → GoodRule (sizesOf b) x → Part place from len ≡ partOf x → Inside b place from len
   rule-inside x passed g e =
       let p : place ≡ x .place = cc in
       let f : from ≡ x .«text_from» = cc in

@@ -1,3 +1,3 @@
 pub mod SheetCheck
-pub mod Counted
+pub mod Contracts
 pub mod Pattern

@@ -10,7 +10,9 @@ use Rattle.area.specs.declared.Expected.{Expected}
 use Rattle.area.specs.Records.{stateWidth, ruleWidth, entryWidth, expectedWidth, mostStates, mostRules}
 use Rattle.area.specs.Contents.{contents, stateFormat, ruleFormat, entryFormat, textFormat, expectedFormat}
 use Rattle.area.specs.Lists.{all}
+use Rattle.names.specs.Names.{nameOf}
 use Rattle.parse.specs.Parse.{Contents}
+use Rattle.sheet_check.specs.declared.Sizes.{Sizes}
 
 -- the source, areas 1 to 5 and the six counts
 pub record SheetBytes : Type 0 where
@@ -24,6 +26,10 @@ pub record SheetBytes : Type 0 where
 
 abbrev pub sheetBytes : List ℕ → List ℕ → List ℕ → List ℕ → List ℕ → List ℕ → List ℕ → SheetBytes
 sheetBytes s x1 x2 x3 x4 x5 n = record { source = s; area1 = x1; area2 = x2; area3 = x3; area4 = x4; area5 = x5; counts = n }
+
+-- the bytes of a rule's name: they stand in the source (01, Areas, 2)
+abbrev pub nameIn : SheetBytes → Rule → List ℕ
+nameIn b = nameOf (b .source)
 
 -- the count of an area, by its number
 abbrev pub count : SheetBytes → ℕ → ℕ
@@ -39,6 +45,40 @@ decoded b = record {
   expected = contents expectedFormat (b .area5) (count b 5);
   faults = [];
 }
+
+-- ---- sizes
+
+-- the lengths and the counts of a sheet
+abbrev pub sizesOf : SheetBytes → Sizes
+sizesOf b = record {
+  source = length (b .source);
+  area1 = length (b .area1);
+  area2 = length (b .area2);
+  area3 = length (b .area3);
+  area4 = length (b .area4);
+  area5 = length (b .area5);
+  states = count b 1;
+  rules = count b 2;
+  entries = count b 3;
+  text = count b 4;
+  expected = count b 5;
+}
+
+-- each area is long enough for its count
+unfoldable pub longEnough : Sizes → Bool
+longEnough z =
+    leb (z .states * stateWidth) (z .area1) && leb (z .rules * ruleWidth) (z .area2)
+    && leb (z .entries * entryWidth) (z .area3) && leb (z .text) (z .area4)
+    && leb (z .expected * expectedWidth) (z .area5)
+
+-- 1 to 64 states, and at most 2,048 rules
+unfoldable pub goodCounts : ℕ → ℕ → Bool
+goodCounts states rules = leb 1 states && leb states mostStates && leb rules mostRules
+
+unfoldable pub goodSizes : Sizes → Bool
+goodSizes z = longEnough z && goodCounts (z .states) (z .rules)
+
+-- ---- records
 
 -- a mark is 0 or 1
 abbrev pub mark : ℕ → Bool
@@ -56,40 +96,33 @@ within from len n = leb (from + len) n
 abbrev pub declared : ℕ → ℕ → Bool
 declared states id = ltb id states
 
--- a state of a source of n bytes
-unfoldable pub goodState : ℕ → State → Bool
-goodState n x = ordered (x .start) (x .end) n && mark (x .exclusive)
+-- how many bytes there are at a place: 1 is the rewritten text, any other the source
+abbrev pub bytesAt : Sizes → ℕ → ℕ
+bytesAt z place = cond (eqb place 1) (z .text) (z .source)
 
--- a rule of a source of n bytes, beside so many states, list entries and bytes of rewritten text
-unfoldable pub goodRule : ℕ → ℕ → ℕ → ℕ → Rule → Bool
-goodRule n states entries text x =
-    mark (x .«has_id») && mark (x .named) && mark (x .place)
-    && ordered (x .«span_start») (x .«span_end») n
-    && within (x .«name_from») (x .«name_length») n
-    && within (x .«text_from») (x .«text_length») (cond (eqb (x .place) 1) text n)
-    && within (x .«list_from») (x .«list_count») entries
-    && leb (x .operation) 3 && declared states (x .target)
+-- the records of a sheet of these sizes
+module _ (z : Sizes) where
+  unfoldable pub goodState : State → Bool
+  goodState x = ordered (x .start) (x .end) (z .source) && mark (x .exclusive)
 
--- an expected name of a source of n bytes
-unfoldable pub goodExpected : ℕ → Expected → Bool
-goodExpected n x = ordered (x .start) (x .end) n
+  unfoldable pub goodRule : Rule → Bool
+  goodRule x =
+      mark (x .«has_id») && mark (x .named) && mark (x .place)
+      && ordered (x .«span_start») (x .«span_end») (z .source)
+      && within (x .«name_from») (x .«name_length») (z .source)
+      && within (x .«text_from») (x .«text_length») (bytesAt z (x .place))
+      && within (x .«list_from») (x .«list_count») (z .entries)
+      && leb (x .operation) 3 && declared (z .states) (x .target)
 
--- what a sheet of a source of n bytes may hold: 1 to 64 states, at most 2,048 rules, and each record in order
-unfoldable pub goodContents : ℕ → Contents → Bool
-goodContents n c =
-    leb 1 (length (c .states)) && leb (length (c .states)) mostStates && leb (length (c .rules)) mostRules
-    && all (goodState n) (c .states)
-    && all (goodRule n (length (c .states)) (length (c .lists)) (length (c .text))) (c .rules)
-    && all (declared (length (c .states))) (c .lists)
-    && all (goodExpected n) (c .expected)
+  unfoldable pub goodExpected : Expected → Bool
+  goodExpected x = ordered (x .start) (x .end) (z .source)
 
--- each area is long enough for its count
-unfoldable pub longEnough : SheetBytes → Bool
-longEnough b =
-    leb (count b 1 * stateWidth) (length (b .area1)) && leb (count b 2 * ruleWidth) (length (b .area2))
-    && leb (count b 3 * entryWidth) (length (b .area3)) && leb (count b 4) (length (b .area4))
-    && leb (count b 5 * expectedWidth) (length (b .area5))
+  -- the states, the rules, the entries of their lists and the expected names
+  unfoldable pub goodRecords : List State → List Rule → List ℕ → List Expected → Bool
+  goodRecords states rules lists expected =
+      all goodState states && all goodRule rules && all (declared (z .states)) lists && all goodExpected expected
 
--- the sheet check
+-- ---- the sheet check
+
 unfoldable pub sheetCheck : SheetBytes → Bool
-sheetCheck b = longEnough b && goodContents (length (b .source)) (decoded b)
+sheetCheck b = goodSizes (sizesOf b) && goodRecords (sizesOf b) (decoded b .states) (decoded b .rules) (decoded b .lists) (decoded b .expected)

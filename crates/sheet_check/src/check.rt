@@ -1,16 +1,15 @@
 // The sheet check (01, Linking, the end). Every record is read once and its tests are joined without a branch, since the calls
 // of the run ask for the check at each step, and mostly of a sheet that passes.
 ghost use mathlib.Core.Path.{_≡_};
-ghost use mathlib.Core.Bool.{true, cond};
-ghost use mathlib.Core.List.{_∷_, []};
 ghost use Prim.Native.Nat.{_*_, _≤_};
-ghost use lib.Dec.{eqb};
+ghost use lib.Dec.{leb};
 ghost use lib.ListN.{length};
 ghost use Rattle.area.specs.Records.{stateWidth, ruleWidth, entryWidth, expectedWidth};
 ghost use Rattle.area.specs.Contents.{contents, stateFormat, ruleFormat, entryFormat, expectedFormat};
-ghost use Rattle.sheet_check.specs.Counted.{listed};
-ghost use Rattle.sheet_check.specs.SheetCheck.{sheetBytes, decoded, ordered, within, declared, goodState, goodRule, goodExpected, goodContents, longEnough, sheetCheck};
 ghost use Rattle.area.specs.Lists.{all};
+ghost use Rattle.sheet_check.specs.SheetCheck.{sizesOf, goodCounts, goodSizes, ordered, within, declared, bytesAt, goodState, goodRule, goodExpected, goodRecords, sheetCheck};
+ghost use Rattle.sheet_check.specs.Contracts.{before, sheetIn, AreasLong};
+use crate::Sizes;
 use area::ENTRY_WIDTH;
 use area::EXPECTED_WIDTH;
 use area::Expected;
@@ -24,15 +23,6 @@ use area::read_entry;
 use area::read_expected;
 use area::read_rule;
 use area::read_state;
-
-// The counts of areas 1 to 5. In code they are numbers and not a lent array, so that their products are known to fit.
-struct Counts {
-    states: u16,
-    rules: u16,
-    entries: u16,
-    text: u16,
-    expected: u16,
-}
 
 // ---- a record
 
@@ -50,30 +40,30 @@ fn is_within(from: u16, count: u16, n: usize) -> bool
     from as usize + count as usize <= n
 }
 
-fn good_state(n: usize, x: State) -> bool
-    ensures { λ r. ⌜ r ≡ goodState n x ⌝ }
+fn good_state(sizes: Sizes, x: State) -> bool
+    ensures { λ r. ⌜ r ≡ goodState sizes x ⌝ }
 {
-    is_ordered(x.start, x.end, n) & (x.exclusive <= 1)
+    is_ordered(x.start, x.end, sizes.source) & (x.exclusive <= 1)
 }
 
 // How many bytes there are at a rule's place.
-fn bytes_at(place: u16, n: usize, text: usize) -> usize
-    ensures { λ r. ⌜ r ≡ cond (eqb place 1) text n ⌝ }
+fn bytes_at(sizes: Sizes, place: u16) -> usize
+    ensures { λ r. ⌜ r ≡ bytesAt sizes place ⌝ }
 {
     if place == 1 {
-        return text;
+        return sizes.text as usize;
     }
-    n
+    sizes.source
 }
 
-fn good_rule(n: usize, states: u16, entries: usize, text: usize, x: Rule) -> bool
-    ensures { λ r. ⌜ r ≡ goodRule n states entries text x ⌝ }
+fn good_rule(sizes: Sizes, x: Rule) -> bool
+    ensures { λ r. ⌜ r ≡ goodRule sizes x ⌝ }
 {
-    let span = is_ordered(x.span_start, x.span_end, n);
-    let name = is_within(x.name_from, x.name_length, n);
-    let bytes = bytes_at(x.place, n, text);
+    let span = is_ordered(x.span_start, x.span_end, sizes.source);
+    let name = is_within(x.name_from, x.name_length, sizes.source);
+    let bytes = bytes_at(sizes, x.place);
     let pattern = is_within(x.text_from, x.text_length, bytes);
-    let list = is_within(x.list_from, x.list_count, entries);
+    let list = is_within(x.list_from, x.list_count, sizes.entries as usize);
     (x.has_id <= 1)
         & (x.named <= 1)
         & (x.place <= 1)
@@ -82,40 +72,40 @@ fn good_rule(n: usize, states: u16, entries: usize, text: usize, x: Rule) -> boo
         & pattern
         & list
         & (x.operation <= 3)
-        & (x.target < states)
+        & (x.target < sizes.states)
 }
 
-fn good_expected(n: usize, x: Expected) -> bool
-    ensures { λ r. ⌜ r ≡ goodExpected n x ⌝ }
+fn good_expected(sizes: Sizes, x: Expected) -> bool
+    ensures { λ r. ⌜ r ≡ goodExpected sizes x ⌝ }
 {
-    is_ordered(x.start, x.end, n)
+    is_ordered(x.start, x.end, sizes.source)
 }
 
 // ---- the records of an area
 
-fn good_states(area: &[u8], count: u16, n: usize) -> bool
-    requires { ⌜ count * stateWidth ≤ length (now area) ⌝ }
-    ensures { λ r. ⌜ r ≡ all (goodState n) (contents stateFormat (now (area .entry)) count) ⌝ }
+fn good_states(sizes: Sizes, area: &[u8]) -> bool
+    requires { ⌜ sizes .states * stateWidth ≤ length (now area) ⌝ }
+    ensures { λ r. ⌜ r ≡ all (goodState sizes) (contents stateFormat (before area) (sizes .states)) ⌝ }
 {
-    let most = count as usize;
+    let most = sizes.states as usize;
     let mut good = true;
     let mut k = 0;
     while k < most {
-        good = good & good_state(n, read_state(area, k));
+        good = good & good_state(sizes, read_state(area, k));
         k += 1;
     }
     good
 }
 
-fn good_rules(area: &[u8], count: u16, n: usize, states: u16, entries: usize, text: usize) -> bool
-    requires { ⌜ count * ruleWidth ≤ length (now area) ⌝ }
-    ensures { λ r. ⌜ r ≡ all (goodRule n states entries text) (contents ruleFormat (now (area .entry)) count) ⌝ }
+fn good_rules(sizes: Sizes, area: &[u8]) -> bool
+    requires { ⌜ sizes .rules * ruleWidth ≤ length (now area) ⌝ }
+    ensures { λ r. ⌜ r ≡ all (goodRule sizes) (contents ruleFormat (before area) (sizes .rules)) ⌝ }
 {
-    let most = count as usize;
+    let most = sizes.rules as usize;
     let mut good = true;
     let mut k = 0;
     while k < most {
-        good = good & good_rule(n, states, entries, text, read_rule(area, k));
+        good = good & good_rule(sizes, read_rule(area, k));
         k += 1;
     }
     good
@@ -124,7 +114,7 @@ fn good_rules(area: &[u8], count: u16, n: usize, states: u16, entries: usize, te
 // Also whether the ids in use on the stack of a run are declared.
 pub fn good_entries(area: &[u8], count: u16, states: u16) -> bool
     requires { ⌜ count * entryWidth ≤ length (now area) ⌝ }
-    ensures { λ r. ⌜ r ≡ all (declared states) (contents entryFormat (now (area .entry)) count) ⌝ }
+    ensures { λ r. ⌜ r ≡ all (declared states) (contents entryFormat (before area) count) ⌝ }
 {
     let most = count as usize;
     let mut good = true;
@@ -136,15 +126,15 @@ pub fn good_entries(area: &[u8], count: u16, states: u16) -> bool
     good
 }
 
-fn good_names(area: &[u8], count: u16, n: usize) -> bool
-    requires { ⌜ count * expectedWidth ≤ length (now area) ⌝ }
-    ensures { λ r. ⌜ r ≡ all (goodExpected n) (contents expectedFormat (now (area .entry)) count) ⌝ }
+fn good_names(sizes: Sizes, area: &[u8]) -> bool
+    requires { ⌜ sizes .expected * expectedWidth ≤ length (now area) ⌝ }
+    ensures { λ r. ⌜ r ≡ all (goodExpected sizes) (contents expectedFormat (before area) (sizes .expected)) ⌝ }
 {
-    let most = count as usize;
+    let most = sizes.expected as usize;
     let mut good = true;
     let mut k = 0;
     while k < most {
-        good = good & good_expected(n, read_expected(area, k));
+        good = good & good_expected(sizes, read_expected(area, k));
         k += 1;
     }
     good
@@ -152,80 +142,77 @@ fn good_names(area: &[u8], count: u16, n: usize) -> bool
 
 // ---- the sheet
 
-fn long_enough(
+// Whether so many bytes are enough for so many records.
+fn is_long(bytes: usize, count: u16, width: usize) -> bool
+    requires { ⌜ width ≤ ruleWidth ⌝ }
+    ensures { λ r. ⌜ r ≡ leb (count * width) bytes ⌝ }
+{
+    count as usize * width <= bytes
+}
+
+fn good_counts(states: u16, rules: u16) -> bool
+    ensures { λ r. ⌜ r ≡ goodCounts states rules ⌝ }
+{
+    (1 <= states) & (states as usize <= MOST_STATES) & (rules as usize <= MOST_RULES)
+}
+
+fn good_sizes(sizes: Sizes) -> bool
+    ensures { λ r. ⌜ r ≡ goodSizes sizes ⌝ }
+{
+    let long1 = is_long(sizes.area1, sizes.states, STATE_WIDTH);
+    let long2 = is_long(sizes.area2, sizes.rules, RULE_WIDTH);
+    let long3 = is_long(sizes.area3, sizes.entries, ENTRY_WIDTH);
+    let long4 = is_long(sizes.area4, sizes.text, 1);
+    let long5 = is_long(sizes.area5, sizes.expected, EXPECTED_WIDTH);
+    let few = good_counts(sizes.states, sizes.rules);
+    long1 & long2 & long3 & long4 & long5 & few
+}
+
+// Area 4 and the source are asked for their lengths alone.
+fn good_records(sizes: Sizes, area1: &[u8], area2: &[u8], area3: &[u8], area5: &[u8]) -> bool
+    requires { ⌜ AreasLong sizes (now area1) (now area2) (now area3) (now area5) ⌝ }
+    ensures { λ r. ⌜
+        r ≡ goodRecords sizes
+        (contents stateFormat (before area1) (sizes .states))
+        (contents ruleFormat (before area2) (sizes .rules))
+        (contents entryFormat (before area3) (sizes .entries))
+        (contents expectedFormat (before area5) (sizes .expected))
+        ⌝ }
+{
+    let states = good_states(sizes, area1);
+    let rules = good_rules(sizes, area2);
+    let entries = good_entries(area3, sizes.entries, sizes.states);
+    let names = good_names(sizes, area5);
+    states & rules & entries & names
+}
+
+fn sizes_of(
     src: &[u8],
     area1: &[u8],
     area2: &[u8],
     area3: &[u8],
     area4: &[u8],
     area5: &[u8],
-    m: Counts,
-) -> bool
-    ensures { λ r. ⌜ r ≡ longEnough (sheetBytes (now (src .entry)) (now (area1 .entry)) (now (area2 .entry)) (now (area3 .entry)) (now (area4 .entry)) (now (area5 .entry)) (listed m)) ⌝ }
+    counts: &[u16; 6],
+) -> Sizes
+    ensures { λ r. ⌜ r ≡ sizesOf (sheetIn src area1 area2 area3 area4 area5 counts) ⌝ }
 {
-    (m.states as usize * STATE_WIDTH <= area1.len())
-        & (m.rules as usize * RULE_WIDTH <= area2.len())
-        & (m.entries as usize * ENTRY_WIDTH <= area3.len())
-        & (m.text as usize <= area4.len())
-        & (m.expected as usize * EXPECTED_WIDTH <= area5.len())
-}
-
-fn good_contents(
-    src: &[u8],
-    area1: &[u8],
-    area2: &[u8],
-    area3: &[u8],
-    area4: &[u8],
-    area5: &[u8],
-    m: Counts,
-) -> bool
-    requires { ⌜ longEnough (sheetBytes (now src) (now area1) (now area2) (now area3) (now area4) (now area5) (listed m)) ≡ true ⌝ }
-    ensures { λ r. ⌜ r ≡ goodContents (length (now (src .entry))) (decoded (sheetBytes (now (src .entry)) (now (area1 .entry)) (now (area2 .entry)) (now (area3 .entry)) (now (area4 .entry)) (now (area5 .entry)) (listed m))) ⌝ }
-{
-    let n = src.len();
-    let entries = m.entries as usize;
-    let text = m.text as usize;
-    let few = (1 <= m.states)
-        & (m.states as usize <= MOST_STATES)
-        & (m.rules as usize <= MOST_RULES);
-    let good1 = good_states(area1, m.states, n);
-    let good2 = good_rules(area2, m.rules, n, m.states, entries, text);
-    let good3 = good_entries(area3, m.entries, m.states);
-    let good5 = good_names(area5, m.expected, n);
-    few & good1 & good2 & good3 & good5
-}
-
-// The lengths first, so that every record may be read.
-fn check_counted(
-    src: &[u8],
-    area1: &[u8],
-    area2: &[u8],
-    area3: &[u8],
-    area4: &[u8],
-    area5: &[u8],
-    m: Counts,
-) -> bool
-    ensures { λ r. ⌜ r ≡ sheetCheck (sheetBytes (now (src .entry)) (now (area1 .entry)) (now (area2 .entry)) (now (area3 .entry)) (now (area4 .entry)) (now (area5 .entry)) (listed m)) ⌝ }
-{
-    if long_enough(src, area1, area2, area3, area4, area5, m) {
-        return good_contents(src, area1, area2, area3, area4, area5, m);
-    }
-    false
-}
-
-fn counted(states: u16, rules: u16, entries: u16, text: u16, expected: u16) -> Counts
-    ensures { λ r. ⌜ listed r ≡ states ∷ rules ∷ entries ∷ text ∷ expected ∷ [] ⌝ }
-{
-    Counts {
-        states: states,
-        rules: rules,
-        entries: entries,
-        text: text,
-        expected: expected,
+    Sizes {
+        source: src.len(),
+        area1: area1.len(),
+        area2: area2.len(),
+        area3: area3.len(),
+        area4: area4.len(),
+        area5: area5.len(),
+        states: counts[0],
+        rules: counts[1],
+        entries: counts[2],
+        text: counts[3],
+        expected: counts[4],
     }
 }
 
-// Whether what the host hands in is a sheet.
+// Whether what the host hands in is a sheet. The sizes first, so that every record may be read.
 pub fn check(
     src: &[u8],
     area1: &[u8],
@@ -235,8 +222,11 @@ pub fn check(
     area5: &[u8],
     counts: &[u16; 6],
 ) -> bool
-    ensures { λ r. ⌜ r ≡ sheetCheck (sheetBytes (now (src .entry)) (now (area1 .entry)) (now (area2 .entry)) (now (area3 .entry)) (now (area4 .entry)) (now (area5 .entry)) (now (counts .entry))) ⌝ }
+    ensures { λ r. ⌜ r ≡ sheetCheck (sheetIn src area1 area2 area3 area4 area5 counts) ⌝ }
 {
-    let m = counted(counts[0], counts[1], counts[2], counts[3], counts[4]);
-    check_counted(src, area1, area2, area3, area4, area5, m)
+    let sizes = sizes_of(src, area1, area2, area3, area4, area5, counts);
+    if good_sizes(sizes) {
+        return good_records(sizes, area1, area2, area3, area5);
+    }
+    false
 }

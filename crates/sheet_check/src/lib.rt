@@ -7,3 +7,19 @@ pub enum Located {
     Part(u16, u16, u16),
     BrokenSheet,
 }
+
+// The lengths of the source and of areas 1 to 5, and the counts of the areas. They are handed on by value, so that the check gets only the
+// areas that it reads, and products of counts are known to fit.
+pub struct Sizes {
+    pub source: usize,
+    pub area1: usize,
+    pub area2: usize,
+    pub area3: usize,
+    pub area4: usize,
+    pub area5: usize,
+    pub states: u16,
+    pub rules: u16,
+    pub entries: u16,
+    pub text: u16,
+    pub expected: u16,
+}

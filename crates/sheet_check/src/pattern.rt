@@ -1,7 +1,7 @@
 // The pattern call (01, Areas, 4): the text of a rule, borrowed from the source or from the rewritten text, whichever its place names.
 ghost use mathlib.Core.Path.{_≡_};
 ghost use denote.Ref.{ptr};
-ghost use Rattle.sheet_check.specs.SheetCheck.{sheetBytes};
+ghost use Rattle.sheet_check.specs.Contracts.{sheetIn};
 ghost use Rattle.sheet_check.specs.Pattern.{patternPart, patternCall, handed, numberOf};
 use crate::Located;
 use crate::check::check;
@@ -20,7 +20,7 @@ pub fn locate(
     counts: &[u16; 6],
     rule: u64,
 ) -> Located
-    ensures { λ r. ⌜ r ≡ patternPart (sheetBytes (now (src .entry)) (now (area1 .entry)) (now (area2 .entry)) (now (area3 .entry)) (now (area4 .entry)) (now (area5 .entry)) (now (counts .entry))) rule ⌝ }
+    ensures { λ r. ⌜ r ≡ patternPart (sheetIn src area1 area2 area3 area4 area5 counts) rule ⌝ }
 {
     if check(src, area1, area2, area3, area4, area5, counts) {
         if rule < wide(counts[1]) {
@@ -48,7 +48,10 @@ pub fn pattern<'a>(
     counts: &[u16; 6],
     rule: u64,
 ) -> &'a [u8]
-    ensures { λ r. ⌜ handed (ptr r) (now r) ≡ patternCall (ptr (src .entry)) (ptr (area4 .entry)) (sheetBytes (now (src .entry)) (now (area1 .entry)) (now (area2 .entry)) (now (area3 .entry)) (now (area4 .entry)) (now (area5 .entry)) (now (counts .entry))) rule ⌝ }
+    ensures { λ r. ⌜
+        handed (ptr r) (now r)
+        ≡ patternCall (ptr (src .entry)) (ptr (area4 .entry)) (sheetIn src area1 area2 area3 area4 area5 counts) rule
+        ⌝ }
 {
     match locate(src, area1, area2, area3, area4, area5, counts, rule) {
         Located::Part(place, from, length) => {
@@ -74,7 +77,7 @@ pub fn pattern_test(
     counts: &[u16; 6],
     rule: u64,
 ) -> u64
-    ensures { λ r. ⌜ r ≡ numberOf (patternPart (sheetBytes (now (src .entry)) (now (area1 .entry)) (now (area2 .entry)) (now (area3 .entry)) (now (area4 .entry)) (now (area5 .entry)) (now (counts .entry))) rule) ⌝ }
+    ensures { λ r. ⌜ r ≡ numberOf (patternPart (sheetIn src area1 area2 area3 area4 area5 counts) rule) ⌝ }
 {
     match locate(src, area1, area2, area3, area4, area5, counts, rule) {
         Located::Part(place, from, length) => ACCEPTED as u64,

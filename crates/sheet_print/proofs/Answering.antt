@@ -7,6 +7,7 @@ use native.Mathlib.Nat.{le-refl}
 use native.Mathlib.Omega.{arith}
 use lib.ListN.{length, getD, length-append}
 use borrow.Author.Needs.{needs}
+use Rattle.answers.specs.Numbers.{longFileNumber, unknownFlagNumber, invalidUtf8Number}
 use Rattle.area.specs.declared.State.{State}
 use Rattle.area.specs.declared.Rule.{Rule}
 use Rattle.area.specs.declared.Fault.{Fault}
@@ -19,9 +20,10 @@ use Rattle.area.proofs.Fields.{bytes-length}
 use Rattle.parse.specs.declared.Answer.{Answer}
 use Rattle.parse.specs.declared.Answer.the-variants.{Accepted, LongFile, UnknownFlag, InvalidUtf8, AreaFull, FaultyFile}
 use Rattle.parse.specs.Parse.{Left, left, leaves, Outcome, Caps, caps, longFile, unknownFlag, invalidUtf8, areaFull, faulty, accepted, outcome, parseCall}
-use Rattle.sheet_print.specs.Output.{Appends, Written}
-use Rattle.sheet_print.specs.Lines.{joined, stateLine, ruleLine, faultLine, statesIn, rulesIn, faultsIn, sheetIn, refusedLine, fullLine, answerText, textOf, sheetText, lent}
-use Rattle.sheet_print.proofs.Appending.{appends-first}
+use Rattle.output.specs.Output.{Appends, Written, joined}
+use Rattle.output.proofs.Appending.{appends-first}
+use Rattle.sheet_lines.specs.Lines.{stateLine, ruleLine, faultLine, stateLines, ruleLines, faultLines, sheetLines, refusedLine, fullLine}
+use Rattle.sheet_print.specs.Lines.{answerText, textOf, sheetText, lent}
 
 -- ---- the lines of an answer
 
@@ -29,19 +31,19 @@ module _ (s : List ℕ) (a : Answer) (states rules : ℕ) (l1 l2 l6 : List ℕ) 
   said : (b : Answer) → a ≡ b → Appends (answerText s b states rules l1 l2 l6) l 0 e r → Written (answerText s a states rules l1 l2 l6) e r
   said b z p = subst (λ (x : Answer). Written (answerText s x states rules l1 l2 l6) e r) (sym z) (appends-first p)
 
-  pub answer-accepted : a ≡ Accepted → Appends (sheetIn s l1 states l2 rules) l 0 e r → Written (answerText s a states rules l1 l2 l6) e r
+  pub answer-accepted : a ≡ Accepted → Appends (sheetLines s l1 states l2 rules) l 0 e r → Written (answerText s a states rules l1 l2 l6) e r
   unfolding answerText
   answer-accepted z p = said Accepted z p
 
-  pub answer-long-file : a ≡ LongFile → Appends (refusedLine 1) l 0 e r → Written (answerText s a states rules l1 l2 l6) e r
+  pub answer-long-file : a ≡ LongFile → Appends (refusedLine longFileNumber) l 0 e r → Written (answerText s a states rules l1 l2 l6) e r
   unfolding answerText
   answer-long-file z p = said LongFile z p
 
-  pub answer-unknown-flag : a ≡ UnknownFlag → Appends (refusedLine 2) l 0 e r → Written (answerText s a states rules l1 l2 l6) e r
+  pub answer-unknown-flag : a ≡ UnknownFlag → Appends (refusedLine unknownFlagNumber) l 0 e r → Written (answerText s a states rules l1 l2 l6) e r
   unfolding answerText
   answer-unknown-flag z p = said UnknownFlag z p
 
-  pub answer-invalid-utf8 : a ≡ InvalidUtf8 → Appends (refusedLine 3) l 0 e r → Written (answerText s a states rules l1 l2 l6) e r
+  pub answer-invalid-utf8 : a ≡ InvalidUtf8 → Appends (refusedLine invalidUtf8Number) l 0 e r → Written (answerText s a states rules l1 l2 l6) e r
   unfolding answerText
   answer-invalid-utf8 z p = said InvalidUtf8 z p
 
@@ -49,7 +51,7 @@ module _ (s : List ℕ) (a : Answer) (states rules : ℕ) (l1 l2 l6 : List ℕ) 
   unfolding answerText
   answer-full area z p = said (AreaFull area) z p
 
-  pub answer-faulty : (spans : ℕ) → a ≡ FaultyFile spans → Appends (faultsIn l6 spans) l 0 e r → Written (answerText s a states rules l1 l2 l6) e r
+  pub answer-faulty : (spans : ℕ) → a ≡ FaultyFile spans → Appends (faultLines l6 spans) l 0 e r → Written (answerText s a states rules l1 l2 l6) e r
   unfolding answerText
   answer-faulty spans z p = said (FaultyFile spans) z p
 
@@ -81,16 +83,16 @@ joined-same f g zero h = refl
 joined-same f g (suc n) h = ap₂ (λ (a b : List ℕ). a ++ b) (joined-same f g n (λ k q. h k (omega arith))) (h n (omega arith))
 
 module _ (s : List ℕ) (cap : ℕ) (l : List ℕ) (g : length l ≡ cap) where
-  states-told : (xs : List State) → l ≡ laid stateFormat cap xs → statesIn s l (length xs) ≡ joined (λ k. stateLine s k (nthState xs k)) (length xs)
-  unfolding statesIn
+  states-told : (xs : List State) → l ≡ laid stateFormat cap xs → stateLines s l (length xs) ≡ joined (λ k. stateLine s k (nthState xs k)) (length xs)
+  unfolding stateLines
   states-told xs e = joined-same _ _ (length xs) (λ k h. ap (stateLine s k) (laid-read stateFormat state-sound xs cap l e g k h))
 
-  rules-told : (xs : List Rule) → l ≡ laid ruleFormat cap xs → rulesIn l (length xs) ≡ joined (λ k. ruleLine k (nthRule xs k)) (length xs)
-  unfolding rulesIn
+  rules-told : (xs : List Rule) → l ≡ laid ruleFormat cap xs → ruleLines l (length xs) ≡ joined (λ k. ruleLine k (nthRule xs k)) (length xs)
+  unfolding ruleLines
   rules-told xs e = joined-same _ _ (length xs) (λ k h. ap (ruleLine k) (laid-read ruleFormat rule-sound xs cap l e g k h))
 
-  faults-told : (xs : List Fault) → l ≡ laid faultFormat cap xs → faultsIn l (length xs) ≡ joined (λ k. faultLine (nthFault xs k)) (length xs)
-  unfolding faultsIn
+  faults-told : (xs : List Fault) → l ≡ laid faultFormat cap xs → faultLines l (length xs) ≡ joined (λ k. faultLine (nthFault xs k)) (length xs)
+  unfolding faultLines
   faults-told xs e = joined-same _ _ (length xs) (λ k h. ap faultLine (laid-read faultFormat fault-sound xs cap l e g k h))
 
 -- ---- what the call leaves tells the outcome
@@ -106,7 +108,7 @@ record Kept (k : Caps) (y : Left) : Type 0 where
   pub six : length (y .area6) ≡ k .c6
 
 leaves-tells : (s : List ℕ) (k : Caps) (o : Outcome) → Kept k (leaves k o) → tells s (leaves k o) ≡ textOf s o
-unfolding leaves textOf answerText sheetIn
+unfolding leaves textOf answerText sheetLines
 leaves-tells s k longFile h = refl
 leaves-tells s k unknownFlag h = refl
 leaves-tells s k invalidUtf8 h = refl

@@ -1,54 +1,21 @@
 // What the parse call makes of a file, as lines of text (01, Files to try, the end).
-mod lines;
-pub mod output;
-
 ghost use Prim.Native.Nat.{_≤_};
 ghost use lib.ListN.{length, getD};
-ghost use Rattle.sheet_print.specs.Output.{Appends, Written, AllWritten};
-ghost use Rattle.sheet_print.specs.Lines.{refusedLine, fullLine, sheetIn, answerText, sheetText, sheetRoom};
-use lines::put_faults;
-use lines::put_rules;
-use lines::put_states;
-use output::put_field;
-use output::put_line_end;
-use output::put_text;
+ghost use Rattle.output.specs.Contracts.{before, after};
+ghost use Rattle.output.specs.Output.{Written, AllWritten};
+ghost use Rattle.sheet_print.specs.Lines.{answerText, sheetText, sheetRoom};
+use answers::INVALID_UTF8;
+use answers::LONG_FILE;
+use answers::UNKNOWN_FLAG;
 use parse::Answer;
 use parse::call::parse;
+use sheet_lines::put_faults;
+use sheet_lines::put_full;
+use sheet_lines::put_refused;
+use sheet_lines::put_sheet;
 
 // The room that `sheet` asks for.
 pub const SHEET_ROOM: usize = 262527;
-
-fn put_refused(out: &mut [u8], n: usize, number: u16) -> usize
-    ensures { λ r. ⌜ Appends (refusedLine number) (now (out .entry)) n (now (out .exit)) r ⌝ }
-{
-    let n = put_text(out, n, b"refused");
-    let n = put_field(out, n, number);
-    put_line_end(out, n)
-}
-
-fn put_full(out: &mut [u8], n: usize, area: u16) -> usize
-    ensures { λ r. ⌜ Appends (fullLine area) (now (out .entry)) n (now (out .exit)) r ⌝ }
-{
-    let n = put_text(out, n, b"refused");
-    let n = put_field(out, n, 4);
-    let n = put_field(out, n, area);
-    put_line_end(out, n)
-}
-
-fn put_sheet(
-    out: &mut [u8],
-    n: usize,
-    src: &[u8],
-    states: u16,
-    area1: &[u8],
-    rules: u16,
-    area2: &[u8],
-) -> usize
-    ensures { λ r. ⌜ Appends (sheetIn (now (src .entry)) (now (area1 .entry)) states (now (area2 .entry)) rules) (now (out .entry)) n (now (out .exit)) r ⌝ }
-{
-    let n = put_states(out, n, src, area1, states);
-    put_rules(out, n, area2, rules)
-}
 
 // The lines that an answer and the areas come to.
 fn put_answer(
@@ -60,13 +27,16 @@ fn put_answer(
     area2: &[u8],
     area6: &[u8],
 ) -> usize
-    ensures { λ r. ⌜ Written (answerText (now (src .entry)) answer (getD counts 0 0) (getD counts 1 0) (now (area1 .entry)) (now (area2 .entry)) (now (area6 .entry))) (now (out .exit)) r ⌝ }
+    ensures { λ r. ⌜
+        Written (answerText (before src) answer (getD counts 0 0) (getD counts 1 0) (before area1) (before area2) (before area6))
+        (after out) r
+        ⌝ }
 {
     match answer {
         Answer::Accepted => put_sheet(out, 0, src, counts[0], area1, counts[1], area2),
-        Answer::LongFile => put_refused(out, 0, 1),
-        Answer::UnknownFlag => put_refused(out, 0, 2),
-        Answer::InvalidUtf8 => put_refused(out, 0, 3),
+        Answer::LongFile => put_refused(out, 0, LONG_FILE),
+        Answer::UnknownFlag => put_refused(out, 0, UNKNOWN_FLAG),
+        Answer::InvalidUtf8 => put_refused(out, 0, INVALID_UTF8),
         Answer::AreaFull(area) => put_full(out, 0, area),
         Answer::FaultyFile(spans) => put_faults(out, 0, area6, spans),
     }
@@ -75,7 +45,7 @@ fn put_answer(
 // All lines of a file with flags 0 and no verdicts, and how many bytes they have.
 pub fn sheet(src: &[u8], out: &mut [u8]) -> usize
     requires { ⌜ sheetRoom ≤ length (now out) ⌝ }
-    ensures { λ r. ⌜ AllWritten (sheetText (now (src .entry))) (now (out .exit)) r ⌝ }
+    ensures { λ r. ⌜ AllWritten (sheetText (before src)) (after out) r ⌝ }
 {
     let mut counts = [0u16; 6];
     let mut area1 = [0u8; 384];

@@ -1,7 +1,7 @@
 // The calls of the host, as C functions (01, Numbers given at the counter). An answer is one word of four two-byte fields: its number, then its values.
 ghost use mathlib.Core.Path.{_≡_};
 ghost use Rattle.parse.specs.Parse.{parseCall, parseWord};
-ghost use Rattle.run.specs.Contracts.{before};
+ghost use Rattle.sheet_check.specs.Contracts.{before};
 ghost use Rattle.troymantle.specs.Words.{inWords};
 ghost use Rattle.troymantle.specs.Contracts.{roomIn, leftIn};
 use answers::ACCEPTED;

@@ -1,5 +1,5 @@
 -- `file_cases::show` meets its contract: the bytes that are lent lie within the buffer.
-use Rattle.sheet_print.proofs.Counting.{counting}
+use Rattle.output.proofs.Counting.{buffer-prefixes}
 use Rattle.file_cases.proofs.show.Statement.{statement}
 use Rattle.file_cases.proofs.show.Tie as tie
 
@@ -7,11 +7,11 @@ pub show-spec : {M : Type 1} → statement M
 show-spec =
     tie.close
     (tie.spec
-    (λ c. search counting)
-    (λ c κs. search counting)
-    (λ c. search counting)
-    (λ c κs. search counting)
-    (λ c. search counting)
-    (λ c. search counting)
-    (λ c κs. search counting)
-    (λ c. search counting))
+    (λ c. search buffer-prefixes)
+    (λ c κs. search buffer-prefixes)
+    (λ c. search buffer-prefixes)
+    (λ c κs. search buffer-prefixes)
+    (λ c. search buffer-prefixes)
+    (λ c. search buffer-prefixes)
+    (λ c κs. search buffer-prefixes)
+    (λ c. search buffer-prefixes))

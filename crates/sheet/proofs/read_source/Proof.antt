@@ -2,7 +2,7 @@
 use mathlib.Core.Path.{_≡_}
 use Prim.Native.Nat.{_-_, _≤_}
 use lib.ListN.{length}
-use Rattle.sheet_print.proofs.Counting.{counting}
+use Rattle.output.proofs.Counting.{buffer-prefixes}
 use Rattle.sheet.proofs.read_source.Statement.{statement}
 use Rattle.sheet.proofs.read_source.Tie as tie
 
@@ -18,19 +18,19 @@ read-source-spec =
     (tie.spec
     Inv-loop
     μ-loop
-    (λ c. search counting)
-    (λ c. search counting)
-    (λ c. search counting)
-    (λ c. search counting)
-    (λ c κs. search counting)
-    (λ c. search counting)
-    (λ c. search counting)
-    (λ c. search counting)
-    (λ c κs. search counting)
-    (λ c. search counting)
-    (λ c. search counting)
-    (λ c. search counting)
-    (λ c. search counting)
-    (λ c. search counting)
-    (λ c. search counting)
-    (λ c. search counting))
+    (λ c. search buffer-prefixes)
+    (λ c. search buffer-prefixes)
+    (λ c. search buffer-prefixes)
+    (λ c. search buffer-prefixes)
+    (λ c κs. search buffer-prefixes)
+    (λ c. search buffer-prefixes)
+    (λ c. search buffer-prefixes)
+    (λ c. search buffer-prefixes)
+    (λ c κs. search buffer-prefixes)
+    (λ c. search buffer-prefixes)
+    (λ c. search buffer-prefixes)
+    (λ c. search buffer-prefixes)
+    (λ c. search buffer-prefixes)
+    (λ c. search buffer-prefixes)
+    (λ c. search buffer-prefixes)
+    (λ c. search buffer-prefixes))

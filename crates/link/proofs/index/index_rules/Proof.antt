@@ -3,13 +3,14 @@ use mathlib.Core.Path.{_≡_}
 use Prim.Native.Nat.{_≤_, _-_}
 use native.Mathlib.Omega.{arith}
 use lib.ListN.{length}
+use Rattle.names.specs.Names.{nameOf}
 use Rattle.link.specs.Index.{RuleSlots}
 use Rattle.link.proofs.Slotting.{slotting-entries, slots-none, slots-skip, slots-set, rule-unnamed, rule-slotted, rules-indexed}
 use Rattle.link.proofs.index.index_rules.Statement.{statement}
 use Rattle.link.proofs.index.index_rules.Tie as tie
 
 abbrev Inv-loop : tie.InvT-loop
-Inv-loop src area count slots₀ k₀ slots k = (k ≤ count) × (length slots ≡ length slots₀) × RuleSlots src area count k slots
+Inv-loop src area count slots₀ k₀ slots k = (k ≤ count) × (length slots ≡ length slots₀) × RuleSlots (nameOf src) area count k slots
 
 abbrev μ-loop : tie.MeasureT-loop
 μ-loop src area count slots₀ k₀ slots k = count - k
@@ -18,16 +19,16 @@ loop-holds : tie.Need-loop-holds Inv-loop μ-loop
 loop-holds c = (search slotting-entries, search slotting-entries, slots-none _ _ _ (c .before .before .before .pre .1))
 
 loop-again : tie.Need-loop-again Inv-loop μ-loop
-loop-again c = (search slotting-entries, search slotting-entries, slots-skip _ _ (c .before .before .before .before .loop .inv .2) (rule-unnamed (c .before .before .before .before .before .before .before .before .args .src .now) _ (c .before .before .before .before .before .before .before .before .args .count) _ (search slotting-entries) _ (c .before .before .read-rule .ensures) (c .if1 .taken)))
+loop-again c = (search slotting-entries, search slotting-entries, slots-skip _ _ (c .before .before .before .before .loop .inv .2) (rule-unnamed _ (c .before .before .before .before .before .before .before .before .args .count) _ (search slotting-entries) _ (c .before .before .read-rule .ensures) (c .if1 .taken)))
 
 slice-write-slots : tie.Need-slice-write-slots Inv-loop μ-loop
 slice-write-slots c = omega (arith, c .rule-slot .ensures .small, c .before .before .before .before .before .loop .inv .2 .long)
 
 loop-again-2 : tie.Need-loop-again-2 Inv-loop μ-loop
-loop-again-2 c = (search slotting-entries, search slotting-entries, slots-set _ _ (c .before .before .before .before .before .loop .inv .2) _ (rule-slotted _ _ (c .before .before .before .before .before .before .before .before .before .args .count) _ (search slotting-entries) _ (c .before .before .before .read-rule .ensures) _ (c .rule-slot .ensures)))
+loop-again-2 c = (search slotting-entries, search slotting-entries, slots-set _ _ (c .before .before .before .before .before .loop .inv .2) _ (rule-slotted _ (c .before .before .before .before .before .before .before .before .before .args .count) _ (search slotting-entries) _ (c .before .before .before .read-rule .ensures) (nameOf _) _ (c .rule-slot .ensures)))
 
 returns : tie.Need-returns Inv-loop μ-loop
-returns c = rules-indexed _ _ _ _ _ (search slotting-entries) (search slotting-entries) (c .before .loop .inv .2)
+returns c = rules-indexed (nameOf _) _ _ _ _ (search slotting-entries) (search slotting-entries) (c .before .loop .inv .2)
 
 pub index-rules-spec : {M : Type 1} → statement M
 index-rules-spec =

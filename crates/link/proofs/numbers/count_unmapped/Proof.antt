@@ -2,6 +2,7 @@
 use mathlib.Core.Path.{_≡_}
 use Prim.Native.Nat.{_≤_, _-_}
 use lib.ListN.{length}
+use Rattle.names.specs.Names.{nameOf}
 use Rattle.link.specs.Map.{entriesOf}
 use Rattle.link.specs.Link.{isUnmapped}
 use Rattle.area.specs.Lists.{numbers}
@@ -10,7 +11,7 @@ use Rattle.link.proofs.numbers.count_unmapped.Statement.{statement}
 use Rattle.link.proofs.numbers.count_unmapped.Tie as tie
 
 abbrev Inv-loop : tie.InvT-loop
-Inv-loop src area count names entries slots n₀ k₀ n k = (k ≤ count) × (n ≤ k) × (n ≡ length (numbers (unmappedAt src (entriesOf names entries) area count) k))
+Inv-loop src area count names entries slots n₀ k₀ n k = (k ≤ count) × (n ≤ k) × (n ≡ length (numbers (unmappedAt (nameOf src) (entriesOf names entries) area count) k))
 
 abbrev μ-loop : tie.MeasureT-loop
 μ-loop src area count names entries slots n₀ k₀ n k = count - k

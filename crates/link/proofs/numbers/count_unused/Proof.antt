@@ -2,6 +2,7 @@
 use mathlib.Core.Path.{_≡_}
 use Prim.Native.Nat.{_≤_, _-_}
 use lib.ListN.{length}
+use Rattle.names.specs.Names.{nameOf}
 use Rattle.link.specs.Map.{entryCount}
 use Rattle.area.specs.Lists.{numbers}
 use Rattle.link.proofs.Counting.{counting, unusedAt, unused-is, count-yes, count-no, counted, entry-fails, entry-passes}
@@ -9,7 +10,7 @@ use Rattle.link.proofs.numbers.count_unused.Statement.{statement}
 use Rattle.link.proofs.numbers.count_unused.Tie as tie
 
 abbrev Inv-loop : tie.InvT-loop
-Inv-loop src area count slots names entries most n₀ j₀ n j = (j ≤ entryCount entries) × (n ≤ j) × (n ≡ length (numbers (unusedAt src names entries area count) j))
+Inv-loop src area count slots names entries most n₀ j₀ n j = (j ≤ entryCount entries) × (n ≤ j) × (n ≡ length (numbers (unusedAt (nameOf src) names entries area count) j))
 
 abbrev μ-loop : tie.MeasureT-loop
 μ-loop src area count slots names entries most n₀ j₀ n j = entryCount entries - j

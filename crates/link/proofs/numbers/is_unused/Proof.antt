@@ -4,6 +4,7 @@ use mathlib.Core.Bool.{true, not}
 use Prim.Native.Nat.{_≤_, _-_}
 use Rattle.area.specs.Contents.{contents, ruleFormat}
 use Rattle.area.specs.Lists.{all}
+use Rattle.names.specs.Names.{nameOf}
 use Rattle.link.specs.Map.{entriesOf, nth}
 use Rattle.link.specs.Link.{hasThatName}
 use Rattle.link.proofs.Counting.{asking-entries, unused-next}
@@ -11,7 +12,7 @@ use Rattle.link.proofs.numbers.is_unused.Statement.{statement}
 use Rattle.link.proofs.numbers.is_unused.Tie as tie
 
 abbrev Inv-loop : tie.InvT-loop
-Inv-loop src area count names entries j k₀ k = (k ≤ count) × (all (λ x. not (hasThatName src (nth (entriesOf names entries) j .name) x)) (contents ruleFormat area k) ≡ true)
+Inv-loop src area count names entries j k₀ k = (k ≤ count) × (all (λ x. not (hasThatName (nameOf src) (nth (entriesOf names entries) j .name) x)) (contents ruleFormat area k) ≡ true)
 
 abbrev μ-loop : tie.MeasureT-loop
 μ-loop src area count names entries j k₀ k = count - k

@@ -3,13 +3,14 @@ use mathlib.Core.Path.{_≡_}
 use Prim.Native.Nat.{_≤_, _-_}
 use native.Mathlib.Omega.{arith}
 use lib.ListN.{length}
+use Rattle.names.specs.Names.{nameOf}
 use Rattle.link.specs.Map.{entryCount}
 use Rattle.link.proofs.Counting.{counting, unusedAt, unused-is, Written, written-none, written-no, written-fits, written-yes, written-list, numbers-fit, entry-fails, entry-passes}
 use Rattle.link.proofs.numbers.write_unused.Statement.{statement}
 use Rattle.link.proofs.numbers.write_unused.Tie as tie
 
 abbrev Inv-loop : tie.InvT-loop
-Inv-loop src area count slots names entries into₀ most n₀ j₀ into n j = (j ≤ entryCount entries) × (n ≤ j) × (length into ≡ length into₀) × Written (unusedAt src names entries area count) (length into₀) into n j
+Inv-loop src area count slots names entries into₀ most n₀ j₀ into n j = (j ≤ entryCount entries) × (n ≤ j) × (length into ≡ length into₀) × Written (unusedAt (nameOf src) names entries area count) (length into₀) into n j
 
 abbrev μ-loop : tie.MeasureT-loop
 μ-loop src area count slots names entries into₀ most n₀ j₀ into n j = entryCount entries - j

@@ -4,13 +4,14 @@ use Prim.Native.Nat.{_≤_, _-_}
 use native.Mathlib.Omega.{arith}
 use borrow.Author.Needs.{needs}
 use lib.ListN.{length}
+use Rattle.names.specs.Names.{nameOf}
 use Rattle.link.specs.Map.{entriesOf}
 use Rattle.link.proofs.LinkedRules.{linking-rules, linkedTo, rules-next}
 use Rattle.link.proofs.rule_ids.link_rules.Statement.{statement}
 use Rattle.link.proofs.rule_ids.link_rules.Tie as tie
 
 abbrev Inv-loop : tie.InvT-loop
-Inv-loop src area₀ count names entries slots k₀ area k = (k ≤ count) × (length area ≡ length area₀) × (area ≡ linkedTo src (entriesOf names entries) area₀ k)
+Inv-loop src area₀ count names entries slots k₀ area k = (k ≤ count) × (length area ≡ length area₀) × (area ≡ linkedTo (nameOf src) (entriesOf names entries) area₀ k)
 
 abbrev μ-loop : tie.MeasureT-loop
 μ-loop src area₀ count names entries slots k₀ area k = count - k

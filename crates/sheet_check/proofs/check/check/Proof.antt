@@ -1,18 +1,28 @@
--- `sheet_check::check::check` meets its contract: the five numbers are the counts that the check reads.
+-- `sheet_check::check::check` meets its contract: the sizes and the records are good, or they are not.
 use borrow.Author.Needs.{needs}
-use Rattle.sheet_check.proofs.Judging.{check-listed}
+use Rattle.sheet_check.specs.SheetCheck.{SheetBytes, sheetBytes}
+use Rattle.sheet_check.proofs.Judging.{check-long, check-good, check-short}
 use Rattle.sheet_check.proofs.check.check.Statement.{statement}
 use Rattle.sheet_check.proofs.check.check.Tie as tie
+
+-- the sheet that is lent
+abbrev sheet : tie.Start → SheetBytes
+sheet c =
+    sheetBytes (c .args .src .now) (c .args .area1 .now) (c .args .area2 .now) (c .args .area3 .now) (c .args .area4 .now) (c .args .area5 .now)
+    (c .args .counts .now)
+
+abbrev start : tie.Then1 → tie.Start
+start c = c .before .before .before .before .before .before .before .before .before
+
+good-records-requires : tie.Need-good-records-requires
+good-records-requires c κs = check-long (sheet (start c)) _ (c .before .before .sizes-of .ensures) _ (c .before .good-sizes .ensures) (c .if1 .taken)
 
 pub check-spec : {M : Type 1} → statement M
 check-spec =
     tie.close
     (tie.spec
-    (λ c. search needs)
-    (λ c. search needs)
-    (λ c. search needs)
-    (λ c. search needs)
-    (λ c. search needs)
     (λ c κs. search needs)
     (λ c κs. search needs)
-    (λ c. check-listed _ _ _ _ _ _ _ _ _ (c .check-counted .ensures) (c .before .counted .ensures)))
+    good-records-requires
+    (λ c. check-good _ _ (c .before .before .before .sizes-of .ensures) _ (c .before .before .good-sizes .ensures) _ (c .before .if1 .taken) (c .good-records .ensures))
+    (λ c. check-short _ _ (c .before .before .sizes-of .ensures) _ (c .before .good-sizes .ensures) (c .if1 .left)))

@@ -9,10 +9,10 @@ use Rattle.sheet_check.proofs.check.good_names.Statement.{statement}
 use Rattle.sheet_check.proofs.check.good_names.Tie as tie
 
 abbrev Inv-loop : tie.InvT-loop
-Inv-loop area count n most good₀ k₀ good k = (k ≤ count) × (good ≡ all (goodExpected n) (contents expectedFormat area k))
+Inv-loop sizes area most good₀ k₀ good k = (k ≤ sizes .expected) × (good ≡ all (goodExpected sizes) (contents expectedFormat area k))
 
 abbrev μ-loop : tie.MeasureT-loop
-μ-loop area count n most good₀ k₀ good k = count - k
+μ-loop sizes area most good₀ k₀ good k = sizes .expected - k
 
 loop-again : tie.Need-loop-again Inv-loop μ-loop
 loop-again c = (search judging, all-next expectedFormat _ _ _ _ _ _ (c .before .before .before .loop .inv .1) (c .before .read-expected .ensures) (c .good-expected .ensures))
@@ -23,6 +23,7 @@ good-names-spec =
     (tie.spec
     Inv-loop
     μ-loop
+    (λ c. search judging)
     (λ c. search judging)
     (λ c κs. search judging)
     (λ c κs. search judging)

@@ -9,10 +9,10 @@ use Rattle.sheet_check.proofs.check.good_rules.Statement.{statement}
 use Rattle.sheet_check.proofs.check.good_rules.Tie as tie
 
 abbrev Inv-loop : tie.InvT-loop
-Inv-loop area count n states entries text most good₀ k₀ good k = (k ≤ count) × (good ≡ all (goodRule n states entries text) (contents ruleFormat area k))
+Inv-loop sizes area most good₀ k₀ good k = (k ≤ sizes .rules) × (good ≡ all (goodRule sizes) (contents ruleFormat area k))
 
 abbrev μ-loop : tie.MeasureT-loop
-μ-loop area count n states entries text most good₀ k₀ good k = count - k
+μ-loop sizes area most good₀ k₀ good k = sizes .rules - k
 
 loop-again : tie.Need-loop-again Inv-loop μ-loop
 loop-again c = (search judging, all-next ruleFormat _ _ _ _ _ _ (c .before .before .before .loop .inv .1) (c .before .read-rule .ensures) (c .good-rule .ensures))
@@ -23,6 +23,7 @@ good-rules-spec =
     (tie.spec
     Inv-loop
     μ-loop
+    (λ c. search judging)
     (λ c. search judging)
     (λ c κs. search judging)
     (λ c κs. search judging)

@@ -9,10 +9,10 @@ use Rattle.sheet_check.proofs.check.good_states.Statement.{statement}
 use Rattle.sheet_check.proofs.check.good_states.Tie as tie
 
 abbrev Inv-loop : tie.InvT-loop
-Inv-loop area count n most good₀ k₀ good k = (k ≤ count) × (good ≡ all (goodState n) (contents stateFormat area k))
+Inv-loop sizes area most good₀ k₀ good k = (k ≤ sizes .states) × (good ≡ all (goodState sizes) (contents stateFormat area k))
 
 abbrev μ-loop : tie.MeasureT-loop
-μ-loop area count n most good₀ k₀ good k = count - k
+μ-loop sizes area most good₀ k₀ good k = sizes .states - k
 
 loop-again : tie.Need-loop-again Inv-loop μ-loop
 loop-again c = (search judging, all-next stateFormat _ _ _ _ _ _ (c .before .before .before .loop .inv .1) (c .before .read-state .ensures) (c .good-state .ensures))
@@ -23,6 +23,7 @@ good-states-spec =
     (tie.spec
     Inv-loop
     μ-loop
+    (λ c. search judging)
     (λ c. search judging)
     (λ c κs. search judging)
     (λ c κs. search judging)

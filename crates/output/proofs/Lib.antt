@@ -1,0 +1,5 @@
+pub mod Appending
+pub mod Numbers
+pub mod AreaFields
+pub mod Counting
+pub mod Lengths

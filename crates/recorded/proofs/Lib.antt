@@ -1,0 +1,4 @@
+pub mod Reading
+pub mod Comparing
+pub mod Pieces
+pub mod Agreeing

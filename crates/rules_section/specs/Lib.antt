@@ -1,0 +1,2 @@
+pub mod RulesSection
+pub mod Answers

@@ -1,0 +1,24 @@
+-- A list of step calls on a sheet (01, The run).
+use Prim.Native.Nat.{ℕ}
+use mathlib.Core.List.{List, [], _∷_}
+use Rattle.sheet_check.specs.SheetCheck.{SheetBytes}
+use Rattle.run.specs.declared.Step.{Step}
+use Rattle.run.specs.Run.{Running, Input, RunLeft, stepCall}
+
+-- what they leave, each with the run as the one before it left it
+unfoldable pub calls : SheetBytes → Running → List Input → List (RunLeft Step)
+calls b x [] = []
+calls b x (i ∷ is) = let o : RunLeft Step = stepCall b x i in o ∷ calls b (o .after) is
+
+-- P holds of what each of them left
+unfoldable pub EachCall : (RunLeft Step → Type 0) → List (RunLeft Step) → Type 0
+EachCall P [] = Unit {0}
+EachCall P (o ∷ os) = P o × EachCall P os
+
+-- the run that the last of them left, where it was x before
+unfoldable pub lastRunning : Running → List (RunLeft Step) → Running
+lastRunning x [] = x
+lastRunning x (o ∷ os) = lastRunning (o .after) os
+
+abbrev pub lastPosition : Running → List (RunLeft Step) → ℕ
+lastPosition x os = lastRunning x os .run .position

@@ -1,0 +1,15 @@
+-- `sheet_check::check::good_records` meets its contract: each area is long enough to be read, and the tests of the areas are joined.
+use borrow.Author.Needs.{needs}
+use Rattle.sheet_check.proofs.Judging.{records-judged}
+use Rattle.sheet_check.proofs.check.good_records.Statement.{statement}
+use Rattle.sheet_check.proofs.check.good_records.Tie as tie
+
+pub good-records-spec : {M : Type 1} → statement M
+good-records-spec =
+    tie.close
+    (tie.spec
+    (λ c κs. search needs)
+    (λ c κs. search needs)
+    (λ c κs. search needs)
+    (λ c κs. search needs)
+    (λ c. search records-judged))
