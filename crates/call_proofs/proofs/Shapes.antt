@@ -7,7 +7,7 @@ use contract.Lifetimes.{Within}
 use denote.RattleType.{RattleType}
 use denote.Builtin.{u8, u64}
 use denote.Signature.{Slot, plain, shrRef, shrSlice, mutRef, mutSlice}
-use denote.Triple.End.{Kepts, all as each}
+use denote.Triple.End.{all as each}
 use denote.Exit.{yes}
 use Rattle.borrow_proofs.proofs.Parameters as P
 use Rattle.borrow_proofs.proofs.Parameters.{Params}

@@ -3,7 +3,7 @@
 use mathlib.Core.Path.{_≡_, sym, ap, subst, _∙_}
 use mathlib.Core.Bool.{Bool, true, false}
 use mathlib.Core.List.{List}
-use Prim.Native.Nat.{ℕ, _+_, _*_, _-_, _≤_, _<_}
+use Prim.Native.Nat.{ℕ, _-_, _≤_, _<_}
 use native.Mathlib.Omega.{arith}
 use borrow.Author.Needs.{needs}
 use borrow.Author.Tests.{le-leb, lt-leb, leb-true, eq-eqb, ne-eqb}
@@ -11,8 +11,8 @@ use lib.Dec.{leb}
 use lib.ListN.{length}
 use Rattle.text.proofs.Tests.{and-false}
 use Rattle.area.specs.declared.Rule.{Rule}
-use Rattle.area.specs.Records.{ruleAt, entryAt, entryWidth, nthRule}
-use Rattle.area.specs.Contents.{contents, stateFormat, ruleFormat, entryFormat}
+use Rattle.area.specs.Records.{ruleAt, entryAt, nthRule}
+use Rattle.area.specs.Contents.{contents, stateFormat, ruleFormat}
 use Rattle.sheet_check.specs.SheetCheck.{SheetBytes, count, decoded, sheetCheck}
 use Rattle.sheet_check.proofs.Judging.{contents-count}
 use Rattle.sheet_check.proofs.Checked.{contents-read, checked-long, checked-rule}

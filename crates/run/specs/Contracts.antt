@@ -1,33 +1,15 @@
--- What the contracts of the code speak of: parameters before the call and after it, the sheet and the lexer that are lent, and what a function may
--- rely on.
+-- What the contracts of the code speak of: the lexer that is lent, and what a function may rely on.
 use Prim.Native.Nat.{ℕ, _+_, _*_, _≤_, _<_}
 use mathlib.Core.List.{List}
 use lib.ListN.{length}
-use denote.Ref.{RefT, now}
-use denote.Triple.Both.{Both}
 use Rattle.area.specs.Records.{stateWidth, ruleWidth, entryWidth, ruleAt}
 use Rattle.area.specs.Contents.{contents, stateFormat, ruleFormat, entryFormat}
-use Rattle.sheet_check.specs.SheetCheck.{SheetBytes, sheetBytes}
+use Rattle.sheet_check.specs.Contracts.{Bytes, before}
 use Rattle.run.specs.declared.Run.{Run}
 use Rattle.run.specs.Winner.{Lexer}
 use Rattle.run.specs.Run.{mostBytes, movesOf}
 
--- ---- parameters
-
--- a parameter that is a slice, or a reference to an array
-abbrev pub Bytes : Type 0
-Bytes = Both (RefT (List ℕ)) (RefT (List ℕ))
-
-abbrev pub before : Bytes → List ℕ
-before p = now (p .entry)
-
-abbrev pub after : Bytes → List ℕ
-after p = now (p .exit)
-
--- the sheet, as it is lent
-abbrev pub sheetIn : Bytes → Bytes → Bytes → Bytes → Bytes → Bytes → Bytes → SheetBytes
-sheetIn src area1 area2 area3 area4 area5 counts =
-    sheetBytes (before src) (before area1) (before area2) (before area3) (before area4) (before area5) (before counts)
+-- ---- the lexer
 
 -- what areas 1, 2 and 3 hold, with so many states, rules and list entries
 abbrev pub lexerAt : List ℕ → List ℕ → List ℕ → ℕ → ℕ → ℕ → Lexer

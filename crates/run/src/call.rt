@@ -2,8 +2,9 @@
 ghost use mathlib.Core.Path.{_≡_};
 ghost use mathlib.Core.Bool.{true};
 ghost use Prim.Native.Nat.{_<_};
+ghost use Rattle.sheet_check.specs.Contracts.{before, after, sheetIn};
 ghost use Rattle.run.specs.Run.{running, input, runLeft, startCall, goodRun, fitsIn, goodRow, stepRow, stepRun, stepCall};
-ghost use Rattle.run.specs.Contracts.{before, after, sheetIn, lexerIn, Readable};
+ghost use Rattle.run.specs.Contracts.{lexerIn, Readable};
 use crate::Begun;
 use crate::BegunRun;
 use crate::MOST_BYTES;

@@ -1,15 +1,15 @@
 // The calls that a line names by its first letter, with the numbers behind it.
 ghost use Prim.Native.Nat.{_≤_};
-use crate::answers::say;
-use crate::answers::say_counts;
-use crate::answers::say_link;
-use crate::answers::say_parse;
-use crate::answers::say_run;
-use crate::answers::say_start;
-use crate::answers::say_step;
 use crate::numbers::line_at;
 use crate::numbers::number_at;
 use crate::numbers::read_numbers;
+use crate::printing::say;
+use crate::printing::say_counts;
+use crate::printing::say_link;
+use crate::printing::say_parse;
+use crate::printing::say_run;
+use crate::printing::say_start;
+use crate::printing::say_step;
 use area::write_field;
 use link::call::set_rule_ids_spanned;
 use parse::call::parse;

@@ -1,8 +1,8 @@
 // Runs entries over the sheet of a small lex file and prints each answer, the run's numbers and the stack's first entries. The lex file is
 // `file.l`; standard input has the calls, one to a line (module calls).
-mod answers;
 mod calls;
 mod numbers;
+mod printing;
 
 use calls::play;
 use libc::STDIN_FILENO;

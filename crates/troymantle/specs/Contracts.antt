@@ -2,7 +2,7 @@
 use Prim.Native.Nat.{ℕ}
 use lib.ListN.{length}
 use Rattle.parse.specs.Parse.{Caps, caps}
-use Rattle.run.specs.Contracts.{Bytes, before, after}
+use Rattle.sheet_check.specs.Contracts.{Bytes, before, after}
 use Rattle.troymantle.specs.Words.{LeftInWords, leftInWords}
 
 -- how many bytes each of the six areas has

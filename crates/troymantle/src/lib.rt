@@ -2,7 +2,7 @@
 ghost use mathlib.Core.Path.{_≡_};
 ghost use Rattle.section.specs.Request.{request, options};
 ghost use Rattle.parse.specs.Parse.{parseCall, parseWord};
-ghost use Rattle.run.specs.Contracts.{before};
+ghost use Rattle.sheet_check.specs.Contracts.{before};
 ghost use Rattle.troymantle.specs.Words.{inWords};
 ghost use Rattle.troymantle.specs.Contracts.{roomIn, leftIn};
 use answers::ACCEPTED;

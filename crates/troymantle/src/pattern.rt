@@ -1,7 +1,7 @@
 // The pattern of a rule, as numbers: no exported function may hand back a reference, so the host takes the part itself (01, Areas, 4).
 ghost use mathlib.Core.Path.{_≡_};
 ghost use Rattle.sheet_check.specs.Pattern.{patternPart, numberOf, patternWord};
-ghost use Rattle.run.specs.Contracts.{sheetIn};
+ghost use Rattle.sheet_check.specs.Contracts.{sheetIn};
 use answers::ACCEPTED;
 use answers::BROKEN_SHEET;
 use answers::word;

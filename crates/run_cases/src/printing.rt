@@ -1,5 +1,15 @@
 // What is printed of an answer, of a run and of a stack.
 use crate::numbers::number_at;
+use answers::AREA_FULL;
+use answers::BROKEN_MAP;
+use answers::BROKEN_RUN;
+use answers::BROKEN_SHEET;
+use answers::FAULTY_FILE;
+use answers::INVALID_UTF8;
+use answers::LONG_FILE;
+use answers::ROW_MISMATCH;
+use answers::START_REFUSED;
+use answers::UNKNOWN_FLAG;
 use libc::STDOUT_FILENO;
 use link::LinkAnswer;
 use parse::Answer;
@@ -23,15 +33,15 @@ fn say_refused(number: u16) {
 pub fn say_parse(answer: Answer) {
     match answer {
         Answer::Accepted => say(b" accepted"),
-        Answer::LongFile => say_refused(1),
-        Answer::UnknownFlag => say_refused(2),
-        Answer::InvalidUtf8 => say_refused(3),
+        Answer::LongFile => say_refused(LONG_FILE),
+        Answer::UnknownFlag => say_refused(UNKNOWN_FLAG),
+        Answer::InvalidUtf8 => say_refused(INVALID_UTF8),
         Answer::AreaFull(n) => {
-            say_refused(4);
+            say_refused(AREA_FULL);
             say_number(n);
         }
         Answer::FaultyFile(n) => {
-            say_refused(5);
+            say_refused(FAULTY_FILE);
             say_number(n);
         }
     }
@@ -44,10 +54,10 @@ pub fn say_link(answer: LinkAnswer) {
             say_number(missing);
             say_number(unused);
         }
-        LinkAnswer::BrokenSheet => say_refused(6),
-        LinkAnswer::BrokenMap => say_refused(7),
+        LinkAnswer::BrokenSheet => say_refused(BROKEN_SHEET),
+        LinkAnswer::BrokenMap => say_refused(BROKEN_MAP),
         LinkAnswer::AreaFull(n) => {
-            say_refused(4);
+            say_refused(AREA_FULL);
             say_number(n);
         }
     }
@@ -56,15 +66,15 @@ pub fn say_link(answer: LinkAnswer) {
 pub fn say_start(answer: Begun) {
     match answer {
         Begun::Started => say(b" started"),
-        Begun::StartRefused => say_refused(8),
+        Begun::StartRefused => say_refused(START_REFUSED),
     }
 }
 
 pub fn say_step(answer: Step) {
     match answer {
-        Step::BrokenSheet => say_refused(6),
-        Step::BrokenRun => say_refused(9),
-        Step::RowMismatch => say_refused(10),
+        Step::BrokenSheet => say_refused(BROKEN_SHEET),
+        Step::BrokenRun => say_refused(BROKEN_RUN),
+        Step::RowMismatch => say_refused(ROW_MISMATCH),
         Step::Done => say(b" done"),
         Step::Stopped => say(b" stopped"),
         Step::Unlinked => say(b" unlinked"),
