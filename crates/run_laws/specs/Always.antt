@@ -31,13 +31,14 @@ pub record SoundCall (states n bytes : ℕ) (o : RunLeft Step) : Type 0 where
 
 -- of step calls on the sheet b that left os, after a start call for n bytes over the stack s that left x
 pub record Always (b : SheetBytes) (n : ℕ) (s : List ℕ) (x : Running) (os : List (RunLeft Step)) : Type 0 where
+  -- the run is sound at first, and after each call, whose answer is neither 6 nor 9
   pub first : SoundRun (length (decoded b .states)) n (length s) x
   pub each : EachCall (SoundCall (length (decoded b .states)) n (length s)) os
   -- the tokens and skips cover the bytes up to the position, one behind the other
   pub cover : Adjoin 0 (pieces 0 os) (lastPosition x os)
   -- so each of these bytes is covered once, and no other
   pub once : (k : ℕ) → covered k (pieces 0 os) ≡ cond (ltb k (lastPosition x os)) 1 0
-  -- the run has made as many moves as there are tokens and skips, and at most n
+  -- the run has made as many moves as there are tokens and skips, and at most n (so it is after each call, for the list may end there)
   pub moves : movesOf (lastRunning x os .run) ≡ length (pieces 0 os)
   pub few : length (pieces 0 os) ≤ n
 
