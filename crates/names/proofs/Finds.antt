@@ -5,18 +5,20 @@ use mathlib.Core.Bool.{Bool, true, false}
 use mathlib.Core.List.{List}
 use Prim.Native.Nat.{ℕ, _+_, _≤_, _<_}
 use borrow.Author.Needs.{needs}
-use borrow.Author.Tests.{eq-eqb, ne-eqb}
+use borrow.Author.Tests.{eq-eqb, ne-eqb, eqb-true}
+use lib.Dec.{eqb}
 use lib.ListN.{length}
 use Rattle.text.specs.Walk.{first}
-use Rattle.text.specs.Range.{sameRange}
-use Rattle.text.proofs.Tests.{answer}
+use Rattle.text.specs.Range.{part, sameBytes, sameRange}
+use Rattle.text.proofs.Tests.{answer, and-left, and-right}
+use Rattle.text.proofs.Ranges.{same-equal}
 use Rattle.text.proofs.Walks.{first-found, first-again, first-ended}
 use Rattle.area.specs.declared.State.{State}
 use Rattle.area.specs.declared.Rule.{Rule}
 use Rattle.area.specs.Records.{stateAt, ruleAt, nthRule}
 use Rattle.area.specs.Contents.{Format, contents, stateFormat, ruleFormat, Held}
 use Rattle.area.proofs.Contents.{Sound, contents-at, contents-length, state-sound, rule-sound}
-use Rattle.names.specs.Names.{initial, isState, findState, hasName, findRule}
+use Rattle.names.specs.Names.{initial, isState, findState, nameOf, hasName, findRule}
 
 -- ---- whether a record has the name
 
@@ -37,6 +39,14 @@ module _ {l : List ℕ} {n : ℕ} (h : Held ruleFormat l n) (s : List ℕ) (a e 
   pub rule-compared : (r : Bool) → x .named ≡ 1 → r ≡ sameRange s a e s (x .«name_from») (x .«name_from» + x .«name_length») → r ≡ hasName s a e (nthRule (contents ruleFormat l n) j)
   unfolding hasName
   rule-compared r d q = rw (contents-at rule-sound h j g, ← is, eq-eqb (x .named) 1 d) q
+
+-- a rule that has the name is named, and its name has the same bytes
+pub named-same : (s : List ℕ) (a e : ℕ) (x : Rule) → hasName s a e x ≡ true → (x .named ≡ 1) × (part s a e ≡ nameOf s x)
+unfolding hasName sameRange nameOf
+named-same s a e x t =
+    let test = eqb (x .named) 1 in
+    let name = part s (x .«name_from») (x .«name_from» + x .«name_length») in
+    (eqb-true (x .named) 1 (and-left test (sameBytes (part s a e) name) t), same-equal (part s a e) name (and-right test (sameBytes (part s a e) name) t))
 
 pub ruleset comparing-names = (needs, state-initial, state-other, rule-unnamed, rule-compared)
 

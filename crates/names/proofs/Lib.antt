@@ -1,3 +1,4 @@
 pub mod Forms
 pub mod Finds
 pub mod Marking
+pub mod Distinct

@@ -12,9 +12,8 @@ use lib.Dec.{eqb}
 use lib.ListN.{length, getD, take, drop, set, replicate, length-take, length-drop, length-set, length-replicate}
 use lib.Seq.{take-all, getD-take, getD-drop, getD-set-same, getD-set-other}
 use Rattle.text.specs.Whitespace.{byte}
-use Rattle.text.specs.Range.{part, sameBytes, sameRange}
-use Rattle.text.proofs.Tests.{and-left, and-right, le-or-lt}
-use Rattle.text.proofs.Ranges.{same-equal}
+use Rattle.text.specs.Range.{part}
+use Rattle.text.proofs.Tests.{le-or-lt}
 use Rattle.text.proofs.Walks.{first-over, first-none}
 use Rattle.area.specs.declared.Rule.{Rule}
 use Rattle.area.specs.Records.{ruleAt, nthRule}
@@ -22,6 +21,7 @@ use Rattle.area.specs.Contents.{ruleFormat, contents, Held}
 use Rattle.area.proofs.Contents.{rule-sound, contents-at, contents-length}
 use Rattle.names.specs.Names.{nameOf, hasName, findRule}
 use Rattle.names.specs.Marks.{markCount, markOf, Mark, Marked}
+use Rattle.names.proofs.Finds.{named-same}
 
 -- ---- the place of a mark
 
@@ -70,13 +70,6 @@ place-inside s a e h l g r q =
 pub ruleset marking = (needs, first-byte, place-empty, place-cut, place-inside)
 
 -- ---- a name whose mark is 0
-
-named-same : (s : List ℕ) (a e : ℕ) (x : Rule) → hasName s a e x ≡ true → (x .named ≡ 1) × (part s a e ≡ nameOf s x)
-unfolding hasName sameRange nameOf
-named-same s a e x t =
-    let test = eqb (x .named) 1 in
-    let name = part s (x .«name_from») (x .«name_from» + x .«name_length») in
-    (eqb-true (x .named) 1 (and-left test (sameBytes (part s a e) name) t), same-equal (part s a e) name (and-right test (sameBytes (part s a e) name) t))
 
 module _ (s : List ℕ) {l : List ℕ} {n : ℕ} (h : Held ruleFormat l n) (marks : List ℕ) (M : Marked s (contents ruleFormat l n) marks) (a e r : ℕ) (q : Mark (part s a e) r) (z : getD marks r 0 ≡ 0) where
   abbrev test : ℕ → Bool

@@ -6,7 +6,7 @@ use mathlib.Core.List.{List}
 use lib.ListN.{length, getD}
 use Rattle.area.specs.declared.Rule.{Rule}
 use Rattle.area.specs.Records.{nthRule}
-use Rattle.names.specs.Names.{nameOf}
+use Rattle.names.specs.Names.{nameOf, DistinctNames}
 
 -- how many marks there are
 abbrev pub markCount : ℕ
@@ -30,3 +30,8 @@ pub record Mark (name : List ℕ) (r : ℕ) : Type 0 where
 pub record Marked (s : List ℕ) (xs : List Rule) (marks : List ℕ) : Type 0 where
   pub long : length marks ≡ markCount
   pub each : (j : ℕ) → j < length xs → nthRule xs j .named ≡ 1 → 0 < getD marks (markOf (nameOf s (nthRule xs j))) 0
+
+-- what a search may use of the rules xs: the marks of their names, and that no two of them have the same name
+pub record NamesHeld (s : List ℕ) (xs : List Rule) (marks : List ℕ) : Type 0 where
+  pub marked : Marked s xs marks
+  pub distinct : DistinctNames s xs

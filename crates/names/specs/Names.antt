@@ -1,5 +1,6 @@
 -- Names of states and of rules: their form, and the record whose name stands in the source from a to e (01, Declarations and Rules).
-use Prim.Native.Nat.{ℕ, _+_}
+use Prim.Native.Nat.{ℕ, _+_, _<_}
+use mathlib.Core.Path.{_≡_}
 use mathlib.Core.Bool.{Bool, cond, not, _&&_, _||_}
 use mathlib.Core.List.{List, [], _∷_}
 use lib.Dec.{eqb, ltb}
@@ -39,6 +40,11 @@ findState s a e xs = first (isState s a e xs) 0 (length xs)
 -- the bytes of a rule's name, in the source s (01, Areas, 2)
 unfoldable pub nameOf : List ℕ → Rule → List ℕ
 nameOf s x = part s (x .«name_from») (x .«name_from» + x .«name_length»)
+
+-- of two rules that are named, the later has another name (01, Rules: a rule whose name is repeated is dropped)
+pub record DistinctNames (s : List ℕ) (xs : List Rule) : Type 0 where
+  pub differ : (i j : ℕ) → i < j → j < length xs → nthRule xs i .named ≡ 1 → nthRule xs j .named ≡ 1
+      → nameOf s (nthRule xs i) ≡ nameOf s (nthRule xs j) → ⊥
 
 -- the rule x has the name from a to e: an unnamed rule has none (01, Rules)
 unfoldable pub hasName : List ℕ → ℕ → ℕ → Rule → Bool

@@ -8,7 +8,7 @@ ghost use Rattle.text.specs.Walk.{Between};
 ghost use Rattle.area.specs.Contents.{stateFormat, ruleFormat, contents, Held};
 ghost use Rattle.area.specs.Records.{nthRule};
 ghost use Rattle.names.specs.Names.{allBytes, isNameByte, isStateName, isState, findState, hasName, findRule};
-ghost use Rattle.names.specs.Marks.{Marked};
+ghost use Rattle.names.specs.Marks.{NamesHeld};
 use crate::marks::mark_of;
 use area::read_rule;
 use area::read_state;
@@ -113,7 +113,7 @@ fn search_rules(src: &[u8], a: usize, e: usize, area: &[u8], n: u16) -> usize
 // The rule whose name stands from a to e, or n. Where the mark of the name is 0 no rule has it, and none is looked at.
 pub fn find_rule(src: &[u8], a: usize, e: usize, area: &[u8], n: u16, marks: &[u8]) -> usize
     requires { ⌜ Held ruleFormat (now area) n ⌝ }
-    requires { ⌜ Marked (now src) (contents ruleFormat (now area) n) (now marks) ⌝ }
+    requires { ⌜ NamesHeld (now src) (contents ruleFormat (now area) n) (now marks) ⌝ }
     ensures { λ r. ⌜ Between 0 n (findRule (now (src .entry)) a e (contents ruleFormat (now (area .entry)) n)) r ⌝ }
 {
     let at = mark_of(src, a, e);

@@ -29,6 +29,8 @@ use Rattle.area.proofs.Contents.{state-sound, rule-sound, entry-sound, text-sou
 use Rattle.fault.specs.Step.{Out, go, bad, full, next, onto, written, loop, Does}
 use Rattle.fault.specs.Faults.{PrematureEnd, addFault, HeldFaults, GrowsFaults}
 use Rattle.fault.proofs.Steps.{does-full, bad-goes, full-goes}
+use Rattle.names.specs.Names.{DistinctNames}
+use Rattle.names.proofs.Distinct.{distinct-none}
 use Rattle.section.specs.Request.{Options, Request}
 use Rattle.section.specs.Section.{percents, found, inSection, toDeclaration}
 use Rattle.section.proofs.Lines.{ahead-within}
@@ -92,6 +94,11 @@ module _ (s : List ℕ) (options : Options) (l1 l5 l6 : List ℕ) (z1 : l1 ≡ z
     }
 
 pub ruleset opening-up = (needs, opening-full, opening-held, opening-on)
+
+-- no rules yet, so no two with the same name
+pub no-names : (s l : List ℕ) → DistinctNames s (contents ruleFormat l 0)
+unfolding contents listOf
+no-names s l = distinct-none s
 
 -- ---- where the rules start
 

@@ -17,6 +17,7 @@ use Rattle.area.specs.Records.{stateOf, expectedOf, ruleOf}
 use Rattle.area.specs.Contents.{Format, append, stateFormat, ruleFormat, entryFormat, textFormat, expectedFormat}
 use Rattle.fault.specs.Step.{Out, go, bad, full, onto, written}
 use Rattle.fault.specs.Faults.{addFault}
+use Rattle.names.proofs.Distinct.{distinct-none}
 use Rattle.section.specs.Request.{Request}
 use Rattle.declarations.specs.Declarations.{Declared, declarations, state}
 use Rattle.rules_section.specs.RulesSection.{sheetOf, rulesSection}
@@ -71,7 +72,7 @@ module _ (asked : Request) (k : Caps) where
   no-rules-hold d = record {
     rules = record {
       each = each-none (RuleHolds (length (asked .source)) (length (d .states)) 0 0) (ruleOf (λ _. 0));
-      differ = record { differ = λ i j _ h. absurd (omega arith) };
+      distinct = distinct-none (asked .source);
       fits = nothing-fits ruleFormat (k .c2);
     };
     lists = record { each = each-none (EntryHolds (length (d .states))) 0; fits = nothing-fits entryFormat (k .c3) };

@@ -65,7 +65,7 @@ module _ (asked : Request) (k : Caps) (c : Contents) (is : outcome asked k ≡ a
   -- no two rules of an accepted parse have the same name
   pub accepted-names-distinct : (i j : ℕ) → i < length (c .rules) → j < length (c .rules) → (i ≡ j → ⊥) → nthRule (c .rules) i .named ≡ 1 → nthRule (c .rules) j .named ≡ 1 → nameOf (asked .source) (nthRule (c .rules) i) ≡ nameOf (asked .source) (nthRule (c .rules) j) → ⊥
   accepted-names-distinct i j hi hj d ni nj q =
-      let names = accepted-holds asked k c is .rules .differ in
+      let names = accepted-holds asked k c is .rules .distinct in
       ⊎-elim (λ l. names .differ i j (omega arith) hj ni nj q) (λ l. names .differ j i l hi nj ni (sym q)) (le-or-lt i j)
 
   -- each list of an accepted parse fits its area

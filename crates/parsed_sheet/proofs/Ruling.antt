@@ -9,8 +9,7 @@ use native.Mathlib.Nat.{le-refl}
 use native.Mathlib.Omega.{arith}
 use borrow.Author.Tests.{leb-false}
 use lib.Dec.{eqb, leb}
-use lib.ListN.{length, length-append, List·getD-append}
-use lib.Seq.{getD-append-seam}
+use lib.ListN.{length, length-append}
 use Rattle.text.specs.Whitespace.{atWhitespace, atLineEnd}
 use Rattle.text.specs.Scan.{lineEnd, trimEnd, trimEndUnescaped}
 use Rattle.text.proofs.Tests.{by-test}
@@ -18,12 +17,12 @@ use Rattle.text.proofs.Walks.{first-from, first-to}
 use Rattle.area.specs.declared.State.{State}
 use Rattle.area.specs.declared.Rule.{Rule}
 use Rattle.area.specs.declared.Fault.{Fault}
-use Rattle.area.specs.Records.{nthRule, ruleOf}
+use Rattle.area.specs.Records.{ruleOf}
 use Rattle.area.specs.Contents.{append, ruleFormat, entryFormat, textFormat}
 use Rattle.fault.specs.Step.{Out, go, bad, next, onto, written}
 use Rattle.fault.specs.Faults.{addFault, addRepeat, UnknownStartState, DuplicateName, RegexError, RoutinesNotSupported, VerbatimNotSupported}
-use Rattle.names.specs.Names.{nameOf}
 use Rattle.escape.specs.Escape.{unescaped}
+use Rattle.names.proofs.Distinct.{Unused, distinct-more}
 use Rattle.section.specs.Request.{Request}
 use Rattle.section.specs.Section.{toRule, inSection, hasRoutines}
 use Rattle.rules.specs.declared.Head.{Head}
@@ -33,37 +32,24 @@ use Rattle.rules.specs.Heading.{headingOf}
 use Rattle.rules.specs.Rules.{entryEnd, entryId, nextEntry, entries, refuses, recordRule}
 use Rattle.rules_section.specs.RulesSection.{Sheet, Caps, sheet, Text, StateList, sourceText, textSince, noList, listSince, withRule, listedRule, rewrittenRule, pattern, Ruled, sheetOf, withSheet, withFaults, ruleAs, rule, line, nextRule, rules, routines, rulesSection}
 use Rattle.rules_section.specs.RulesSection as R
-use Rattle.rules.proofs.Heads.{fresh-from, fresh-to}
+use Rattle.rules.proofs.Heads.{fresh-from, fresh-to, fresh-unused}
 use Rattle.rules_section.proofs.Patterns.{pattern-cases}
 use Rattle.area.specs.Lists.{all}
-use Rattle.parsed_sheet.specs.Accepted.{Fits, RuleHolds, EntryHolds, NamesDiffer, RulesHold, EntriesHold, TextHolds, isByte}
+use Rattle.parsed_sheet.specs.Accepted.{Fits, RuleHolds, EntryHolds, RulesHold, EntriesHold, TextHolds, isByte}
 use Rattle.fault.proofs.Yielding.{Yields, yields-next, yields-onto, yields-loop}
 use Rattle.parsed_sheet.proofs.Appending.{yields-append}
-use Rattle.parsed_sheet.proofs.Elements.{each-snoc, each-weaken, place-cases}
+use Rattle.parsed_sheet.proofs.Elements.{each-snoc, each-weaken}
 use Rattle.parsed_sheet.proofs.Places.{rule-to, pattern-to}
 use Rattle.parsed_sheet.proofs.ByteLists.{all-append, unescaped-bytes}
-use Rattle.parsed_sheet.proofs.Headings.{Unused, HeadHolds, heading-holds}
+use Rattle.parsed_sheet.proofs.Headings.{HeadHolds, heading-holds}
 
 -- ---- a rule more, and more entries and text behind the rules
-
-module _ (s : List ℕ) (rs : List Rule) (x : Rule) where
-  earlier : (j : ℕ) → j < length rs → nthRule (rs ++ (x ∷ [])) j ≡ nthRule rs j
-  earlier j h = List·getD-append rs (x ∷ []) (ruleOf (λ _. 0)) j h
-
-  newest : nthRule (rs ++ (x ∷ [])) (length rs) ≡ x
-  newest = getD-append-seam rs x [] (ruleOf (λ _. 0))
-
-  differ-more : NamesDiffer s rs → Unused s rs (x .named) (x .«name_from») (x .«name_length») → NamesDiffer s (rs ++ (x ∷ []))
-  unfolding nameOf
-  differ-more d u = record {
-    differ = λ i j h l. place-cases x rs j l (λ g. rw (earlier i (omega arith), earlier j g) (d .differ i j h g)) (λ q. rw (earlier i (omega arith), q, newest) (u .unused i (omega arith)));
-  }
 
 module _ (s : List ℕ) (m a b cap : ℕ) (rs : List Rule) where
   rules-more : (x : Rule) → RulesHold s m a b cap rs → RuleHolds (length s) m a b (length rs) x → Unused s rs (x .named) (x .«name_from») (x .«name_length») → Fits ruleFormat cap (rs ++ (x ∷ [])) → RulesHold s m a b cap (rs ++ (x ∷ []))
   rules-more x h g u f = record {
     each = each-snoc (RuleHolds (length s) m a b) (ruleOf (λ _. 0)) rs x (h .each) g;
-    differ = differ-more s rs x (h .differ) u;
+    distinct = distinct-more s rs x (h .distinct) u;
     fits = f;
   }
 
@@ -74,7 +60,7 @@ module _ (s : List ℕ) (m a b cap : ℕ) (rs : List Rule) where
   rules-weaken : (a′ b′ : ℕ) → a ≤ a′ → b ≤ b′ → RulesHold s m a b cap rs → RulesHold s m a′ b′ cap rs
   rules-weaken a′ b′ ha hb h = record {
     each = each-weaken (RuleHolds (length s) m a b) (ruleOf (λ _. 0)) rs (RuleHolds (length s) m a′ b′) more (h .each);
-    differ = h .differ;
+    distinct = h .distinct;
     fits = h .fits;
   }
     where
@@ -138,7 +124,7 @@ module _ (s : List ℕ) (m a b : ℕ) where
       (λ _. yields-append (λ _ ys. RulesHold s m a b c2 ys) ruleFormat c2 2 e (x ∷ []) rs (rules-more s m a b c2 rs x h g u))
 
   -- the record of a heading, with its text and its list
-  rule-of : (rs : List Rule) (h : Head) → HeadHolds s m rs h → (x : Text) (y : StateList) → x .place ≤ 1 → x .from + x .length ≤ cond (eqb (x .place) 1) b (length s) → y .from + y .count ≤ a
+  rule-of : (rs : List Rule) (h : Head) → HeadHolds s m h → (x : Text) (y : StateList) → x .place ≤ 1 → x .from + x .length ≤ cond (eqb (x .place) 1) b (length s) → y .from + y .count ≤ a
       → RuleHolds (length s) m a b (length rs) (R.ruleOf h (length rs) x y)
   rule-of rs h g x y p t l = record {
     hasId = refl;
@@ -158,7 +144,8 @@ module _ (asked : Request) (xs : List State) (k : Caps) (i e : ℕ) where
   abbrev Sheets : ℕ → Sheet → Type 0
   Sheets j w = SheetHolds (asked .source) (length xs) k w
 
-  module _ (w : Sheet) (holds : SheetHolds (asked .source) (length xs) k w) (h : Head) (head : HeadHolds (asked .source) (length xs) (w .rules) h) (c : ℕ) (cl : c ≤ length (asked .source)) where
+  module _ (w : Sheet) (holds : SheetHolds (asked .source) (length xs) k w) (h : Head) (head : HeadHolds (asked .source) (length xs) h)
+      (unused : Unused (asked .source) (w .rules) (h .named) (h .«name_from») (h .«name_length»)) (c : ℕ) (cl : c ≤ length (asked .source)) where
     -- the rule of a text and a list, behind list entries and text that hold and are no fewer
     with-kept : (x : Text) (y : StateList) (ids t : List ℕ) → x .place ≤ 1 → x .from + x .length ≤ cond (eqb (x .place) 1) (length t) (length (asked .source)) → y .from + y .count ≤ length ids
         → EntriesFrom (length (w .lists)) (length xs) (k .c3) ids → length (w .text) ≤ length t → TextHolds (k .c4) t
@@ -171,7 +158,7 @@ module _ (asked : Request) (xs : List State) (k : Caps) (i e : ℕ) where
         yields-onto (λ _ rs. RulesHold (asked .source) (length xs) a b (k .c2) rs) Sheets (λ rs. sheet rs ids t) (recordRule (asked .verdicts) (k .c2) i e z (w .rules))
         (record-kept (asked .source) (length xs) a b (asked .verdicts) (k .c2) i e z (w .rules)
         (rules-weaken (asked .source) (length xs) (length (w .lists)) (length (w .text)) (k .c2) (w .rules) a b (g .longer) longer (holds .rules))
-        (rule-of (asked .source) (length xs) a b (w .rules) h head x y px tx ly) (head .unused))
+        (rule-of (asked .source) (length xs) a b (w .rules) h head x y px tx ly) unused)
         (λ _ rs r. record { rules = r; lists = g .hold; text = holds-text })
 
     same-entries : EntriesFrom (length (w .lists)) (length xs) (k .c3) (w .lists)
@@ -227,7 +214,8 @@ module _ (asked : Request) (xs : List State) (stated : 0 < length xs) (source : 
       let bt : b < t = fresh-to (asked .source) i t xs (r .rules) (Fresh b hd) (sym q) b hd refl in
       let c = trimEndUnescaped (asked .source) i b in
       yields-onto (Sheets asked xs k i e) Lined (withSheet r) (pattern asked k i e hd c xs (sheetOf r))
-      (pattern-kept asked xs k i e (sheetOf r) h hd (heading-holds (asked .source) xs stated (r .rules) i t (omega arith) b hd q) c (pattern-to (asked .source) i b bi (omega arith)) source (omega arith))
+      (pattern-kept asked xs k i e (sheetOf r) h hd (heading-holds (asked .source) xs stated (r .rules) i t (omega arith) b hd q)
+      (fresh-unused (asked .source) i t xs (r .rules) b hd q) c (pattern-to (asked .source) i b bi (omega arith)) source (omega arith))
       (λ _ w g. g)
 
   line-kept : (i e : ℕ) → i ≤ e → e ≤ length (asked .source) → (r : Ruled) → Lined i r → Yields Lined (line asked xs k c6 i e r)

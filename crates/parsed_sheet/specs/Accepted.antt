@@ -6,11 +6,11 @@ use mathlib.Core.Bool.{Bool, true, cond}
 use mathlib.Core.List.{List, []}
 use lib.Dec.{eqb, ltb}
 use lib.ListN.{length, getD}
-use Rattle.names.specs.Names.{nameOf}
+use Rattle.names.specs.Names.{DistinctNames}
 use Rattle.area.specs.declared.State.{State}
 use Rattle.area.specs.declared.Rule.{Rule}
 use Rattle.area.specs.declared.Expected.{Expected}
-use Rattle.area.specs.Records.{nthState, nthRule, stateOf, ruleOf, expectedOf, stateFields, ruleFields, expectedFields}
+use Rattle.area.specs.Records.{nthState, stateOf, ruleOf, expectedOf, stateFields, ruleFields, expectedFields}
 use Rattle.area.specs.Contents.{Format, Held, stateFormat, ruleFormat, entryFormat, textFormat, expectedFormat}
 use Rattle.declarations.specs.Declarations.{state}
 use Rattle.parse.specs.Parse.{Contents, Caps, Left, countsOf}
@@ -63,10 +63,6 @@ pub record RuleHolds (n states entries rewritten j : ℕ) (x : Rule) : Type 0 wh
   pub operation : x .operation ≤ 3
   pub target : x .target < states
 
--- of two rules that are named, the later has another name (01, Rules: a repeated name drops the rule)
-pub record NamesDiffer (s : List ℕ) (rs : List Rule) : Type 0 where
-  pub differ : (i j : ℕ) → i < j → j < length rs → nthRule rs i .named ≡ 1 → nthRule rs j .named ≡ 1 → nameOf s (nthRule rs i) ≡ nameOf s (nthRule rs j) → ⊥
-
 -- the states: state 0 is INITIAL (01, Areas, 1)
 pub record StatesHold (n cap : ℕ) (xs : List State) : Type 0 where
   pub some : 0 < length xs
@@ -89,7 +85,7 @@ pub record TextHolds (cap : ℕ) (t : List ℕ) : Type 0 where
 
 pub record RulesHold (s : List ℕ) (states entries rewritten cap : ℕ) (rs : List Rule) : Type 0 where
   pub each : Each (RuleHolds (length s) states entries rewritten) (ruleOf (λ _. 0)) rs
-  pub differ : NamesDiffer s rs
+  pub distinct : DistinctNames s rs
   pub fits : Fits ruleFormat cap rs
 
 -- the contents of an accepted parse of the source s, into areas of so many bytes

@@ -12,6 +12,7 @@ use lib.ListN.{length}
 use Rattle.text.specs.Class.{isBlank}
 use Rattle.text.specs.Walk.{Between, lastOf, last}
 use Rattle.text.specs.Whitespace.{byte}
+use Rattle.text.specs.Range.{part}
 use Rattle.text.specs.Scan.{lastBlank}
 use Rattle.text.specs.declared.Found.{Found}
 use Rattle.text.specs.declared.Found.the-variants.{At, Nothing}
@@ -23,6 +24,7 @@ use Rattle.area.specs.Contents.{contents, ruleFormat, Held}
 use Rattle.area.proofs.Contents.{rule-sound, contents-length, contents-at}
 use Rattle.fault.specs.Faults.{MissingSpace, InvalidName}
 use Rattle.names.specs.Names.{findRule}
+use Rattle.names.proofs.Distinct.{Unused, name-unused}
 use Rattle.rules.specs.declared.TargetState.{TargetState}
 use Rattle.rules.specs.declared.Target.{Target}
 use Rattle.rules.specs.declared.Target.the-variants.{To, Wrong}
@@ -205,3 +207,27 @@ module _ (s : List ℕ) (i t : ℕ) (xs : List State) (rs : List Rule) where
 
     pub fresh-to : b < t
     fresh-to = splits .1
+
+-- ---- no rule before a fresh one has its name
+
+-- the name in a heading is the name of none of the rules rs
+abbrev NewName : List ℕ → List Rule → Heading → Type 0
+NewName s rs (Faulty kind at) = Unit {0}
+NewName s rs (Repeated c d a z) = Unit {0}
+NewName s rs (Fresh b h) = Unused s rs (h .named) (h .«name_from») (h .«name_length»)
+
+module _ (s : List ℕ) (i t : ℕ) (xs : List State) (rs : List Rule) where
+  -- the quoted name from p to t, which the search did not find
+  new-named : (r : ℕ) (x : TargetState) (p : ℕ) → lastBlank s i t ≡ At r → targetOf s r t xs ≡ To x p → labelOf s (span p t) ≡ Named
+      → length rs ≤ ruleNamed s (span p t) rs → NewName s rs (Fresh r (headNamed r (span p t) x))
+  unfolding ruleNamed
+  new-named r x p _ _ named none =
+      let ends : p + 1 + (t - p - 2) ≡ t - 1 = omega (arith, name-long s p t named) in
+      record { unused = λ j h n _ q. name-unused s (p + 1) (t - 1) rs none j h n (q ∙ ap (part s (p + 1)) ends) }
+
+  new-name : NewName s rs (headingOf s i t xs rs)
+  new-name =
+      heading-cases s i t xs rs (NewName s rs) (λ _ _. tt) (λ _ _ _ _. tt) (λ _ _ _ _ _. record { unused = λ _ _ _ z _. absurd (omega (arith, z)) }) new-named
+
+  pub fresh-unused : (b : ℕ) (h : Head) → headingOf s i t xs rs ≡ Fresh b h → Unused s rs (h .named) (h .«name_from») (h .«name_length»)
+  fresh-unused b h q = subst (NewName s rs) q new-name

@@ -6,7 +6,7 @@ ghost use Rattle.text.specs.Walk.{Between};
 ghost use Rattle.area.specs.Contents.{stateFormat, ruleFormat, contents, Held};
 ghost use Rattle.area.specs.Contracts.{before};
 ghost use Rattle.names.specs.Names.{findState};
-ghost use Rattle.names.specs.Marks.{Marked};
+ghost use Rattle.names.specs.Marks.{NamesHeld};
 ghost use Rattle.rules.specs.declared.Label.the-variants.{Named};
 ghost use Rattle.rules.specs.Heading.{operationOf, targetOperation, targetName, targetOf, span, labelBy, labelOf, headUnnamed, headNamed, headingBehind, headingOf};
 use crate::Head;
@@ -166,7 +166,7 @@ fn heading_named(
     requires { ⌜ ((r < p) × (p + 2 < t)) × ((t ≤ length (now src)) × (length (now src) ≤ 65535)) ⌝ }
     requires { ⌜ labelOf (now src) (span p t) ≡ Named ⌝ }
     requires { ⌜ Held ruleFormat (now area2) n2 ⌝ }
-    requires { ⌜ Marked (now src) (contents ruleFormat (now area2) n2) (now marks) ⌝ }
+    requires { ⌜ NamesHeld (now src) (contents ruleFormat (now area2) n2) (now marks) ⌝ }
     ensures { λ k. ⌜ k ≡ headingBehind (before src) r x (span p t) (contents ruleFormat (before area2) n2) ⌝ }
 {
     let h = head_named(r, p, t, x);
@@ -191,7 +191,7 @@ fn heading_behind(
 ) -> Heading
     requires { ⌜ ((r < p) × (p ≤ t)) × ((t ≤ length (now src)) × (length (now src) ≤ 65535)) ⌝ }
     requires { ⌜ Held ruleFormat (now area2) n2 ⌝ }
-    requires { ⌜ Marked (now src) (contents ruleFormat (now area2) n2) (now marks) ⌝ }
+    requires { ⌜ NamesHeld (now src) (contents ruleFormat (now area2) n2) (now marks) ⌝ }
     ensures { λ k. ⌜ k ≡ headingBehind (before src) r x (span p t) (contents ruleFormat (before area2) n2) ⌝ }
 {
     match label_of(src, p, t) {
@@ -215,7 +215,7 @@ pub fn heading_of(
     requires { ⌜ ((i ≤ t) × (t ≤ length (now src))) × (length (now src) ≤ 65535) ⌝ }
     requires { ⌜ Held stateFormat (now area1) n1 ⌝ }
     requires { ⌜ Held ruleFormat (now area2) n2 ⌝ }
-    requires { ⌜ Marked (now src) (contents ruleFormat (now area2) n2) (now marks) ⌝ }
+    requires { ⌜ NamesHeld (now src) (contents ruleFormat (now area2) n2) (now marks) ⌝ }
     ensures { λ k. ⌜
         k ≡ headingOf (before src) i t (contents stateFormat (before area1) n1) (contents ruleFormat (before area2) n2)
         ⌝ }

@@ -1,6 +1,6 @@
--- A line leaves the rules before it: where a step goes on, the rules so far stand first among the rules then. Only the record of a rule adds to
--- them, by an append.
-use mathlib.Core.Path.{_≡_, sym, ap, subst, _∙_}
+-- What a line makes of the rules before it: where a step goes on, they stand first among the rules then. Only the record of a rule adds to them, by
+-- an append, and its name is one that no rule has: distinct names stay distinct.
+use mathlib.Core.Path.{_≡_, refl, sym, ap, subst, subst⁻¹, _∙_}
 use mathlib.Core.List.{List, [], _∷_, _++_}
 use mathlib.Core.Option.{Option, none, some}
 use Prim.Native.Nat.{ℕ, _+_}
@@ -19,6 +19,8 @@ use Rattle.fault.specs.Step.{Out, go, bad, full, next, onto, written, Does}
 use Rattle.fault.specs.Faults.{addFault, addRepeat, DuplicateName, RegexError, VerbatimNotSupported}
 use Rattle.fault.proofs.Steps.{was-go}
 use Rattle.fault.proofs.Yielding.{Yields, yields-onto}
+use Rattle.names.specs.Names.{DistinctNames}
+use Rattle.names.proofs.Distinct.{Unused, distinct-more}
 use Rattle.section.specs.Request.{Request}
 use Rattle.escape.specs.Escape.{unescaped}
 use Rattle.rules.specs.declared.Head.{Head}
@@ -26,82 +28,111 @@ use Rattle.rules.specs.declared.Heading.{Heading}
 use Rattle.rules.specs.declared.Heading.the-variants.{Faulty, Repeated, Fresh}
 use Rattle.rules.specs.Heading.{headingOf}
 use Rattle.rules.specs.Rules.{entries, refuses, recordRule}
-use Rattle.rules_section.specs.RulesSection.{Sheet, Caps, sheet, Text, StateList, sourceText, textSince, noList, listSince, withRule, listedRule, rewrittenRule, pattern, Ruled, sheetOf, withSheet, withFaults, ruleAs, rule, line}
+use Rattle.rules_section.specs.RulesSection.{Sheet, Caps, sheet, Text, StateList, ruleOf, sourceText, textSince, noList, listSince, withRule, listedRule, rewrittenRule, pattern, Ruled, sheetOf, withSheet, withFaults, ruleAs, rule, line}
 use Rattle.rules_section.proofs.Patterns.{pattern-cases}
+use Rattle.rules.proofs.Heads.{fresh-unused}
 use Rattle.rules_section.specs.declared.RuleCounts.{RuleCounts}
 use Rattle.rules_section.specs.declared.RuleProgress.{RuleProgress}
 use Rattle.rules_section.specs.declared.RuleProgress.the-variants.{Go}
 use Rattle.rules_section.specs.Answers.{ruleProgress, ruledIn, HeldRuled}
 
--- where the step goes on, the rules in its state begin with the rules xs
-abbrev Keeps : {S : Type 0} → List Rule → (S → List Rule) → Out S → Type 0
-Keeps xs rules o = Yields (λ _ s. take (length xs) (rules s) ≡ xs) o
+-- what a line makes of the rules xs: the same rules, or one more, whose name none of them has
+pub data Extends (s : List ℕ) (xs ys : List Rule) : Type 0 where
+  same : ys ≡ xs → Extends s xs ys
+  more : (x : Rule) → Unused s xs (x .named) (x .«name_from») (x .«name_length») → ys ≡ xs ++ (x ∷ []) → Extends s xs ys
+
+extends-first : {s : List ℕ} {xs ys : List Rule} → Extends s xs ys → take (length xs) ys ≡ xs
+extends-first {xs = xs} (same q) = ap (take (length xs)) q ∙ take-length xs
+extends-first {xs = xs} (more x u q) = ap (take (length xs)) q ∙ take-append-seam xs (x ∷ [])
+
+extends-distinct : {s : List ℕ} {xs ys : List Rule} → DistinctNames s xs → Extends s xs ys → DistinctNames s ys
+extends-distinct {s} d (same q) = subst⁻¹ (DistinctNames s) q d
+extends-distinct {s} {xs} d (more x u q) = subst⁻¹ (DistinctNames s) q (distinct-more s xs x d u)
+
+-- where the step goes on, the rules in its state extend the rules xs
+abbrev YieldsExtended : {S : Type 0} → List ℕ → List Rule → (S → List Rule) → Out S → Type 0
+YieldsExtended s xs rules o = Yields (λ _ t. Extends s xs (rules t)) o
 
 -- ---- the record
 
--- the rules of a sheet, whatever its list entries and text
-record-keeps : (ids text verdicts : List ℕ) (c2 i e : ℕ) (x : Rule) (rs : List Rule) → Keeps rs (λ v. v .rules) (onto (λ ys. sheet ys ids text) (recordRule verdicts c2 i e x rs))
-unfolding recordRule append
-record-keeps ids text verdicts c2 i e x rs =
-    by-test (λ o. Keeps rs (λ v. v .rules) (onto (λ ys. sheet ys ids text) o)) (refuses verdicts (length rs)) (bad RegexError i rs) (written 2 e (append ruleFormat c2 (x ∷ []) rs)) (λ _. tt)
-    (λ _. by-test (λ o. Keeps rs (λ v. v .rules) (onto (λ ys. sheet ys ids text) (written 2 e o))) (room (ruleFormat .width) (ruleFormat .most) c2 (length rs) 1) (some (rs ++ (x ∷ []))) none
-    (λ _. take-append-seam rs (x ∷ [])) (λ _. tt))
-
-module _ (asked : Request) (k : Caps) (i e : ℕ) (h : Head) (c : ℕ) (xs : List State) (w : Sheet) where
+module _ (asked : Request) (k : Caps) (i e : ℕ) (h : Head) (w : Sheet)
+    (unused : Unused (asked .source) (w .rules) (h .named) (h .«name_from») (h .«name_length»)) where
   abbrev Sheets : Out Sheet → Type 0
-  Sheets o = Keeps (w .rules) (λ v. v .rules) o
+  Sheets o = YieldsExtended (asked .source) (w .rules) (λ v. v .rules) o
 
-  with-keeps : (t : Text) (l : StateList) (ids text : List ℕ) → Sheets (withRule asked k i e h t l (sheet (w .rules) ids text))
-  unfolding withRule
-  with-keeps t l ids text = record-keeps ids text (asked .verdicts) (k .c2) i e _ (w .rules)
+  -- the record of a rule with this head, whatever the list entries and the text
+  with-extends : (t : Text) (l : StateList) (ids text : List ℕ) → Sheets (withRule asked k i e h t l (sheet (w .rules) ids text))
+  unfolding withRule recordRule append
+  with-extends t l ids text =
+      let rs = w .rules in
+      let x = ruleOf h (length rs) t l in
+      let made : Out (List Rule) → Out Sheet = onto (λ ys. sheet ys ids text) in
+      by-test (λ o. Sheets (made o)) (refuses (asked .verdicts) (length rs)) (bad RegexError i rs) (written 2 e (append ruleFormat (k .c2) (x ∷ []) rs)) (λ _. tt)
+      (λ _. by-test (λ o. Sheets (made (written 2 e o))) (room (ruleFormat .width) (ruleFormat .most) (k .c2) (length rs) 1) (some (rs ++ (x ∷ []))) none
+      (λ _. more x unused refl) (λ _. tt))
 
   -- the rule follows a step that writes list entries, or text
-  list-keeps : (o : Out (List ℕ)) (t : Text) (l : Sheet → StateList) → Sheets (next (onto (λ ids. sheet (w .rules) ids (w .text)) o) (λ _ v. withRule asked k i e h t (l v) v))
-  list-keeps (go j ids) t l = with-keeps t (l (sheet (w .rules) ids (w .text))) ids (w .text)
-  list-keeps (bad kind at ids) t l = tt
-  list-keeps (full n) t l = tt
+  list-extends : (o : Out (List ℕ)) (t : Text) (l : Sheet → StateList)
+      → Sheets (next (onto (λ ids. sheet (w .rules) ids (w .text)) o) (λ _ v. withRule asked k i e h t (l v) v))
+  list-extends (go j ids) t l = with-extends t (l (sheet (w .rules) ids (w .text))) ids (w .text)
+  list-extends (bad kind at ids) t l = tt
+  list-extends (full n) t l = tt
 
-  text-keeps : (o : Out (List ℕ)) (t : Sheet → Text) (l : StateList) → Sheets (next (onto (λ u. sheet (w .rules) (w .lists) u) o) (λ _ v. withRule asked k i e h (t v) l v))
-  text-keeps (go j u) t l = with-keeps (t (sheet (w .rules) (w .lists) u)) l (w .lists) u
-  text-keeps (bad kind at u) t l = tt
-  text-keeps (full n) t l = tt
+  text-extends : (o : Out (List ℕ)) (t : Sheet → Text) (l : StateList)
+      → Sheets (next (onto (λ u. sheet (w .rules) (w .lists) u) o) (λ _ v. withRule asked k i e h (t v) l v))
+  text-extends (go j u) t l = with-extends (t (sheet (w .rules) (w .lists) u)) l (w .lists) u
+  text-extends (bad kind at u) t l = tt
+  text-extends (full n) t l = tt
 
-  pattern-keeps : Sheets (pattern asked k i e h c xs w)
+  pattern-extends : (c : ℕ) (xs : List State) → Sheets (pattern asked k i e h c xs w)
   unfolding listedRule rewrittenRule
-  pattern-keeps =
-      pattern-cases asked k i e h c xs w Sheets tt (λ g _ _. list-keeps (entries (asked .source) (k .c3) xs i g (w .lists)) (sourceText (g + 1) c) (listSince w))
-      (text-keeps (written 4 e (append textFormat (k .c4) (unescaped (asked .source) (asked .options .flags) i c) (w .text))) (textSince w) (noList w)) (with-keeps (sourceText i c) (noList w) (w .lists) (w .text))
+  pattern-extends c xs =
+      pattern-cases asked k i e h c xs w Sheets tt
+      (λ g _ _. list-extends (entries (asked .source) (k .c3) xs i g (w .lists)) (sourceText (g + 1) c) (listSince w))
+      (text-extends (written 4 e (append textFormat (k .c4) (unescaped (asked .source) (asked .options .flags) i c) (w .text))) (textSince w) (noList w))
+      (with-extends (sourceText i c) (noList w) (w .lists) (w .text))
 
 -- ---- a line
 
 module _ (asked : Request) (xs : List State) (k : Caps) (c6 i e : ℕ) (r : Ruled) where
   abbrev Lines : Out Ruled → Type 0
-  Lines o = Keeps (r .rules) (λ t. t .rules) o
+  Lines o = YieldsExtended (asked .source) (r .rules) (λ t. t .rules) o
 
   -- a step that writes faults only
-  faults-keep : (o : Option (List Fault)) → Lines (onto (withFaults r) (written 6 e o))
-  faults-keep none = tt
-  faults-keep (some fs) = take-length (r .rules)
+  faults-extend : (o : Option (List Fault)) → Lines (onto (withFaults r) (written 6 e o))
+  faults-extend none = tt
+  faults-extend (some fs) = same refl
 
-  as-keeps : (x : Heading) → Lines (ruleAs asked xs k c6 i e x r)
+  as-extends : (x : Heading) → headingOf (asked .source) i (trimEnd (asked .source) i e) xs (r .rules) ≡ x → Lines (ruleAs asked xs k c6 i e x r)
   unfolding ruleAs
-  as-keeps (Faulty kind at) = tt
-  as-keeps (Repeated c d a z) = faults-keep (addRepeat c6 DuplicateName c d a z (r .faults))
-  as-keeps (Fresh b h) =
-      let c = trimEndUnescaped (asked .source) i b in
-      yields-onto (λ _ w. take (length (r .rules)) (w .rules) ≡ r .rules) (λ _ t. take (length (r .rules)) (t .rules) ≡ r .rules) (withSheet r) (pattern asked k i e h c xs (sheetOf r))
-      (pattern-keeps asked k i e h c xs (sheetOf r)) (λ _ w kept. kept)
+  as-extends (Faulty kind at) q = tt
+  as-extends (Repeated c d a z) q = faults-extend (addRepeat c6 DuplicateName c d a z (r .faults))
+  as-extends (Fresh b h) q =
+      let s = asked .source in
+      let unused = fresh-unused s i (trimEnd s i e) xs (r .rules) b h q in
+      let c = trimEndUnescaped s i b in
+      yields-onto (λ _ w. Extends s (r .rules) (w .rules)) (λ _ t. Extends s (r .rules) (t .rules)) (withSheet r) (pattern asked k i e h c xs (sheetOf r))
+      (pattern-extends asked k i e h (sheetOf r) unused c xs) (λ _ _ x. x)
 
-  line-keeps : Lines (line asked xs k c6 i e r)
+  line-extends : Lines (line asked xs k c6 i e r)
   unfolding line rule
-  line-keeps =
+  line-extends =
       by-test Lines (atWhitespace (asked .source) i) (onto (withFaults r) (written 6 e (addFault c6 VerbatimNotSupported i e (r .faults)))) (rule asked xs k c6 i e r)
-      (λ _. faults-keep (addFault c6 VerbatimNotSupported i e (r .faults))) (λ _. as-keeps (headingOf (asked .source) i (trimEnd (asked .source) i e) xs (r .rules)))
+      (λ _. faults-extend (addFault c6 VerbatimNotSupported i e (r .faults)))
+      (λ _. as-extends (headingOf (asked .source) i (trimEnd (asked .source) i e) xs (r .rules)) refl)
 
--- after a line, the rules that were there before it are the first ones
-pub rules-kept : (asked : Request) (xs : List State) (k : Caps) (c6 i e : ℕ) {l2 l3 l4 l6 v2 v3 v4 v6 : List ℕ} {q : RuleCounts} → HeldRuled l2 l3 l4 l6 q → (r : RuleProgress)
-    → Does (HeldRuled v2 v3 v4 v6) (line asked xs k c6 i e) (ruledIn l2 l3 l4 l6 q) (ruledIn v2 v3 v4 v6) (ruleProgress r) → (j : ℕ) (p : RuleCounts) → r ≡ Go j p
-    → take (q .rules) (contents ruleFormat v2 (p .rules)) ≡ contents ruleFormat l2 (q .rules)
-rules-kept asked xs k c6 i e {l2} {l3} {l4} {l6} {v2} {v3} {v4} {v6} {q} h r d j p z =
-    ap (λ (n : ℕ). take n (contents ruleFormat v2 (p .rules))) (sym (contents-length rule-sound (h .rules)))
-    ∙ subst (Lines asked xs k c6 i e (ruledIn l2 l3 l4 l6 q)) (was-go d (ap ruleProgress z)) (line-keeps asked xs k c6 i e (ruledIn l2 l3 l4 l6 q))
+-- ---- the areas before and after a line that goes on
+
+module _ (asked : Request) (xs : List State) (k : Caps) (c6 i e : ℕ) {l2 l3 l4 l6 v2 v3 v4 v6 : List ℕ} {q : RuleCounts} (h : HeldRuled l2 l3 l4 l6 q) (r : RuleProgress)
+    (d : Does (HeldRuled v2 v3 v4 v6) (line asked xs k c6 i e) (ruledIn l2 l3 l4 l6 q) (ruledIn v2 v3 v4 v6) (ruleProgress r)) (j : ℕ) (p : RuleCounts) (z : r ≡ Go j p) where
+  extended : Extends (asked .source) (contents ruleFormat l2 (q .rules)) (contents ruleFormat v2 (p .rules))
+  extended = subst (Lines asked xs k c6 i e (ruledIn l2 l3 l4 l6 q)) (was-go d (ap ruleProgress z)) (line-extends asked xs k c6 i e (ruledIn l2 l3 l4 l6 q))
+
+  -- the rules that were there before it are the first ones
+  pub rules-kept : take (q .rules) (contents ruleFormat v2 (p .rules)) ≡ contents ruleFormat l2 (q .rules)
+  rules-kept =
+      ap (λ (n : ℕ). take n (contents ruleFormat v2 (p .rules))) (sym (contents-length rule-sound (h .rules))) ∙ extends-first extended
+
+  -- distinct names stay distinct
+  pub names-kept : DistinctNames (asked .source) (contents ruleFormat l2 (q .rules)) → DistinctNames (asked .source) (contents ruleFormat v2 (p .rules))
+  names-kept names = extends-distinct names extended

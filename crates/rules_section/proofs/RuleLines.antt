@@ -19,7 +19,8 @@ use Rattle.area.specs.Contents.{contents, faultFormat, ruleFormat}
 use Rattle.fault.specs.Step.{Out, go, bad, full, next, onto, written, Does}
 use Rattle.fault.specs.Faults.{addFault, addRepeat, DuplicateName, VerbatimNotSupported, RoutinesNotSupported, GrowsFaults}
 use Rattle.fault.proofs.Steps.{Loops, loops-stop, loops-next, loops-bad, loops-full, going-start, does-go, does-bad, does-full, does-onto, written-next, written-full, then-go, then-bad, then-full}
-use Rattle.names.specs.Marks.{Marked}
+use Rattle.names.specs.Names.{DistinctNames}
+use Rattle.names.specs.Marks.{Marked, NamesHeld}
 use Rattle.section.specs.Request.{Request}
 use Rattle.section.specs.Section.{inSection, toRule, hasRoutines}
 use Rattle.section.specs.Reader.{NextLine}
@@ -36,7 +37,7 @@ use Rattle.rules_section.specs.declared.RuleCounts.{RuleCounts}
 use Rattle.rules_section.specs.declared.RuleProgress.{RuleProgress}
 use Rattle.rules_section.specs.declared.RuleProgress.the-variants.{Go, Bad, Full}
 use Rattle.rules_section.specs.Answers.{sheetProgress, sheetIn, HeldSheet, sheetCounts, ruleProgress, ruledIn, HeldRuled, ruleCounts, sizesOf, afterFaults}
-use Rattle.rules_section.proofs.Extending.{rules-kept}
+use Rattle.rules_section.proofs.Extending.{rules-kept, names-kept}
 
 -- ---- a rule
 
@@ -127,10 +128,10 @@ sizes l2 l3 l4 l6 = record { caps = sizesOf (length l2) (length l3) (length l4);
 abbrev body : Request → List State → Sizes → ℕ → Ruled → Out Ruled
 body asked xs c i r = nextRule asked xs (c .caps) (c .six) i r
 
--- the loop has come to the line x, at whose start no line end stands, and the names of the rules so far have their marks
+-- the loop has come to the line x, at whose start no line end stands, and what a search may use of the rules so far holds
 pub record Rules (whole : Out Ruled) (asked : Request) (xs : List State) (k2 k3 k4 k6 : List ℕ) (x : Line) (l2 l3 l4 l6 : List ℕ) (q : RuleCounts) (marks : List ℕ) : Type 0 where
   pub held : HeldRuled l2 l3 l4 l6 q
-  pub marked : Marked (asked .source) (contents ruleFormat l2 (q .rules)) marks
+  pub names : NamesHeld (asked .source) (contents ruleFormat l2 (q .rules)) marks
   pub within : x .start ≤ length (asked .source)
   pub ends : Between (x .start) (length (asked .source)) (lineEnd (asked .source) (x .start)) (x .end)
   pub starts : lineEndLen (asked .source) (x .start) ≡ 0
@@ -141,12 +142,12 @@ pub record Rules (whole : Out Ruled) (asked : Request) (xs : List State) (k2 k3 
   pub loops : Loops whole (inSection (asked .source)) (body asked xs) (length (asked .source)) (sizes k2 k3 k4 k6) (sizes l2 l3 l4 l6) (x .start) (ruledIn l2 l3 l4 l6 q)
 
 pub rules-start : (asked : Request) (xs : List State) (i : ℕ) (x : Line) (l2 l3 l4 l6 : List ℕ) (q : RuleCounts) → HeldRuled l2 l3 l4 l6 q → NextLine (asked .source) (toRule (asked .source) (asked .options .flags)) i x
-    → (marks : List ℕ) → Marked (asked .source) (contents ruleFormat l2 (q .rules)) marks
+    → (marks : List ℕ) → Marked (asked .source) (contents ruleFormat l2 (q .rules)) marks → DistinctNames (asked .source) (contents ruleFormat l2 (q .rules))
     → Rules (rules asked xs (sizesOf (length l2) (length l3) (length l4)) (length l6) i (ruledIn l2 l3 l4 l6 q)) asked xs l2 l3 l4 l6 x l2 l3 l4 l6 q marks
 unfolding rules
-rules-start asked xs i x l2 l3 l4 l6 q h b marks m = record {
+rules-start asked xs i x l2 l3 l4 l6 q h b marks m d = record {
   held = h;
-  marked = m;
+  names = record { marked = m; distinct = d };
   within = b .starts .to;
   ends = b .ends;
   starts = rw (b .starts .is) (rule-starts (asked .source) (asked .options .flags) i);
@@ -192,7 +193,7 @@ module _ {whole : Out Ruled} {asked : Request} {xs : List State} {k2 k3 k4 k6 : 
         → Rules whole asked xs k2 k3 k4 k6 y v2 v3 v4 v6 p marks′
     rules-next e2 e3 e4 e6 marks′ m = record {
       held = d .goes j p (ap ruleProgress z);
-      marked = m;
+      names = record { marked = m; distinct = names-kept asked xs (sizesOf (length l2) (length l3) (length l4)) (length l6) i e (x .held) r d j p z (x .names .distinct) };
       within = c .starts .to;
       ends = c .ends;
       starts = rw (c .starts .is) (rule-starts (asked .source) (asked .options .flags) e);
@@ -208,7 +209,7 @@ module _ {whole : Out Ruled} {asked : Request} {xs : List State} {k2 k3 k4 k6 : 
   -- the marks are those of the first rules after the line
   pub rules-marked : (j : ℕ) (p : RuleCounts) → r ≡ Go j p → Marked (asked .source) (take (q .rules) (contents ruleFormat v2 (p .rules))) marks
   rules-marked j p z =
-      subst (λ (ys : List Rule). Marked (asked .source) ys marks) (sym (rules-kept asked xs (sizesOf (length l2) (length l3) (length l4)) (length l6) i e (x .held) r d j p z)) (x .marked)
+      subst (λ (ys : List Rule). Marked (asked .source) ys marks) (sym (rules-kept asked xs (sizesOf (length l2) (length l3) (length l4)) (length l6) i e (x .held) r d j p z)) (x .names .marked)
 
   whole-bad : (kind at : ℕ) (p : RuleCounts) → r ≡ Bad kind at p → whole ≡ bad kind at (ruledIn v2 v3 v4 v6 p)
   whole-bad kind at p z = loops-bad (x .loops) (sym tested ∙ pass) inside (then-bad (λ _. toRule (asked .source) (asked .options .flags) e) is-next d (ap ruleProgress z)) refl

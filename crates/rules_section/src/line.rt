@@ -5,7 +5,7 @@ ghost use lib.ListN.{length};
 ghost use Rattle.area.specs.Contents.{stateFormat, ruleFormat, contents, Held};
 ghost use Rattle.area.specs.Contracts.{before};
 ghost use Rattle.fault.specs.Step.{onto};
-ghost use Rattle.names.specs.Marks.{Marked};
+ghost use Rattle.names.specs.Marks.{NamesHeld};
 ghost use Rattle.rules_section.specs.RulesSection.{rule, line};
 ghost use Rattle.rules_section.specs.Answers.{sheetProgress, ruleProgress, HeldRuled, ruleCounts, afterFaults};
 ghost use Rattle.rules_section.specs.Contracts.{asked, DoesRuled};
@@ -92,7 +92,7 @@ fn parse_rule(
     requires { ⌜ ((i ≤ e) × (e ≤ length (now src))) × (length (now src) ≤ 65535) ⌝ }
     requires { ⌜ Held stateFormat (now area1) n1 ⌝ }
     requires { ⌜ HeldRuled (now area2) (now area3) (now area4) (now area6) q ⌝ }
-    requires { ⌜ Marked (now src) (contents ruleFormat (now area2) (q .rules)) (now marks) ⌝ }
+    requires { ⌜ NamesHeld (now src) (contents ruleFormat (now area2) (q .rules)) (now marks) ⌝ }
     ensures { λ r. ⌜
         DoesRuled (λ k c6. rule (asked src flags verdicts) (contents stateFormat (before area1) n1) k c6 i e) area2 area3 area4 area6 q r
         ⌝ }
@@ -158,7 +158,7 @@ pub fn parse_line(
     requires { ⌜ ((i ≤ e) × (e ≤ length (now src))) × (length (now src) ≤ 65535) ⌝ }
     requires { ⌜ Held stateFormat (now area1) n1 ⌝ }
     requires { ⌜ HeldRuled (now area2) (now area3) (now area4) (now area6) q ⌝ }
-    requires { ⌜ Marked (now src) (contents ruleFormat (now area2) (q .rules)) (now marks) ⌝ }
+    requires { ⌜ NamesHeld (now src) (contents ruleFormat (now area2) (q .rules)) (now marks) ⌝ }
     ensures { λ r. ⌜
         DoesRuled (λ k c6. line (asked src flags verdicts) (contents stateFormat (before area1) n1) k c6 i e) area2 area3 area4 area6 q r
         ⌝ }

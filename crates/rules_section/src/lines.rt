@@ -1,8 +1,9 @@
 // The rules section (01, Rules).
 ghost use Prim.Native.Nat.{_≤_};
 ghost use lib.ListN.{length};
-ghost use Rattle.area.specs.Contents.{stateFormat, contents, Held};
+ghost use Rattle.area.specs.Contents.{stateFormat, ruleFormat, contents, Held};
 ghost use Rattle.area.specs.Contracts.{before};
+ghost use Rattle.names.specs.Names.{DistinctNames};
 ghost use Rattle.rules_section.specs.RulesSection.{rulesSection};
 ghost use Rattle.rules_section.specs.Answers.{HeldRuled};
 ghost use Rattle.rules_section.specs.Contracts.{asked, DoesRuled};
@@ -33,6 +34,7 @@ pub fn parse_rules(
     requires { ⌜ (i ≤ length (now src)) × (length (now src) ≤ 65535) ⌝ }
     requires { ⌜ Held stateFormat (now area1) n1 ⌝ }
     requires { ⌜ HeldRuled (now area2) (now area3) (now area4) (now area6) q ⌝ }
+    requires { ⌜ DistinctNames (now src) (contents ruleFormat (now area2) (q .rules)) ⌝ }
     ensures { λ r. ⌜
         DoesRuled (λ k c6. rulesSection (asked src flags verdicts) (contents stateFormat (before area1) n1) k c6 i) area2 area3 area4 area6 q r
         ⌝ }

@@ -5,7 +5,7 @@ use denote.Ref.{now}
 use Rattle.section.specs.Request.{Request, request, options}
 use Rattle.declarations.specs.Answers.{declarationProgress}
 use Rattle.rules_section.specs.Answers.{ruleProgress}
-use Rattle.parse.proofs.Files.{file-short, file-closed, rules-inside, states-held, rules-held, rules-short, rules-closed, rules-judged}
+use Rattle.parse.proofs.Files.{no-names, file-short, file-closed, rules-inside, states-held, rules-held, rules-short, rules-closed, rules-judged}
 use Rattle.parse.proofs.sections.parse_sections.Statement.{statement}
 use Rattle.parse.proofs.sections.parse_sections.Tie as tie
 
@@ -133,7 +133,7 @@ parse-rules-requires c κs =
       (rules-inside (asked start) _ _ _ _ _ _ (pre .1) _ _ _ (opening .result) (opening .ensures) _ _ went, pre .0),
       (
         states-held (asked start) _ _ _ _ _ _ (pre .1) _ _ _ (opening .result) (opening .ensures) _ _ went,
-        rules-held (asked start) _ _ _ _ _ _ (pre .1) _ _ _ (opening .result) (opening .ensures) _ _ went,
+        (rules-held (asked start) _ _ _ _ _ _ (pre .1) _ _ _ (opening .result) (opening .ensures) _ _ went, no-names _ _),
       ),
     )
 

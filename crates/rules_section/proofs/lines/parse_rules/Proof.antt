@@ -1,4 +1,4 @@
--- `rules_section::lines::parse_rules` meets its contract: the loop has come to the line `line`, and the names of the rules so far have their marks.
+-- `rules_section::lines::parse_rules` meets its contract: the loop has come to the line `line`, and what a search may use of the rules so far holds.
 use mathlib.Core.Path.{refl, sym, ap}
 use Prim.Native.Nat.{_-_}
 use lib.ListN.{length}
@@ -60,16 +60,16 @@ module _ (c : tie.After-marks3 Inv-loop μ-loop) where
   reading-start = reading-loop .before .before .before .before .before .before .before .before .before .before .before .before .before
 
 mark-rules-requires : tie.Need-mark-rules-requires Inv-loop μ-loop
-mark-rules-requires c κs = (c .before .before .before .before .before .before .before .before .before .before .pre .1 .1 .rules, marked-none _ _ refl)
+mark-rules-requires c κs = (c .before .before .before .before .before .before .before .before .before .before .pre .1 .1 .0 .rules, marked-none _ _ refl)
 
 parse-line-requires : tie.Need-parse-line-requires Inv-loop μ-loop
 parse-line-requires c κs =
     let pre = reading-start c .pre in
     let now = reading-loop c .loop .inv in
-    (((now .ends .from, now .ends .to), pre .0 .1), (pre .1 .0, (now .held, now .marked)))
+    (((now .ends .from, now .ends .to), pre .0 .1), (pre .1 .0, (now .held, now .names)))
 
 slice-aggregate-mark-rules-2 : tie.Need-slice-aggregate-mark-rules-2 Inv-loop μ-loop
-slice-aggregate-mark-rules-2 c = sym (parsed-loop (found-parse-line (c .before .before)) .loop .inv .marked .long)
+slice-aggregate-mark-rules-2 c = sym (parsed-loop (found-parse-line (c .before .before)) .loop .inv .names .marked .long)
 
 mark-rules-requires-2 : tie.Need-mark-rules-requires-2 Inv-loop μ-loop
 mark-rules-requires-2 c κs =
