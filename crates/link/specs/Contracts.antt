@@ -4,7 +4,7 @@ use mathlib.Core.List.{List}
 use Rattle.area.specs.declared.Rule.{Rule}
 use Rattle.area.specs.Contents.{contents, ruleFormat}
 use Rattle.names.specs.Names.{nameOf}
-use Rattle.sheet_check.specs.Contracts.{Bytes, before}
+use Rattle.area.specs.Contracts.{Bytes, before}
 use Rattle.link.specs.Map.{Entry, entriesOf}
 
 -- the map

@@ -11,7 +11,7 @@ ghost use Rattle.link.specs.Map.{mostEntries, entryCount, nth, findEntry
 ghost use Rattle.names.specs.Names.{nameOf};
 ghost use Rattle.link.specs.Link.{isUnused};
 ghost use Rattle.link.specs.Index.{slotCount, Slot, EntrySlots, RuleSlots, EntryIndex, EntriesIndexed, MapChecked};
-ghost use Rattle.sheet_check.specs.Contracts.{before, after};
+ghost use Rattle.area.specs.Contracts.{before, after};
 ghost use Rattle.link.specs.Contracts.{mapIn, rulesIn, namesIn};
 use crate::map::MAP_WIDTH;
 use crate::map::find_entry;

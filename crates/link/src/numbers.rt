@@ -11,7 +11,7 @@ ghost use Rattle.names.specs.Names.{nameOf};
 ghost use Rattle.link.specs.Map.{mostEntries, entryCount, entriesOf, nth};
 ghost use Rattle.link.specs.Link.{isUnmapped, isUnlinked, hasThatName, isUnused, unlinked, unmapped, unused, fits};
 ghost use Rattle.link.specs.Index.{EntryIndex, RuleSlots};
-ghost use Rattle.sheet_check.specs.Contracts.{before, after};
+ghost use Rattle.area.specs.Contracts.{before, after};
 ghost use Rattle.link.specs.Contracts.{mapIn, rulesIn, namesIn};
 use crate::index::is_unused_by;
 use crate::map::MAP_WIDTH;

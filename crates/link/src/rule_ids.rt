@@ -8,7 +8,7 @@ ghost use Rattle.area.specs.Contents.{ruleFormat, relaid};
 ghost use Rattle.link.specs.Map.{entryCount, findEntry};
 ghost use Rattle.link.specs.Link.{withId, linkRule, linkRules};
 ghost use Rattle.link.specs.Index.{EntryIndex};
-ghost use Rattle.sheet_check.specs.Contracts.{before, after};
+ghost use Rattle.area.specs.Contracts.{before, after};
 ghost use Rattle.link.specs.Contracts.{mapIn, rulesIn, namesIn};
 use crate::index::find_by;
 use crate::map::MAP_WIDTH;

@@ -2,7 +2,7 @@
 ghost use mathlib.Core.Path.{_≡_};
 ghost use Prim.Native.Nat.{_≤_};
 ghost use lib.ListN.{length};
-ghost use Rattle.output.specs.Contracts.{before};
+ghost use Rattle.area.specs.Contracts.{before};
 ghost use Rattle.recorded.specs.Comparison.{WhenTrue, ZeroAfter, AreaHolds, CountsAre, AreaIs, ThreeAre, NumbersAre, LeftIs, Compares};
 ghost use Rattle.recorded.specs.Records.{lentAt, areasAt, fourthAt, areasEnd};
 use crate::reader::bytes_end;

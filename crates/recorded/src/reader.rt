@@ -2,7 +2,7 @@
 ghost use mathlib.Core.Path.{_≡_};
 ghost use Prim.Native.Nat.{_≤_, _+_};
 ghost use lib.ListN.{length};
-ghost use Rattle.output.specs.Contracts.{before};
+ghost use Rattle.area.specs.Contracts.{before};
 ghost use Rattle.recorded.specs.Records.{numberAt, longAt, Skips, Ends};
 use output::fields::field_at;
 

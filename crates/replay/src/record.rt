@@ -2,7 +2,7 @@
 ghost use Prim.Native.Nat.{_+_, _≤_, _<_};
 ghost use lib.ListN.{length, take};
 ghost use Rattle.section.specs.Request.{request, options};
-ghost use Rattle.output.specs.Contracts.{before, after};
+ghost use Rattle.area.specs.Contracts.{before, after};
 ghost use Rattle.recorded.specs.Comparison.{Compares};
 ghost use Rattle.recorded.specs.Records.{sourceAt, sourceEnd};
 ghost use Rattle.replay.specs.Records.{sizes, buffers, Called, Agrees, recordEnd};

@@ -4,7 +4,7 @@ use mathlib.Core.List.{List}
 use lib.ListN.{length}
 use Rattle.area.specs.Records.{stateWidth, ruleWidth, entryWidth, ruleAt}
 use Rattle.area.specs.Contents.{contents, stateFormat, ruleFormat, entryFormat}
-use Rattle.sheet_check.specs.Contracts.{Bytes, before}
+use Rattle.area.specs.Contracts.{Bytes, before}
 use Rattle.run.specs.declared.Run.{Run}
 use Rattle.run.specs.Winner.{Lexer}
 use Rattle.run.specs.Run.{mostBytes, movesOf}

@@ -2,7 +2,8 @@
 ghost use mathlib.Core.Path.{_≡_};
 ghost use mathlib.Core.Bool.{true};
 ghost use Prim.Native.Nat.{_<_};
-ghost use Rattle.sheet_check.specs.Contracts.{before, after, sheetIn};
+ghost use Rattle.sheet_check.specs.Contracts.{sheetIn};
+ghost use Rattle.area.specs.Contracts.{before, after};
 ghost use Rattle.run.specs.Run.{running, input, runLeft, startCall, goodRun, fitsIn, goodRow, stepRow, stepRun, stepCall};
 ghost use Rattle.run.specs.Contracts.{lexerIn, Readable};
 use crate::Begun;

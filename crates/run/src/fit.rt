@@ -6,7 +6,7 @@ ghost use lib.ListN.{length};
 ghost use Rattle.area.specs.Records.{entryWidth};
 ghost use Rattle.area.specs.Contents.{contents, entryFormat};
 ghost use Rattle.area.specs.Lists.{all};
-ghost use Rattle.sheet_check.specs.Contracts.{before};
+ghost use Rattle.area.specs.Contracts.{before};
 ghost use Rattle.run.specs.Run.{running, goodNumbers, goodRun, goodRow};
 use crate::MOST_BYTES;
 use crate::Run;

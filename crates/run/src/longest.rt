@@ -5,7 +5,7 @@ ghost use Prim.Native.Nat.{_+_, _*_, _≤_, _<_};
 ghost use lib.ListN.{length};
 ghost use Rattle.area.specs.Records.{stateWidth, entryWidth};
 ghost use Rattle.area.specs.Contents.{contents, stateFormat, entryFormat};
-ghost use Rattle.sheet_check.specs.Contracts.{before};
+ghost use Rattle.area.specs.Contracts.{before};
 ghost use Rattle.run.specs.Winner.{findInList, live, weight, best, better};
 ghost use Rattle.run.specs.Contracts.{lexerIn, Readable};
 use crate::Best;

@@ -3,7 +3,7 @@ ghost use mathlib.Core.Path.{_≡_};
 ghost use Prim.Native.Nat.{_+_, _*_, _≤_};
 ghost use lib.ListN.{length};
 ghost use Rattle.area.specs.Records.{entryWidth};
-ghost use Rattle.sheet_check.specs.Contracts.{before, after};
+ghost use Rattle.area.specs.Contracts.{before, after};
 ghost use Rattle.run.specs.Run.{running, runLeft, putState, withDepth, operated, moveBy, wonBy};
 ghost use Rattle.run.specs.Contracts.{HasRoom, Inside};
 use crate::Run;

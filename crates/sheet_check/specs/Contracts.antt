@@ -1,22 +1,11 @@
--- What the contracts of the code speak of: a parameter before the call and after it, and the sheet that is lent.
+-- Short words for contracts: the sheet that is lent.
 use Prim.Native.Nat.{ℕ, _*_, _≤_}
 use mathlib.Core.List.{List}
 use lib.ListN.{length}
-use denote.Ref.{RefT, now}
-use denote.Triple.Both.{Both}
+use Rattle.area.specs.Contracts.{Bytes, before}
 use Rattle.area.specs.Records.{stateWidth, ruleWidth, entryWidth, expectedWidth}
 use Rattle.sheet_check.specs.declared.Sizes.{Sizes}
 use Rattle.sheet_check.specs.SheetCheck.{SheetBytes, sheetBytes}
-
--- a parameter that is a slice, or a reference to an array
-abbrev pub Bytes : Type 0
-Bytes = Both (RefT (List ℕ)) (RefT (List ℕ))
-
-abbrev pub before : Bytes → List ℕ
-before p = now (p .entry)
-
-abbrev pub after : Bytes → List ℕ
-after p = now (p .exit)
 
 -- the sheet, as it is lent
 abbrev pub sheetIn : Bytes → Bytes → Bytes → Bytes → Bytes → Bytes → Bytes → SheetBytes

@@ -8,7 +8,8 @@ ghost use Rattle.area.specs.Records.{stateWidth, ruleWidth, entryWidth, expecte
 ghost use Rattle.area.specs.Contents.{contents, stateFormat, ruleFormat, entryFormat, expectedFormat};
 ghost use Rattle.area.specs.Lists.{all};
 ghost use Rattle.sheet_check.specs.SheetCheck.{sizesOf, goodCounts, goodSizes, ordered, within, declared, bytesAt, goodState, goodRule, goodExpected, goodRecords, sheetCheck};
-ghost use Rattle.sheet_check.specs.Contracts.{before, sheetIn, AreasLong};
+ghost use Rattle.sheet_check.specs.Contracts.{sheetIn, AreasLong};
+ghost use Rattle.area.specs.Contracts.{before};
 use crate::Sizes;
 use area::ENTRY_WIDTH;
 use area::EXPECTED_WIDTH;

@@ -1,7 +1,7 @@
 // What the parse call makes of a file, as lines of text (01, Files to try, the end).
 ghost use Prim.Native.Nat.{_≤_};
 ghost use lib.ListN.{length, getD};
-ghost use Rattle.output.specs.Contracts.{before, after};
+ghost use Rattle.area.specs.Contracts.{before, after};
 ghost use Rattle.output.specs.Output.{Written, AllWritten};
 ghost use Rattle.sheet_print.specs.Lines.{answerText, sheetText, sheetRoom};
 use answers::INVALID_UTF8;

@@ -1,10 +1,10 @@
 // The calls of the host, as C functions (01, Numbers given at the counter). An answer is one word of four two-byte fields: its number, then its values.
 ghost use mathlib.Core.Path.{_≡_};
-ghost use Rattle.section.specs.Request.{request, options};
+ghost use Rattle.rules_section.specs.Contracts.{asked};
 ghost use Rattle.parse.specs.Parse.{parseCall, parseWord};
-ghost use Rattle.sheet_check.specs.Contracts.{before};
+ghost use Rattle.parse.specs.Contracts.{roomIn};
 ghost use Rattle.troymantle.specs.Words.{inWords};
-ghost use Rattle.troymantle.specs.Contracts.{roomIn, leftIn};
+ghost use Rattle.troymantle.specs.Contracts.{leftIn};
 use answers::ACCEPTED;
 use answers::AREA_FULL;
 use answers::FAULTY_FILE;
@@ -48,7 +48,7 @@ pub extern "C" fn troymantle_parse(
 ) -> u64
     ensures { λ r. ⌜
         leftIn r counts area1 area2 area3 area4 area5 area6
-        ≡ inWords (parseCall (request (before src) (options flags) (before verdicts)) (roomIn area1 area2 area3 area4 area5 area6))
+        ≡ inWords (parseCall (asked src flags verdicts) (roomIn area1 area2 area3 area4 area5 area6))
         ⌝ }
 {
     word_of(parse(

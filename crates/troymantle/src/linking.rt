@@ -1,7 +1,8 @@
 // The link call as a C function (01, Linking).
 ghost use mathlib.Core.Path.{_≡_};
 ghost use Rattle.link.specs.Link.{linkCall, linkWord};
-ghost use Rattle.sheet_check.specs.Contracts.{before, after, sheetIn};
+ghost use Rattle.sheet_check.specs.Contracts.{sheetIn};
+ghost use Rattle.area.specs.Contracts.{before, after};
 ghost use Rattle.troymantle.specs.LinkWords.{inLinkWords, linkInWords};
 use answers::ACCEPTED;
 use answers::AREA_FULL;

@@ -1,7 +1,8 @@
 // The start call and the step call as C functions (01, The run).
 ghost use mathlib.Core.Path.{_≡_};
 ghost use Rattle.run.specs.Run.{running, input, runLeft, startCall, startWord, stepCall, stepWord};
-ghost use Rattle.sheet_check.specs.Contracts.{before, after, sheetIn};
+ghost use Rattle.sheet_check.specs.Contracts.{sheetIn};
+ghost use Rattle.area.specs.Contracts.{before, after};
 ghost use Rattle.troymantle.specs.RunWords.{startInWords, stepInWords};
 use answers::ACCEPTED;
 use answers::BROKEN_RUN;
