@@ -23,14 +23,16 @@ use Rattle.area.specs.Contents.{append, contents, stateFormat, faultFormat, Gro
 use Rattle.area.proofs.Contents.{contents-at, contents-length, state-sound, held-push}
 use Rattle.fault.specs.Step.{Out, go, bad, full, onto, written, Does}
 use Rattle.fault.specs.Faults.{addRepeat, DuplicateStartState, InvalidStartStateName, GrowsFaults}
-use Rattle.fault.proofs.Steps.{Loops, loops-stop, loops-next, loops-bad, loops-full, going-start, does-go, does-bad, does-full, was-go, written-next, written-full, written-place, onto-place, bad-goes}
+use Rattle.fault.proofs.Steps.{Loops, loops-stop, loops-next, loops-bad, loops-full, going-start, does-go, does-bad, does-full, was-go, written-next}
+use Rattle.fault.proofs.Steps.{written-full, written-place, onto-place, bad-goes}
 use Rattle.names.specs.Names.{allBytes, isNameByte, isStateName, findState}
 use Rattle.declarations.specs.declared.Naming.{Naming}
 use Rattle.declarations.specs.declared.Naming.the-variants.{Malformed, Known, New}
 use Rattle.declarations.specs.declared.NameCounts.{NameCounts}
 use Rattle.declarations.specs.declared.NameProgress.{NameProgress}
 use Rattle.declarations.specs.declared.NameProgress.the-variants.{Go, Bad, Full}
-use Rattle.declarations.specs.Declarations.{range, Names, names, NameCaps, nameCaps, state, behindName, addState, repeatState, stateNamed, declareState, stateNames}
+use Rattle.declarations.specs.Declarations.{range, Names, names, NameCaps, nameCaps, state, behindName, addState, repeatState, stateNamed}
+use Rattle.declarations.specs.Declarations.{declareState, stateNames}
 use Rattle.declarations.specs.Stages.{namingOf}
 use Rattle.declarations.specs.Answers.{HeldNames, namesIn, nameProgress}
 
@@ -61,7 +63,8 @@ declareNamed k i x (Known c d) n = onto (names (n .states)) (written 6 i (addRep
 declareNamed k i x New n = onto (λ xs. names xs (n .faults)) (written 1 i (append stateFormat (k .c1) (x ∷ []) (n .states)))
 
 -- a name that is declared by what it is found to be is declared
-name-declares : (s : List ℕ) (k : NameCaps) (x : State) (n : Names) → declareNamed k (behindName s x) x (namingOf s (x .start) (x .end) (n .states)) n ≡ declareState s k x n
+name-declares : (s : List ℕ) (k : NameCaps) (x : State) (n : Names)
+    → declareNamed k (behindName s x) x (namingOf s (x .start) (x .end) (n .states)) n ≡ declareState s k x n
 unfolding declareNamed namingOf declareState stateNamed repeatState addState
 name-declares s k x n = by (isStateName s (x .start) (x .end)) (ltb j (length (n .states)))
   where
@@ -71,7 +74,9 @@ name-declares s k x n = by (isStateName s (x .start) (x .end)) (ltb j (length (n
     y : State
     y = nthState (n .states) j
 
-    by : (p t : Bool) → declareNamed k (behindName s x) x (cond p (cond t (Known (y .start) (y .end)) New) Malformed) n ≡ cond (not p) (bad InvalidStartStateName (x .start) n) (cond t (repeatState s k x y n) (addState s k x n))
+    by : (p t : Bool)
+        → declareNamed k (behindName s x) x (cond p (cond t (Known (y .start) (y .end)) New) Malformed) n
+        ≡ cond (not p) (bad InvalidStartStateName (x .start) n) (cond t (repeatState s k x y n) (addState s k x n))
     by true true = refl
     by true false = refl
     by false t = refl
@@ -95,7 +100,8 @@ module _ (s : List ℕ) (exclusive a e : ℕ) (l1 l6 : List ℕ) (q : NameCounts
   unfolding declareNamed
   name-bad z = does-bad (step Malformed z) h
 
-  module _ (c d : ℕ) (z : x ≡ Known c d) (r : Appended) (v : List ℕ) (g : GrowsFaults (addRepeat (length l6) DuplicateStartState c d a e) l6 (q .faults) r v) where
+  module _ (c d : ℕ) (z : x ≡ Known c d) (r : Appended) (v : List ℕ)
+      (g : GrowsFaults (addRepeat (length l6) DuplicateStartState c d a e) l6 (q .faults) r v) where
     pub name-repeated : (m : ℕ) → r ≡ Next m → Done l1 v (go (e + w) (record { states = q .states; faults = m }))
     unfolding declareNamed
     name-repeated m y =
@@ -127,7 +133,8 @@ pub ruleset declaring = (needs, name-bad, name-repeated, name-overfull, name-new
 -- ---- the loop over the names up to t
 
 -- a name of a good form leads on behind the whitespace that ends it
-declared-place : (s : List ℕ) (k : NameCaps) (x y : State) (n : Names) (t : Bool) {j : ℕ} {m : Names} → cond t (repeatState s k x y n) (addState s k x n) ≡ go j m → x .end + whitespaceLen s (x .end) ≡ j
+declared-place : (s : List ℕ) (k : NameCaps) (x y : State) (n : Names) (t : Bool) {j : ℕ} {m : Names}
+    → cond t (repeatState s k x y n) (addState s k x n) ≡ go j m → x .end + whitespaceLen s (x .end) ≡ j
 unfolding repeatState addState behindName
 declared-place s k x y n true z =
     let o = addRepeat (k .c6) DuplicateStartState (y .start) (y .end) (x .start) (x .end) (n .faults) in
@@ -144,9 +151,17 @@ named-forward s k exclusive a e n {j} {m} q = by (isStateName s a e) refl q
     known : Bool
     known = ltb (findState s a e (n .states)) (length (n .states))
 
-    by : (t : Bool) → isStateName s a e ≡ t → cond (not t) (bad InvalidStartStateName a n) (cond known (repeatState s k (state a e exclusive) (nthState (n .states) (findState s a e (n .states))) n) (addState s k (state a e exclusive) n)) ≡ go j m → a < j
+    by : (t : Bool) → isStateName s a e ≡ t
+        → cond (not t) (bad InvalidStartStateName a n) (cond known
+        (repeatState s k (state a e exclusive) (nthState (n .states) (findState s a e (n .states))) n) (addState s k (state a e exclusive) n))
+        ≡ go j m → a < j
     by true f z =
-        omega (arith, declared-place s k (state a e exclusive) (nthState (n .states) (findState s a e (n .states))) n known z, ltb-true a e (and-left (ltb a e) (isLetter (byte s a) && allBytes isNameByte s (a + 1) e) f))
+        omega (
+          arith,
+          declared-place s k (state a e exclusive) (nthState (n .states) (findState s a e (n .states))) n known z,
+          ltb-true a e
+              (and-left (ltb a e) (isLetter (byte s a) && allBytes isNameByte s (a + 1) e) f),
+        )
     by false f z = absurd (bad-goes z)
 
 abbrev sizes : List ℕ → List ℕ → NameCaps
@@ -172,9 +187,11 @@ declares-start s exclusive t a l1 l6 q h f = record {
   loops = record { going = going-start (λ j. ltb j t) (body s exclusive t (sizes l1 l6)) t a (namesIn l1 l6 q) (length s) (omega arith); same = refl };
 }
 
-module _ {whole : Out Names} {s : List ℕ} {exclusive t : ℕ} {k1 k6 : List ℕ} {a : ℕ} {l1 l6 : List ℕ} {q : NameCounts} (x : Declares whole s exclusive t k1 k6 a l1 l6 q)
+module _ {whole : Out Names} {s : List ℕ} {exclusive t : ℕ} {k1 k6 : List ℕ} {a : ℕ} {l1 l6 : List ℕ} {q : NameCounts}
+    (x : Declares whole s exclusive t k1 k6 a l1 l6 q)
     (h : a < t) (e : ℕ) (b : Between a t (findWhitespace s a t) e) {v1 v6 : List ℕ} (r : NameProgress)
-    (d : Does (HeldNames v1 v6) (declareState s (nameCaps (length l1) (length l6)) (state a e exclusive)) (namesIn l1 l6 q) (namesIn v1 v6) (nameProgress r)) where
+    (d : Does (HeldNames v1 v6) (declareState s (nameCaps (length l1) (length l6)) (state a e exclusive)) (namesIn l1 l6 q) (namesIn v1 v6)
+    (nameProgress r)) where
   -- the name at a is the loop's next one
   the-next : Does (HeldNames v1 v6) (body s exclusive t (sizes l1 l6) a) (namesIn l1 l6 q) (namesIn v1 v6) (nameProgress r)
   the-next = record { says = rw (← b .is) (d .says); goes = d .goes; ends = d .ends }
@@ -195,12 +212,14 @@ module _ {whole : Out Names} {s : List ℕ} {exclusive t : ℕ} {k1 k6 : List �
     }
 
 -- f is the whole loop, which began with n
-module _ (f : Names → Out Names) (n : Names) {s : List ℕ} {exclusive t : ℕ} {k1 k6 : List ℕ} {a : ℕ} {l1 l6 : List ℕ} {q : NameCounts} (x : Declares (f n) s exclusive t k1 k6 a l1 l6 q) where
+module _ (f : Names → Out Names) (n : Names) {s : List ℕ} {exclusive t : ℕ} {k1 k6 : List ℕ} {a : ℕ} {l1 l6 : List ℕ} {q : NameCounts}
+    (x : Declares (f n) s exclusive t k1 k6 a l1 l6 q) where
   pub declares-done : t ≤ a → Does (HeldNames l1 l6) f n (namesIn l1 l6) (go a q)
   declares-done h = does-go (loops-stop (x .loops) (le-ltb a t h)) (x .held)
 
   module _ (h : a < t) (e : ℕ) (b : Between a t (findWhitespace s a t) e) {v1 v6 : List ℕ} (r : NameProgress)
-      (d : Does (HeldNames v1 v6) (declareState s (nameCaps (length l1) (length l6)) (state a e exclusive)) (namesIn l1 l6 q) (namesIn v1 v6) (nameProgress r)) where
+      (d : Does (HeldNames v1 v6) (declareState s (nameCaps (length l1) (length l6)) (state a e exclusive)) (namesIn l1 l6 q) (namesIn v1 v6)
+      (nameProgress r)) where
     pub declares-bad : (kind at : ℕ) (p : NameCounts) → r ≡ Bad kind at p → Does (HeldNames v1 v6) f n (namesIn v1 v6) (bad kind at p)
     declares-bad kind at p z =
         does-bad (loops-bad (x .loops) (lt-ltb a t h) h (the-next x h e b r d) (ap nameProgress z)) (d .ends kind at p (ap nameProgress z))

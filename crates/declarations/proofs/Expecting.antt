@@ -26,7 +26,8 @@ use Rattle.fault.specs.declared.Progress.the-variants as Progress
 use Rattle.fault.specs.declared.Progress.the-variants.{Go, Bad}
 use Rattle.fault.specs.Step.{Out, go, bad, full, Does, progress, written}
 use Rattle.fault.specs.Faults.{InvalidName}
-use Rattle.fault.proofs.Steps.{Loops, loops-stop, loops-next, loops-bad, loops-full, going-start, does-go, does-bad, does-full, was-go, written-next, written-full, written-place, bad-goes}
+use Rattle.fault.proofs.Steps.{Loops, loops-stop, loops-next, loops-bad, loops-full, going-start, does-go, does-bad, does-full, was-go, written-next}
+use Rattle.fault.proofs.Steps.{written-full, written-place, bad-goes}
 use Rattle.declarations.specs.Declarations.{range, expected, isQuoted, declareExpected, expectedNames}
 
 -- ---- quotes
@@ -48,9 +49,12 @@ pub ruleset quoting = (needs, quotes-short, quotes-by)
 
 -- ---- a name
 
-module _ (s : List ℕ) (i e a n : ℕ) (l : List ℕ) (h : Held expectedFormat l n) (end : ℕ) (b : Between a e (findAsciiWhitespace s a e) end) (r : Bool) (q : r ≡ isQuoted s (range a end)) where
+module _ (s : List ℕ) (i e a n : ℕ) (l : List ℕ) (h : Held expectedFormat l n) (end : ℕ) (b : Between a e (findAsciiWhitespace s a e) end) (r : Bool)
+    (q : r ≡ isQuoted s (range a end)) where
   abbrev Done : List ℕ → Out ℕ → Type 0
-  Done x o = Does (Held expectedFormat x) (declareExpected s (length l) (range i e) (range a (findAsciiWhitespace s a e))) (contents expectedFormat l n) (contents expectedFormat x) o
+  Done x o =
+      Does (Held expectedFormat x) (declareExpected s (length l) (range i e) (range a (findAsciiWhitespace s a e))) (contents expectedFormat l n)
+      (contents expectedFormat x) o
 
   pub expected-bad : r ≡ false → Done l (bad InvalidName i n)
   unfolding declareExpected
@@ -77,33 +81,48 @@ pub ruleset expecting = (needs, quotes-one, expected-bad, expected-next, expecte
 -- ---- the loop over the names, up to e
 
 -- a name leads on
-expected-forward : (s : List ℕ) (c5 i e a : ℕ) (xs : List Expected) {j : ℕ} {ys : List Expected} → declareExpected s c5 (range i e) (range a (findAsciiWhitespace s a e)) xs ≡ go j ys → a < j
+expected-forward : (s : List ℕ) (c5 i e a : ℕ) (xs : List Expected) {j : ℕ} {ys : List Expected}
+    → declareExpected s c5 (range i e) (range a (findAsciiWhitespace s a e)) xs ≡ go j ys → a < j
 unfolding declareExpected
 expected-forward s c5 i e a xs {j} {ys} q = by (isQuoted s (range a end)) refl q
   where
     end : ℕ
     end = findAsciiWhitespace s a e
 
-    by : (t : Bool) → isQuoted s (range a end) ≡ t → cond t (written 5 (skipAsciiWhitespace s end e) (append expectedFormat c5 (expected (a + 1) (end - 1) ∷ []) xs)) (bad InvalidName i xs) ≡ go j ys → a < j
+    by : (t : Bool) → isQuoted s (range a end) ≡ t
+        → cond t (written 5 (skipAsciiWhitespace s end e) (append expectedFormat c5 (expected (a + 1) (end - 1) ∷ []) xs)) (bad InvalidName i xs) ≡ go j ys
+        → a < j
     by true z w =
-        omega (arith, quotes-long s a end true (sym z) refl, written-place 5 (skipAsciiWhitespace s end e) (append expectedFormat c5 (expected (a + 1) (end - 1) ∷ []) xs) w, first-from (λ k. not (isAsciiWhitespace (byte s k))) end e)
+        omega (
+          arith,
+          quotes-long s a end true (sym z) refl,
+          written-place 5 (skipAsciiWhitespace s end e)
+              (append expectedFormat c5 (expected (a + 1) (end - 1) ∷ []) xs) w,
+          first-from (λ k. not (isAsciiWhitespace (byte s k))) end e,
+        )
     by false z w = absurd (bad-goes w)
 
 -- the loop has come to the name at a, with n names held
 pub record Expects (whole : Out (List Expected)) (s : List ℕ) (c5 i e a : ℕ) (l : List ℕ) (n : ℕ) : Type 0 where
   pub held : Held expectedFormat l n
-  pub loops : Loops whole (λ j. ltb j e) (λ c j. declareExpected s c (range i e) (range j (findAsciiWhitespace s j e))) e c5 (length l) a (contents expectedFormat l n)
+  pub loops : Loops whole (λ j. ltb j e) (λ c j. declareExpected s c (range i e) (range j (findAsciiWhitespace s j e))) e c5 (length l) a
+      (contents expectedFormat l n)
 
 pub expects-start : (s : List ℕ) (i e w n a : ℕ) (l : List ℕ) → Held expectedFormat l n → e ≤ length s → Between w e (skipAsciiWhitespace s w e) a
     → Expects (expectedNames s (length l) (range i e) w (contents expectedFormat l n)) s (length l) i e a l n
 unfolding expectedNames
 expects-start s i e w n a l h f b = record {
   held = h;
-  loops = record { going = rw (← b .is) (going-start (λ j. ltb j e) (λ j. declareExpected s (length l) (range i e) (range j (findAsciiWhitespace s j e))) e a (contents expectedFormat l n) (length s) (omega arith)); same = refl };
+  loops = record {
+    going = rw (← b .is) (going-start (λ j. ltb j e) (λ j. declareExpected s (length l) (range i e) (range j (findAsciiWhitespace s j e))) e a
+        (contents expectedFormat l n) (length s) (omega arith));
+    same = refl;
+  };
 }
 
 module _ {whole : Out (List Expected)} {s : List ℕ} {c5 i e a : ℕ} {l : List ℕ} {n : ℕ} (x : Expects whole s c5 i e a l n) (h : a < e)
-    {v : List ℕ} (r : Progress) (d : Does (Held expectedFormat v) (declareExpected s (length l) (range i e) (range a (findAsciiWhitespace s a e))) (contents expectedFormat l n) (contents expectedFormat v) (progress r)) (j m : ℕ) (q : r ≡ Go j m) where
+    {v : List ℕ} (r : Progress) (d : Does (Held expectedFormat v) (declareExpected s (length l) (range i e) (range a (findAsciiWhitespace s a e)))
+    (contents expectedFormat l n) (contents expectedFormat v) (progress r)) (j m : ℕ) (q : r ≡ Go j m) where
   forward : a < j
   forward = expected-forward s (length l) i e a (contents expectedFormat l n) (was-go d (ap progress q))
 
@@ -117,11 +136,14 @@ module _ {whole : Out (List Expected)} {s : List ℕ} {c5 i e a : ℕ} {l : List
   }
 
 -- f is the whole loop, which began with the names xs
-module _ (f : List Expected → Out (List Expected)) (xs : List Expected) {s : List ℕ} {c5 i e a : ℕ} {l : List ℕ} {n : ℕ} (x : Expects (f xs) s c5 i e a l n) where
+module _ (f : List Expected → Out (List Expected)) (xs : List Expected) {s : List ℕ} {c5 i e a : ℕ} {l : List ℕ} {n : ℕ}
+    (x : Expects (f xs) s c5 i e a l n) where
   pub expects-done : e ≤ a → Does (Held expectedFormat l) f xs (contents expectedFormat l) (go a n)
   expects-done h = does-go (loops-stop (x .loops) (le-ltb a e h)) (x .held)
 
-  module _ (h : a < e) {v : List ℕ} (r : Progress) (d : Does (Held expectedFormat v) (declareExpected s (length l) (range i e) (range a (findAsciiWhitespace s a e))) (contents expectedFormat l n) (contents expectedFormat v) (progress r)) where
+  module _ (h : a < e) {v : List ℕ} (r : Progress)
+      (d : Does (Held expectedFormat v) (declareExpected s (length l) (range i e) (range a (findAsciiWhitespace s a e))) (contents expectedFormat l n)
+      (contents expectedFormat v) (progress r)) where
     pub expects-bad : (kind at m : ℕ) → r ≡ Bad kind at m → Does (Held expectedFormat v) f xs (contents expectedFormat v) (bad kind at m)
     expects-bad kind at m q = does-bad (loops-bad (x .loops) (lt-ltb a e h) h d (ap progress q)) (d .ends kind at m (ap progress q))
 

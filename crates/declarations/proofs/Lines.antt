@@ -24,7 +24,8 @@ use Rattle.fault.specs.declared.Progress.{Progress}
 use Rattle.fault.specs.declared.Progress.the-variants as Progress
 use Rattle.fault.specs.Step.{Out, go, bad, full, next, onto, loop, Does, progress}
 use Rattle.fault.specs.Faults.{UnknownDeclaration, PrematureEnd}
-use Rattle.fault.proofs.Steps.{Loops, loops-stop, loops-next, loops-bad, loops-full, going-start, does-go, does-bad, does-full, was-go, was-bad, was-full, bad-goes, full-goes, then-go, then-bad, then-full}
+use Rattle.fault.proofs.Steps.{Loops, loops-stop, loops-next, loops-bad, loops-full, going-start, does-go, does-bad, does-full, was-go, was-bad}
+use Rattle.fault.proofs.Steps.{was-full, bad-goes, full-goes, then-go, then-bad, then-full}
 use Rattle.section.specs.Request.{Options}
 use Rattle.section.specs.Section.{percents, toDeclaration, inSection}
 use Rattle.section.specs.Reader.{NextLine}
@@ -39,7 +40,8 @@ use Rattle.declarations.specs.declared.DeclarationCounts.{DeclarationCou
 use Rattle.declarations.specs.declared.DeclarationProgress.{DeclarationProgress}
 use Rattle.declarations.specs.declared.DeclarationProgress.the-variants.{Go, Bad, Full}
 use Rattle.declarations.specs.Declarations.{range, trimmed, wordEnd, firstWord, restOf, isInclusive, isExclusive, isExpecting, statesOf, declarationOf}
-use Rattle.declarations.specs.Declarations.{Names, names, nameCaps, Declared, Caps, withNames, withExpected, thenAt, stateNames, expectedNames, declareAs, declaration, nextDeclaration, endDeclarations, declarations}
+use Rattle.declarations.specs.Declarations.{Names, names, nameCaps, Declared, Caps, withNames, withExpected, thenAt, stateNames, expectedNames}
+use Rattle.declarations.specs.Declarations.{declareAs, declaration, nextDeclaration, endDeclarations, declarations}
 use Rattle.declarations.specs.Answers.{HeldNames, namesIn, nameProgress, HeldDeclared, declaredIn, declarationProgress, capsOf}
 
 -- ---- what a line says ends within the line
@@ -82,7 +84,8 @@ module _ (s : List ℕ) (i e : ℕ) (d : Declaration) (is : d ≡ declarationOf 
 
 -- ---- a declaration
 
-module _ (s : List ℕ) (i e : ℕ) (l1 l5 l6 : List ℕ) (q : DeclarationCounts) (h : HeldDeclared l1 l5 l6 q) (d : Declaration) (is : d ≡ declarationOf s (range i e)) where
+module _ (s : List ℕ) (i e : ℕ) (l1 l5 l6 : List ℕ) (q : DeclarationCounts) (h : HeldDeclared l1 l5 l6 q) (d : Declaration)
+    (is : d ≡ declarationOf s (range i e)) where
   abbrev caps : Caps
   caps = capsOf (length l1) (length l5) (length l6)
 
@@ -101,27 +104,32 @@ module _ (s : List ℕ) (i e : ℕ) (l1 l5 l6 : List ℕ) (q : DeclarationCounts
   line-unknown z = does-bad (step Unknown z) h
 
   module _ (x a t : ℕ) (z : d ≡ States x a t) {v1 v6 : List ℕ} (r : NameProgress)
-      (n : Does (HeldNames v1 v6) (stateNames s (nameCaps (length l1) (length l6)) x (range a t)) (namesIn l1 l6 (record { states = q .states; faults = q .faults })) (namesIn v1 v6) (nameProgress r)) where
+      (n : Does (HeldNames v1 v6) (stateNames s (nameCaps (length l1) (length l6)) x (range a t))
+      (namesIn l1 l6 (record { states = q .states; faults = q .faults })) (namesIn v1 v6) (nameProgress r)) where
     of-names : Out Names → Out Declared
     of-names o = thenAt e (onto (withNames before) o)
 
     held-names : (p : NameCounts) → HeldNames v1 v6 p → HeldDeclared v1 l5 v6 (record { states = p .states; expected = q .expected; faults = p .faults })
     held-names p g = record { states = g .states; expected = h .expected; faults = g .faults }
 
-    pub line-states : (j : ℕ) (p : NameCounts) → r ≡ Name.Go j p → Done v1 l5 v6 (go e (record { states = p .states; expected = q .expected; faults = p .faults }))
+    pub line-states : (j : ℕ) (p : NameCounts) → r ≡ Name.Go j p
+        → Done v1 l5 v6 (go e (record { states = p .states; expected = q .expected; faults = p .faults }))
     unfolding declareAs of-names
     line-states j p y = does-go (step (States x a t) z ∙ ap of-names (was-go n (ap nameProgress y))) (held-names p (n .goes j p (ap nameProgress y)))
 
-    pub line-states-bad : (kind at : ℕ) (p : NameCounts) → r ≡ Name.Bad kind at p → Done v1 l5 v6 (bad kind at (record { states = p .states; expected = q .expected; faults = p .faults }))
+    pub line-states-bad : (kind at : ℕ) (p : NameCounts) → r ≡ Name.Bad kind at p
+        → Done v1 l5 v6 (bad kind at (record { states = p .states; expected = q .expected; faults = p .faults }))
     unfolding declareAs of-names
-    line-states-bad kind at p y = does-bad (step (States x a t) z ∙ ap of-names (was-bad n (ap nameProgress y))) (held-names p (n .ends kind at p (ap nameProgress y)))
+    line-states-bad kind at p y =
+        does-bad (step (States x a t) z ∙ ap of-names (was-bad n (ap nameProgress y))) (held-names p (n .ends kind at p (ap nameProgress y)))
 
     pub line-states-full : (k : ℕ) → r ≡ Name.Full k → Done v1 l5 v6 (full k)
     unfolding declareAs of-names
     line-states-full k y = does-full (step (States x a t) z ∙ ap of-names (was-full n (ap nameProgress y)))
 
   module _ (w : ℕ) (z : d ≡ Expecting w) {v5 : List ℕ} (r : Progress)
-      (n : Does (Held expectedFormat v5) (expectedNames s (length l5) (range i e) w) (contents expectedFormat l5 (q .expected)) (contents expectedFormat v5) (progress r)) where
+      (n : Does (Held expectedFormat v5) (expectedNames s (length l5) (range i e) w) (contents expectedFormat l5 (q .expected))
+      (contents expectedFormat v5) (progress r)) where
     of-expected : Out (List Expected) → Out Declared
     of-expected o = thenAt e (onto (withExpected before) o)
 
@@ -132,18 +140,32 @@ module _ (s : List ℕ) (i e : ℕ) (l1 l5 l6 : List ℕ) (q : DeclarationCounts
     unfolding declareAs of-expected
     line-expected j m y = does-go (step (Expecting w) z ∙ ap of-expected (was-go n (ap progress y))) (held-expected m (n .goes j m (ap progress y)))
 
-    pub line-expected-bad : (kind at m : ℕ) → r ≡ Progress.Bad kind at m → Done l1 v5 l6 (bad kind at (record { states = q .states; expected = m; faults = q .faults }))
+    pub line-expected-bad : (kind at m : ℕ) → r ≡ Progress.Bad kind at m
+        → Done l1 v5 l6 (bad kind at (record { states = q .states; expected = m; faults = q .faults }))
     unfolding declareAs of-expected
-    line-expected-bad kind at m y = does-bad (step (Expecting w) z ∙ ap of-expected (was-bad n (ap progress y))) (held-expected m (n .ends kind at m (ap progress y)))
+    line-expected-bad kind at m y =
+        does-bad (step (Expecting w) z ∙ ap of-expected (was-bad n (ap progress y))) (held-expected m (n .ends kind at m (ap progress y)))
 
     pub line-expected-full : (k : ℕ) → r ≡ Progress.Full k → Done l1 v5 l6 (full k)
     unfolding declareAs of-expected
     line-expected-full k y = does-full (step (Expecting w) z ∙ ap of-expected (was-full n (ap progress y)))
 
-pub names-in-source : (s : List ℕ) (i e : ℕ) (d : Declaration) → d ≡ declarationOf s (range i e) → i ≤ e → e ≤ length s → (x a t : ℕ) → d ≡ States x a t → t ≤ length s
+pub names-in-source : (s : List ℕ) (i e : ℕ) (d : Declaration) → d ≡ declarationOf s (range i e) → i ≤ e → e ≤ length s → (x a t : ℕ) → d ≡ States x a t
+    → t ≤ length s
 names-in-source s i e d is h l x a t q = omega (arith, names-within s i e d is h x a t q)
 
-pub ruleset lining-up = (needs, names-in-source, expected-within, line-unknown, line-states, line-states-bad, line-states-full, line-expected, line-expected-bad, line-expected-full)
+pub ruleset lining-up = (
+  needs,
+  names-in-source,
+  expected-within,
+  line-unknown,
+  line-states,
+  line-states-bad,
+  line-states-full,
+  line-expected,
+  line-expected-bad,
+  line-expected-full,
+)
 
 -- ---- the loop over the declarations
 
@@ -166,7 +188,8 @@ abbrev sizes : List ℕ → List ℕ → List ℕ → Caps
 sizes l1 l5 l6 = capsOf (length l1) (length l5) (length l6)
 
 -- the loop has come to the line x, at whose start no whitespace stands
-pub record Sections (whole : Out Declared) (s : List ℕ) (options : Options) (k1 k5 k6 : List ℕ) (x : Line) (l1 l5 l6 : List ℕ) (q : DeclarationCounts) : Type 0 where
+pub record Sections (whole : Out Declared) (s : List ℕ) (options : Options) (k1 k5 k6 : List ℕ) (x : Line) (l1 l5 l6 : List ℕ)
+    (q : DeclarationCounts) : Type 0 where
   pub held : HeldDeclared l1 l5 l6 q
   pub within : x .start ≤ length s
   pub ends : Between (x .start) (length s) (lineEnd s (x .start)) (x .end)
@@ -180,7 +203,8 @@ pub record Sections (whole : Out Declared) (s : List ℕ) (options : Options) (k
 abbrev pub section : List ℕ → Options → Caps → ℕ → Declared → Out Declared
 section s options k i d = loop (length s) (inSection s) (nextDeclaration s options k) (toDeclaration s (options .flags) i) d
 
-pub sections-start : (s : List ℕ) (options : Options) (i : ℕ) (x : Line) (l1 l5 l6 : List ℕ) (q : DeclarationCounts) → HeldDeclared l1 l5 l6 q → NextLine s (toDeclaration s (options .flags)) i x
+pub sections-start : (s : List ℕ) (options : Options) (i : ℕ) (x : Line) (l1 l5 l6 : List ℕ) (q : DeclarationCounts) → HeldDeclared l1 l5 l6 q
+    → NextLine s (toDeclaration s (options .flags)) i x
     → Sections (section s options (sizes l1 l5 l6) i (declaredIn l1 l5 l6 q)) s options l1 l5 l6 x l1 l5 l6 q
 sections-start s options i x l1 l5 l6 q h b = record {
   held = h;
@@ -190,13 +214,19 @@ sections-start s options i x l1 l5 l6 q h b = record {
   long1 = refl;
   long5 = refl;
   long6 = refl;
-  loops = record { going = rw (← b .starts .is) (going-start (inSection s) (nextDeclaration s options (sizes l1 l5 l6)) (length s) (x .start) (declaredIn l1 l5 l6 q) (length s) (omega arith)); same = refl };
+  loops = record {
+    going = rw (← b .starts .is) (going-start (inSection s) (nextDeclaration s options (sizes l1 l5 l6)) (length s) (x .start) (declaredIn l1 l5 l6 q)
+        (length s) (omega arith));
+    same = refl;
+  };
 }
 
-module _ {whole : Out Declared} {s : List ℕ} {options : Options} {k1 k5 k6 : List ℕ} {here : Line} {l1 l5 l6 : List ℕ} {q : DeclarationCounts} (x : Sections whole s options k1 k5 k6 here l1 l5 l6 q)
+module _ {whole : Out Declared} {s : List ℕ} {options : Options} {k1 k5 k6 : List ℕ} {here : Line} {l1 l5 l6 : List ℕ} {q : DeclarationCounts}
+    (x : Sections whole s options k1 k5 k6 here l1 l5 l6 q)
     (t : Bool) (tested : t ≡ inSection s (here .start)) (pass : t ≡ true)
     {v1 v5 v6 : List ℕ} (r : DeclarationProgress)
-    (d : Does (HeldDeclared v1 v5 v6) (declaration s (sizes l1 l5 l6) (here .start) (here .end)) (declaredIn l1 l5 l6 q) (declaredIn v1 v5 v6) (declarationProgress r)) where
+    (d : Does (HeldDeclared v1 v5 v6) (declaration s (sizes l1 l5 l6) (here .start) (here .end)) (declaredIn l1 l5 l6 q) (declaredIn v1 v5 v6)
+    (declarationProgress r)) where
   abbrev i : ℕ
   i = here .start
 
@@ -209,7 +239,8 @@ module _ {whole : Out Declared} {s : List ℕ} {options : Options} {k1 k5 k6 : L
   abbrev Moved : Out DeclarationCounts → Type 0
   Moved o = Does (HeldDeclared v1 v5 v6) (nextDeclaration s options (sizes l1 l5 l6) i) (declaredIn l1 l5 l6 q) (declaredIn v1 v5 v6) o
 
-  is-next : nextDeclaration s options (sizes l1 l5 l6) i (declaredIn l1 l5 l6 q) ≡ next (declaration s (sizes l1 l5 l6) i e (declaredIn l1 l5 l6 q)) (λ j y. go (toDeclaration s (options .flags) j) y)
+  is-next : nextDeclaration s options (sizes l1 l5 l6) i (declaredIn l1 l5 l6 q)
+      ≡ next (declaration s (sizes l1 l5 l6) i e (declaredIn l1 l5 l6 q)) (λ j y. go (toDeclaration s (options .flags) j) y)
   unfolding nextDeclaration
   is-next = rw (← x .ends .is)
 
@@ -217,7 +248,8 @@ module _ {whole : Out Declared} {s : List ℕ} {options : Options} {k1 k5 k6 : L
     went : Moved (go (y .start) p)
     went =
         let at : e ≡ j = declared-at s (sizes l1 l5 l6) i e (declaredIn l1 l5 l6 q) (was-go d (ap declarationProgress z)) in
-        subst (λ (k : ℕ). Moved (go k p)) (ap (toDeclaration s (options .flags)) (sym at) ∙ sym (c .starts .is)) (then-go (toDeclaration s (options .flags)) is-next d (ap declarationProgress z))
+        subst (λ (k : ℕ). Moved (go k p)) (ap (toDeclaration s (options .flags)) (sym at) ∙ sym (c .starts .is))
+        (then-go (toDeclaration s (options .flags)) is-next d (ap declarationProgress z))
 
     forward : i < y .start
     forward = omega (arith, line-has-byte s i inside (end-none-of-white s i (x .starts)), x .ends .is, c .starts .from)
@@ -238,7 +270,8 @@ module _ {whole : Out Declared} {s : List ℕ} {options : Options} {k1 k5 k6 : L
     }
 
   whole-bad : (kind at : ℕ) (p : DeclarationCounts) → r ≡ Bad kind at p → whole ≡ bad kind at (declaredIn v1 v5 v6 p)
-  whole-bad kind at p z = loops-bad (x .loops) (sym tested ∙ pass) inside (then-bad (toDeclaration s (options .flags)) is-next d (ap declarationProgress z)) refl
+  whole-bad kind at p z =
+      loops-bad (x .loops) (sym tested ∙ pass) inside (then-bad (toDeclaration s (options .flags)) is-next d (ap declarationProgress z)) refl
 
   whole-full : (n : ℕ) → r ≡ Full n → whole ≡ full n
   whole-full n z = loops-full (x .loops) (sym tested ∙ pass) inside (then-full (toDeclaration s (options .flags)) is-next d (ap declarationProgress z)) refl
@@ -265,11 +298,13 @@ module _ (s : List ℕ) (options : Options) (k : Caps) (i₀ : ℕ) (d₀ : Decl
     section-cut z = does-bad (at-end ∙ rw (← ahead, z)) (x .held)
 
   module _ (pass : t ≡ true) {v1 v5 v6 : List ℕ} (r : DeclarationProgress)
-      (d : Does (HeldDeclared v1 v5 v6) (declaration s (sizes l1 l5 l6) (here .start) (here .end)) (declaredIn l1 l5 l6 q) (declaredIn v1 v5 v6) (declarationProgress r)) where
+      (d : Does (HeldDeclared v1 v5 v6) (declaration s (sizes l1 l5 l6) (here .start) (here .end)) (declaredIn l1 l5 l6 q) (declaredIn v1 v5 v6)
+      (declarationProgress r)) where
     pub section-bad : (kind at : ℕ) (p : DeclarationCounts) → r ≡ Bad kind at p → Ended v1 v5 v6 (bad kind at p)
     unfolding declarations
     section-bad kind at p z =
-        does-bad (ap (λ (o : Out Declared). next o (endDeclarations s)) (whole-bad x t tested pass r d kind at p z)) (d .ends kind at p (ap declarationProgress z))
+        does-bad (ap (λ (o : Out Declared). next o (endDeclarations s)) (whole-bad x t tested pass r d kind at p z))
+        (d .ends kind at p (ap declarationProgress z))
 
     pub section-full : (n : ℕ) → r ≡ Full n → Ended v1 v5 v6 (full n)
     unfolding declarations

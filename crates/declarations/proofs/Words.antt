@@ -20,7 +20,8 @@ use Rattle.names.specs.Names.{allBytes}
 use Rattle.names.proofs.Forms.{bytes-fail, bytes-pass}
 use Rattle.declarations.specs.declared.Declaration.{Declaration}
 use Rattle.declarations.specs.declared.Declaration.the-variants.{States, Expecting, Unknown}
-use Rattle.declarations.specs.Declarations.{Range, range, trimmed, wordEnd, firstWord, restOf, isAlphanumeric, declares, isInclusive, isExclusive, isExpecting, expectMissing, statesOf, declarationOf}
+use Rattle.declarations.specs.Declarations.{Range, range, trimmed, wordEnd, firstWord, restOf, isAlphanumeric, declares, isInclusive}
+use Rattle.declarations.specs.Declarations.{isExclusive, isExpecting, expectMissing, statesOf, declarationOf}
 use Rattle.declarations.specs.Stages.{declarationBy}
 
 pub alphanumeric-byte : (b : ℕ) (l d : Bool) → l ≡ isLetter b → d ≡ isDigit b → l || d ≡ isAlphanumeric b
@@ -39,7 +40,8 @@ module _ (x y : ℕ) (s : List ℕ) (i w : ℕ) where
   pub word-short : w - i < 2 → i ≤ w → false ≡ declares x y s (range i w)
   unfolding declares
   word-short h l =
-      sym (ap (λ (t : Bool). eqb (byte s i) 0x25 && ((eqb (byte s (i + 1)) x || eqb (byte s (i + 1)) y) && t)) (none-past isAlphanumeric s (i + 2) w (omega arith))
+      sym (ap (λ (t : Bool). eqb (byte s i) 0x25 && ((eqb (byte s (i + 1)) x || eqb (byte s (i + 1)) y) && t))
+      (none-past isAlphanumeric s (i + 2) w (omega arith))
       ∙ no-both (eqb (byte s i) 0x25) (eqb (byte s (i + 1)) x || eqb (byte s (i + 1)) y))
     where
       no-both : (p q : Bool) → p && (q && false) ≡ false

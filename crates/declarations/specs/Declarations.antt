@@ -150,7 +150,8 @@ expected a e = record { start = a; end = e }
 unfoldable pub isQuoted : List ℕ → Range → Bool
 isQuoted s w = leb (w .from + 2) (w .to) && (eqb (byte s (w .from)) 0x22 && eqb (byte s (w .to - 1)) 0x22)
 
--- the word w of the line: a name in quotes, which are cut off, and on behind the ASCII whitespace that follows; any other is a fault at the first word (01, Declarations)
+-- the word w of the line: a name in quotes, which are cut off, and on behind the ASCII whitespace that follows; any other is a fault at the first
+-- word (01, Declarations)
 unfoldable pub declareExpected : List ℕ → ℕ → Range → Range → List Expected → Out (List Expected)
 declareExpected s c5 l w xs =
     cond (isQuoted s w) (written 5 (skipAsciiWhitespace s (w .to) (l .to)) (append expectedFormat c5 (expected (w .from + 1) (w .to - 1) ∷ []) xs))

@@ -47,7 +47,8 @@ use Rattle.rules_section.specs.declared.RuleProgress.the-variants as Ruling
 use Rattle.parse.specs.declared.FileCounts.{FileCounts}
 use Rattle.parse.specs.declared.Parsed.{Parsed}
 use Rattle.parse.specs.declared.Parsed.the-variants.{Clean, Faulty, Short}
-use Rattle.parse.specs.Parse.{Caps, Outcome, accepted, faulty, areaFull, caps, closed, ending, judge, contentsOf, rulesFrom, undeclared, withStates, opening, file}
+use Rattle.parse.specs.Parse.{Caps, Outcome, accepted, faulty, areaFull, caps, closed, ending, judge, contentsOf, rulesFrom, undeclared}
+use Rattle.parse.specs.Parse.{withStates, opening, file}
 use Rattle.rules_section.specs.Answers.{ruleProgress, ruledIn, HeldRuled, ruleCounts, sizesOf}
 use Rattle.parse.specs.Answers.{closedBy, judgedBy, contentsIn, HeldFile, Parses, Zeroed}
 
@@ -83,7 +84,8 @@ module _ (s : List ℕ) (options : Options) (l1 l5 l6 : List ℕ) (z1 : l1 ≡ z
     opening-held = record { states = grown .held n z; expected = held-empty expected-sound l5 z5; faults = zero-faults l6 z6 }
 
     pub opening-on : {v1 v5 v6 : List ℕ} {o : Out DeclarationCounts}
-        → Does (HeldDeclared v1 v5 v6) (declarations s options (capsOf (length e1) (length l5) (length l6)) 0) (declaredIn e1 l5 l6 (started n)) (declaredIn v1 v5 v6) o → Opened v1 v5 v6 o
+        → Does (HeldDeclared v1 v5 v6) (declarations s options (capsOf (length e1) (length l5) (length l6)) 0) (declaredIn e1 l5 l6 (started n))
+        (declaredIn v1 v5 v6) o → Opened v1 v5 v6 o
     unfolding contents listOf
     opening-on d = record {
       says =
@@ -185,10 +187,13 @@ module _ {o : Outcome} {l1 l2 l3 l4 l5 l6 : List ℕ} where
       by Appended.Full y = parses-short (is Appended.Full y)
 
 module _ (asked : Request) (l1 l2 l3 l4 l5 l6 : List ℕ) (zero : Zeroed l1 l2 l3 l4 l5 l6) (v1 v5 w6 : List ℕ) (r : DeclarationProgress)
-    (d : Does (HeldDeclared v1 v5 w6) (opening (asked .source) (asked .options) (capsOf (length l1) (length l5) (length l6))) undeclared (declaredIn v1 v5 w6) (declarationProgress r)) where
+    (d : Does (HeldDeclared v1 v5 w6) (opening (asked .source) (asked .options) (capsOf (length l1) (length l5) (length l6))) undeclared
+    (declaredIn v1 v5 w6) (declarationProgress r)) where
   module _ (i : ℕ) (c : DeclarationCounts) (went : r ≡ Declaring.Go i c) where
     pub rules-inside : i ≤ length (asked .source)
-    rules-inside = opening-inside (asked .source) i (declaredIn v1 v5 w6 c) (asked .options) (capsOf (length l1) (length l5) (length l6)) undeclared (d .says ∙ ap (λ (x : DeclarationProgress). onto (declaredIn v1 v5 w6) (declarationProgress x)) went)
+    rules-inside =
+        opening-inside (asked .source) i (declaredIn v1 v5 w6 c) (asked .options) (capsOf (length l1) (length l5) (length l6)) undeclared
+        (d .says ∙ ap (λ (x : DeclarationProgress). onto (declaredIn v1 v5 w6) (declarationProgress x)) went)
 
     kept : HeldDeclared v1 v5 w6 c
     kept = d .goes i c (ap declarationProgress went)
@@ -197,7 +202,13 @@ module _ (asked : Request) (l1 l2 l3 l4 l5 l6 : List ℕ) (zero : Zeroed l1 l2 l
     states-held = kept .states
 
     pub rules-held : HeldRuled l2 l3 l4 w6 (ruleCounts 0 0 0 (c .faults))
-    rules-held = record { rules = held-empty rule-sound l2 (zero .is2); entries = held-empty entry-sound l3 (zero .is3); text = held-empty text-sound l4 (zero .is4); faults = kept .faults }
+    rules-held =
+        record {
+          rules = held-empty rule-sound l2 (zero .is2);
+          entries = held-empty entry-sound l3 (zero .is3);
+          text = held-empty text-sound l4 (zero .is4);
+          faults = kept .faults;
+        }
 
   abbrev sizes : Caps
   sizes = caps (length l1) (length l2) (length l3) (length l4) (length l5) (length l6)
@@ -205,7 +216,8 @@ module _ (asked : Request) (l1 l2 l3 l4 l5 l6 : List ℕ) (zero : Zeroed l1 l2 l
   abbrev whole : Outcome
   whole = file asked sizes
 
-  opened : (o : Out DeclarationCounts) → declarationProgress r ≡ o → whole ≡ ending (λ d. d .faults) (length l6) (onto (declaredIn v1 v5 w6) o) (rulesFrom asked sizes)
+  opened : (o : Out DeclarationCounts) → declarationProgress r ≡ o
+      → whole ≡ ending (λ d. d .faults) (length l6) (onto (declaredIn v1 v5 w6) o) (rulesFrom asked sizes)
   unfolding file
   opened o z = ap (λ (x : Out Declared). ending (λ d. d .faults) (length l6) x (rulesFrom asked sizes)) (d .says ∙ ap (onto (declaredIn v1 v5 w6)) z)
 
@@ -218,7 +230,8 @@ module _ (asked : Request) (l1 l2 l3 l4 l5 l6 : List ℕ) (zero : Zeroed l1 l2 l
 
   module _ (i : ℕ) (c : DeclarationCounts) (went : r ≡ Declaring.Go i c) where
     module _ (v2 v3 v4 x6 : List ℕ) (q : RuleProgress)
-        (g : Does (HeldRuled v2 v3 v4 x6) (rulesSection asked (contents stateFormat v1 (c .states)) (sizesOf (length l2) (length l3) (length l4)) (length w6) i) (ruledIn l2 l3 l4 w6 (ruleCounts 0 0 0 (c .faults))) (ruledIn v2 v3 v4 x6) (ruleProgress q))
+        (g : Does (HeldRuled v2 v3 v4 x6) (rulesSection asked (contents stateFormat v1 (c .states)) (sizesOf (length l2) (length l3) (length l4))
+        (length w6) i) (ruledIn l2 l3 l4 w6 (ruleCounts 0 0 0 (c .faults))) (ruledIn v2 v3 v4 x6) (ruleProgress q))
         (long : length w6 ≡ length l6) where
       abbrev last : ℕ → Ruled → Outcome
       last j x = judge (contentsOf (declaredIn v1 v5 w6 c) x)
@@ -227,7 +240,9 @@ module _ (asked : Request) (l1 l2 l3 l4 l5 l6 : List ℕ) (zero : Zeroed l1 l2 l
       unfolding rulesFrom contents listOf
       ruled o z =
           opened (go i c) (ap declarationProgress went)
-          ∙ ap (λ (m : ℕ). ending (λ x. x .faults) (length l6) (rulesSection asked (contents stateFormat v1 (c .states)) (sizesOf (length l2) (length l3) (length l4)) m i (ruledIn l2 l3 l4 w6 (ruleCounts 0 0 0 (c .faults)))) last) (sym long)
+          ∙ ap (λ (m : ℕ). ending (λ x. x .faults) (length l6)
+          (rulesSection asked (contents stateFormat v1 (c .states)) (sizesOf (length l2) (length l3) (length l4)) m i
+          (ruledIn l2 l3 l4 w6 (ruleCounts 0 0 0 (c .faults)))) last) (sym long)
           ∙ ap (λ (x : Out Ruled). ending (λ x. x .faults) (length l6) x last) (g .says ∙ ap (onto (ruledIn v2 v3 v4 x6)) z)
 
       pub rules-short : (n : ℕ) → q ≡ Ruling.Full n → Parses whole v1 v2 v3 v4 v5 x6 (Short n)
@@ -235,7 +250,8 @@ module _ (asked : Request) (l1 l2 l3 l4 l5 l6 : List ℕ) (zero : Zeroed l1 l2 l
 
       pub rules-closed : (kind at : ℕ) (m : RuleCounts) → q ≡ Ruling.Bad kind at m → length x6 ≡ length w6 → (p : Appended) (y6 : List ℕ)
           → GrowsFaults (addFault (length x6) kind at at) x6 (m .faults) p y6 → (t : Parsed) → t ≡ closedBy p → Parses whole v1 v2 v3 v4 v5 y6 t
-      rules-closed kind at m z grew p y6 h t y = parses-closed (length l6) kind at (m .faults) x6 p (ruled (bad kind at m) (ap ruleProgress z)) (grew ∙ long) h t y
+      rules-closed kind at m z grew p y6 h t y =
+          parses-closed (length l6) kind at (m .faults) x6 p (ruled (bad kind at m) (ap ruleProgress z)) (grew ∙ long) h t y
 
       pub rules-judged : (j : ℕ) (m : RuleCounts) → q ≡ Ruling.Go j m → (t : Parsed) → t ≡ judgedBy c m → Parses whole v1 v2 v3 v4 v5 x6 t
       unfolding judge contents listOf
@@ -244,9 +260,11 @@ module _ (asked : Request) (l1 l2 l3 l4 l5 l6 : List ℕ) (zero : Zeroed l1 l2 l
           held : HeldRuled v2 v3 v4 x6 m
           held = g .goes j m (ap ruleProgress z)
 
-          is : whole ≡ cond (eqb (m .faults) 0) (accepted (contentsOf (declaredIn v1 v5 w6 c) (ruledIn v2 v3 v4 x6 m))) (faulty (contents faultFormat x6 (m .faults)))
+          is : whole ≡ cond (eqb (m .faults) 0) (accepted (contentsOf (declaredIn v1 v5 w6 c) (ruledIn v2 v3 v4 x6 m)))
+              (faulty (contents faultFormat x6 (m .faults)))
           is = ruled (go j m) (ap ruleProgress z)
-              ∙ ap (λ (k : ℕ). cond (eqb k 0) (accepted (contentsOf (declaredIn v1 v5 w6 c) (ruledIn v2 v3 v4 x6 m))) (faulty (contents faultFormat x6 (m .faults)))) (contents-length fault-sound (held .faults .held))
+              ∙ ap (λ (k : ℕ). cond (eqb k 0) (accepted (contentsOf (declaredIn v1 v5 w6 c) (ruledIn v2 v3 v4 x6 m)))
+              (faulty (contents faultFormat x6 (m .faults)))) (contents-length fault-sound (held .faults .held))
 
           none-left : m .faults ≡ 0 → contents faultFormat x6 (m .faults) ≡ []
           none-left e = ap (contents faultFormat x6) e
@@ -255,6 +273,21 @@ module _ (asked : Request) (l1 l2 l3 l4 l5 l6 : List ℕ) (zero : Zeroed l1 l2 l
           by true e =
               let z0 : m .faults ≡ 0 = eqb-true (m .faults) 0 e in
               parses-clean
-              (is ∙ rw e (ap (λ (fs : List Fault). accepted (record { states = contents stateFormat v1 (c .states); rules = contents ruleFormat v2 (m .rules); lists = contents entryFormat v3 (m .entries); text = contents textFormat v4 (m .text); expected = contents expectedFormat v5 (c .expected); faults = fs })) (none-left z0)))
-              (record { states = kept i c went .states; rules = held .rules; entries = held .entries; text = held .text; expected = kept i c went .expected; faults = subst (Held faultFormat x6) z0 (held .faults .held) })
+              (is ∙ rw e (ap (λ (fs : List Fault). accepted
+              (record {
+                states = contents stateFormat v1 (c .states);
+                rules = contents ruleFormat v2 (m .rules);
+                lists = contents entryFormat v3 (m .entries);
+                text = contents textFormat v4 (m .text);
+                expected = contents expectedFormat v5 (c .expected);
+                faults = fs;
+              })) (none-left z0)))
+              (record {
+                states = kept i c went .states;
+                rules = held .rules;
+                entries = held .entries;
+                text = held .text;
+                expected = kept i c went .expected;
+                faults = subst (Held faultFormat x6) z0 (held .faults .held);
+              })
           by false e = parses-faulty (is ∙ rw e) (held .faults .held)

@@ -39,10 +39,10 @@ contentsIn l1 l2 l3 l4 l5 q = record {
 }
 
 -- the outcome that counts stand for
-abbrev pub tells : List ℕ → List ℕ → List ℕ → List ℕ → List ℕ → List ℕ → Parsed → Outcome
-tells l1 l2 l3 l4 l5 l6 (Clean q) = accepted (contentsIn l1 l2 l3 l4 l5 q)
-tells l1 l2 l3 l4 l5 l6 (Faulty n) = faulty (contents faultFormat l6 n)
-tells l1 l2 l3 l4 l5 l6 (Short n) = areaFull n
+abbrev pub outcomeOf : List ℕ → List ℕ → List ℕ → List ℕ → List ℕ → List ℕ → Parsed → Outcome
+outcomeOf l1 l2 l3 l4 l5 l6 (Clean q) = accepted (contentsIn l1 l2 l3 l4 l5 q)
+outcomeOf l1 l2 l3 l4 l5 l6 (Faulty n) = faulty (contents faultFormat l6 n)
+outcomeOf l1 l2 l3 l4 l5 l6 (Short n) = areaFull n
 
 -- the areas hold these many, area 6 none, and zeros behind them
 pub record HeldFile (l1 l2 l3 l4 l5 l6 : List ℕ) (q : FileCounts) : Type 0 where
@@ -55,7 +55,7 @@ pub record HeldFile (l1 l2 l3 l4 l5 l6 : List ℕ) (q : FileCounts) : Type 0 whe
 
 -- p stands for the outcome o, and the areas hold what it counts
 pub record Parses (o : Outcome) (l1 l2 l3 l4 l5 l6 : List ℕ) (p : Parsed) : Type 0 where
-  pub says : o ≡ tells l1 l2 l3 l4 l5 l6 p
+  pub says : o ≡ outcomeOf l1 l2 l3 l4 l5 l6 p
   pub clean : (q : FileCounts) → p ≡ Clean q → HeldFile l1 l2 l3 l4 l5 l6 q
   pub faults : (n : ℕ) → p ≡ Faulty n → Held faultFormat l6 n
 

@@ -33,7 +33,8 @@ use Rattle.rules.specs.declared.Label.the-variants.{Unnamed, Named, Misn
 use Rattle.rules.specs.declared.Head.{Head}
 use Rattle.rules.specs.declared.Heading.{Heading}
 use Rattle.rules.specs.declared.Heading.the-variants.{Faulty, Repeated, Fresh}
-use Rattle.rules.specs.Heading.{targetOf, span, equalQuotes, isNoName, isName, labelBy, labelOf, ruleNamed, headUnnamed, headNamed, repeats, headingBehind, headingOf}
+use Rattle.rules.specs.Heading.{targetOf, span, equalQuotes, isNoName, isName, labelBy, labelOf, ruleNamed, headUnnamed, headNamed, repeats}
+use Rattle.rules.specs.Heading.{headingBehind, headingOf}
 use Rattle.rules.proofs.Targets.{target-from, target-to}
 
 -- ---- the name
@@ -94,7 +95,8 @@ module _ (s : List ℕ) (r : ℕ) (x : TargetState) (p t : ℕ) (k : Label) (is 
 
 module _ (s : List ℕ) (r : ℕ) (x : TargetState) (p t : ℕ) (named : labelOf s (span p t) ≡ Named) where
   heading-named : (rs : List Rule)
-      → cond (ltb (ruleNamed s (span p t) rs) (length rs)) (repeats (nthRule rs (ruleNamed s (span p t) rs)) (headNamed r (span p t) x)) (Fresh r (headNamed r (span p t) x))
+      → cond (ltb (ruleNamed s (span p t) rs) (length rs)) (repeats (nthRule rs (ruleNamed s (span p t) rs)) (headNamed r (span p t) x))
+      (Fresh r (headNamed r (span p t) x))
       ≡ headingBehind s r x (span p t) rs
   unfolding headingBehind
   heading-named rs = rw (named, headingBehind)
@@ -152,7 +154,21 @@ last-inside test i e q z =
 pub blank-to : (s : List ℕ) (i e q : ℕ) (f : Found) → f ≡ lastBlank s i e → f ≡ At q → q < e
 blank-to s i e q f is z = last-inside (λ k. isBlank (byte s k)) i e q (sym is ∙ z) .1
 
-pub ruleset heading = (needs, label-is, label-long, heading-unnamed, heading-misnamed, heading-repeated, heading-fresh, target-from, target-to, blank-to, heading-unsplit, heading-wrong, heading-target)
+pub ruleset heading = (
+  needs,
+  label-is,
+  label-long,
+  heading-unnamed,
+  heading-misnamed,
+  heading-repeated,
+  heading-fresh,
+  target-from,
+  target-to,
+  blank-to,
+  heading-unsplit,
+  heading-wrong,
+  heading-target,
+)
 
 -- ---- every way that a heading comes out
 
@@ -164,7 +180,8 @@ module _ (s : List ℕ) (i t : ℕ) (xs : List State) (rs : List Rule) (P : Head
       → length rs ≤ ruleNamed s (span p t) rs → P (Fresh r (headNamed r (span p t) x))) → P (headingOf s i t xs rs)
   heading-cases unnamed fresh = by-blank (lastBlank s i t) refl
     where
-      by-label : (r : ℕ) (x : TargetState) (p : ℕ) → At r ≡ lastBlank s i t → To x p ≡ targetOf s r t xs → (k : Label) → k ≡ labelOf s (span p t) → P (headingBehind s r x (span p t) rs)
+      by-label : (r : ℕ) (x : TargetState) (p : ℕ) → At r ≡ lastBlank s i t → To x p ≡ targetOf s r t xs → (k : Label) → k ≡ labelOf s (span p t)
+          → P (headingBehind s r x (span p t) rs)
       by-label r x p b g Unnamed e = subst P (heading-unnamed s r x p t Unnamed e rs (headUnnamed r x) refl refl) (unnamed r x p (sym b) (sym g))
       by-label r x p b g Misnamed e = subst P (heading-misnamed s r x p t Misnamed e rs refl) (faulty InvalidName (r + 1))
       by-label r x p b g Named e =
@@ -172,7 +189,8 @@ module _ (s : List ℕ) (i t : ℕ) (xs : List State) (rs : List Rule) (P : Head
           let h = headNamed r q x in
           let first = nthRule rs (ruleNamed s q rs) in
           subst P (heading-named s r x p t (sym e) rs)
-          (by-test P (ltb (ruleNamed s q rs) (length rs)) (repeats first h) (Fresh r h) (λ _. repeated (first .«span_start») (first .«span_end») (h .«span_start») (h .«span_end»))
+          (by-test P (ltb (ruleNamed s q rs) (length rs)) (repeats first h) (Fresh r h)
+          (λ _. repeated (first .«span_start») (first .«span_end») (h .«span_start») (h .«span_end»))
           (λ z. fresh r x p (sym b) (sym g) (sym e) (ltb-false (ruleNamed s q rs) (length rs) z)))
 
       by-target : (r : ℕ) → At r ≡ lastBlank s i t → (k : Target) → k ≡ targetOf s r t xs → P (headingOf s i t xs rs)

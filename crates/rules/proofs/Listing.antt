@@ -25,13 +25,15 @@ use Rattle.fault.specs.declared.Progress.{Progress}
 use Rattle.fault.specs.declared.Progress.the-variants.{Go, Bad}
 use Rattle.fault.specs.declared.Progress.the-variants as Progress
 use Rattle.fault.specs.Faults.{UnknownStartState}
-use Rattle.fault.proofs.Steps.{Loops, going-start, loops-stop, loops-next, loops-bad, loops-full, does-go, does-bad, does-full, was-go, written-next, written-full, written-place, bad-goes}
+use Rattle.fault.proofs.Steps.{Loops, going-start, loops-stop, loops-next, loops-bad, loops-full, does-go, does-bad, does-full, was-go, written-next}
+use Rattle.fault.proofs.Steps.{written-full, written-place, bad-goes}
 use Rattle.names.specs.Names.{findState}
 use Rattle.rules.specs.Rules.{entryEnd, entryId, nextEntry, entries}
 
 -- ---- a name
 
-pub state-trimmed : (s : List ℕ) (a e n : ℕ) (xs : List State) (x y r : ℕ) → Between a e (trimStart s a e) x → Between x e (trimEnd s x e) y → Between 0 n (findState s x y xs) r
+pub state-trimmed : (s : List ℕ) (a e n : ℕ) (xs : List State) (x y r : ℕ) → Between a e (trimStart s a e) x → Between x e (trimEnd s x e) y
+    → Between 0 n (findState s x y xs) r
     → Between 0 n (entryId s xs a e) r
 unfolding entryId
 state-trimmed s a e n xs x y r b c f = rw (← b .is, ← c .is) f
@@ -92,11 +94,15 @@ pub lists-start : (s : List ℕ) (xs : List State) (i g n : ℕ) (l : List ℕ) 
 unfolding entries
 lists-start s xs i g n l h f = record {
   held = h;
-  loops = record { going = going-start (λ j. leb j g) (nextEntry s (length l) xs i g) (g + 1) (i + 1) (contents entryFormat l n) (length s) (omega arith); same = refl };
+  loops = record {
+    going = going-start (λ j. leb j g) (nextEntry s (length l) xs i g) (g + 1) (i + 1) (contents entryFormat l n) (length s) (omega arith);
+    same = refl;
+  };
 }
 
 module _ {whole : Out (List ℕ)} {s : List ℕ} {c3 : ℕ} {xs : List State} {i g a : ℕ} {l : List ℕ} {n : ℕ} (x : Lists whole s c3 xs i g a l n) (h : a ≤ g)
-    {v : List ℕ} (r : Progress) (d : Does (Held entryFormat v) (nextEntry s (length l) xs i g a) (contents entryFormat l n) (contents entryFormat v) (progress r)) (j m : ℕ) (q : r ≡ Go j m) where
+    {v : List ℕ} (r : Progress) (d : Does (Held entryFormat v) (nextEntry s (length l) xs i g a) (contents entryFormat l n) (contents entryFormat v)
+    (progress r)) (j m : ℕ) (q : r ≡ Go j m) where
   forward : a < j
   forward = entry-forward s (length l) xs i g a (contents entryFormat l n) (was-go d (ap progress q))
 
@@ -110,11 +116,13 @@ module _ {whole : Out (List ℕ)} {s : List ℕ} {c3 : ℕ} {xs : List State} {i
   }
 
 -- f is the whole loop, which began with the entries ids
-module _ (f : List ℕ → Out (List ℕ)) (ids : List ℕ) {s : List ℕ} {c3 : ℕ} {xs : List State} {i g a : ℕ} {l : List ℕ} {n : ℕ} (x : Lists (f ids) s c3 xs i g a l n) where
+module _ (f : List ℕ → Out (List ℕ)) (ids : List ℕ) {s : List ℕ} {c3 : ℕ} {xs : List State} {i g a : ℕ} {l : List ℕ} {n : ℕ}
+    (x : Lists (f ids) s c3 xs i g a l n) where
   pub lists-done : g < a → Does (Held entryFormat l) f ids (contents entryFormat l) (go a n)
   lists-done h = does-go (loops-stop (x .loops) (lt-leb a g h)) (x .held)
 
-  module _ (h : a ≤ g) {v : List ℕ} (r : Progress) (d : Does (Held entryFormat v) (nextEntry s (length l) xs i g a) (contents entryFormat l n) (contents entryFormat v) (progress r)) where
+  module _ (h : a ≤ g) {v : List ℕ} (r : Progress)
+      (d : Does (Held entryFormat v) (nextEntry s (length l) xs i g a) (contents entryFormat l n) (contents entryFormat v) (progress r)) where
     pub lists-bad : (kind at m : ℕ) → r ≡ Bad kind at m → Does (Held entryFormat v) f ids (contents entryFormat v) (bad kind at m)
     lists-bad kind at m q = does-bad (loops-bad (x .loops) (le-leb a g h) (omega arith) d (ap progress q)) (d .ends kind at m (ap progress q))
 

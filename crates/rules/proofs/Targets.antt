@@ -71,12 +71,14 @@ module _ (s : List ℕ) (r t x : ℕ) (q : x ≡ byte s (r + 1)) where
     unfolding targetOf hasTarget targetEnd
     target-unclosed xs h = rw (← q, eq-eqb x 0x3c e, ← b .is, le-leb t g h)
 
-    module _ {l : List ℕ} {n : ℕ} (held : Held stateFormat l n) (closed : g < t) (j : ℕ) (f : Between 0 n (findState s (targetName s r) g (contents stateFormat l n)) j) where
+    module _ {l : List ℕ} {n : ℕ} (held : Held stateFormat l n) (closed : g < t) (j : ℕ)
+        (f : Between 0 n (findState s (targetName s r) g (contents stateFormat l n)) j) where
       pub target-unknown : n ≤ j → Wrong UnknownStartState (r + 1) ≡ targetOf s r t (contents stateFormat l n)
       unfolding targetOf hasTarget targetEnd targetId
       target-unknown h = rw (← q, eq-eqb x 0x3c e, ← b .is, lt-leb t g closed, ← f .is, contents-length state-sound held, le-leb n j h)
 
-      pub target-known : (operation : ℕ) → operation ≡ targetOperation s r → j < n → To (record { operation = operation; id = j }) (g + 1) ≡ targetOf s r t (contents stateFormat l n)
+      pub target-known : (operation : ℕ) → operation ≡ targetOperation s r → j < n
+          → To (record { operation = operation; id = j }) (g + 1) ≡ targetOf s r t (contents stateFormat l n)
       unfolding targetOf hasTarget targetEnd targetId
       target-known operation o h =
           rw (← q, eq-eqb x 0x3c e, ← b .is, lt-leb t g closed, ← f .is, contents-length state-sound held, lt-leb n j h, ← o)
@@ -86,7 +88,8 @@ module _ (s : List ℕ) (r t x : ℕ) (q : x ≡ byte s (r + 1)) where
 module _ (s : List ℕ) (r t : ℕ) (xs : List State) where
   -- what holds of each outcome holds of the target
   pub target-cases : (P : Target → Type 0) → P (To noTarget (r + 1)) → P (Wrong InvalidStartState r) → P (Wrong UnknownStartState (r + 1))
-      → (targetEnd s r t < t → targetId s r t xs < length xs → P (To (record { operation = targetOperation s r; id = targetId s r t xs }) (targetEnd s r t + 1)))
+      → (targetEnd s r t < t → targetId s r t xs < length xs
+      → P (To (record { operation = targetOperation s r; id = targetId s r t xs }) (targetEnd s r t + 1)))
       → P (targetOf s r t xs)
   unfolding targetOf
   target-cases P none unclosed unknown known =

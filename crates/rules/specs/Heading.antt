@@ -104,7 +104,8 @@ ruleNamed s q rs = findRule s (q .start + 1) (q .end - 1) rs
 abbrev pub noNameSpan : ℕ → Span
 noNameSpan r = span (r + 1) (r + 1)
 
--- the span of a rule with a name, which stands at q with its quotes: from the blank at r plus 2 to the blank plus the length of q, also after a target (01, Rules)
+-- the span of a rule whose name stands at q with its quotes: from the blank at r plus 2 to the blank plus the length of q, also after a target
+-- (01, Rules)
 abbrev pub nameSpan : ℕ → Span → Span
 nameSpan r q = span (r + 2) (r + size q)
 

@@ -28,7 +28,8 @@ use Rattle.rules.specs.declared.Heading.{Heading}
 use Rattle.rules.specs.declared.Heading.the-variants.{Faulty, Repeated, Fresh}
 use Rattle.rules.specs.Heading.{headingOf}
 use Rattle.rules.specs.Rules.{entries, refuses, recordRule}
-use Rattle.rules_section.specs.RulesSection.{Sheet, Caps, sheet, Text, StateList, ruleOf, sourceText, textSince, noList, listSince, withRule, listedRule, rewrittenRule, pattern, Ruled, sheetOf, withSheet, withFaults, ruleAs, rule, line}
+use Rattle.rules_section.specs.RulesSection.{Sheet, Caps, sheet, Text, StateList, ruleOf, sourceText, textSince, noList, listSince, withRule}
+use Rattle.rules_section.specs.RulesSection.{listedRule, rewrittenRule, pattern, Ruled, sheetOf, withSheet, withFaults, ruleAs, rule, line}
 use Rattle.rules_section.proofs.Patterns.{pattern-cases}
 use Rattle.rules.proofs.Heads.{fresh-unused}
 use Rattle.rules_section.specs.declared.RuleCounts.{RuleCounts}
@@ -67,7 +68,8 @@ module _ (asked : Request) (k : Caps) (i e : ℕ) (h : Head) (w : Sheet)
       let rs = w .rules in
       let x = ruleOf h (length rs) t l in
       let made : Out (List Rule) → Out Sheet = onto (λ ys. sheet ys ids text) in
-      by-test (λ o. Sheets (made o)) (refuses (asked .verdicts) (length rs)) (bad RegexError i rs) (written 2 e (append ruleFormat (k .c2) (x ∷ []) rs)) (λ _. tt)
+      by-test (λ o. Sheets (made o)) (refuses (asked .verdicts) (length rs)) (bad RegexError i rs) (written 2 e (append ruleFormat (k .c2) (x ∷ []) rs))
+      (λ _. tt)
       (λ _. by-test (λ o. Sheets (made (written 2 e o))) (room (ruleFormat .width) (ruleFormat .most) (k .c2) (length rs) 1) (some (rs ++ (x ∷ []))) none
       (λ _. more x unused refl) (λ _. tt))
 
@@ -117,14 +119,17 @@ module _ (asked : Request) (xs : List State) (k : Caps) (c6 i e : ℕ) (r : Rule
   line-extends : Lines (line asked xs k c6 i e r)
   unfolding line rule
   line-extends =
-      by-test Lines (atWhitespace (asked .source) i) (onto (withFaults r) (written 6 e (addFault c6 VerbatimNotSupported i e (r .faults)))) (rule asked xs k c6 i e r)
+      by-test Lines (atWhitespace (asked .source) i) (onto (withFaults r) (written 6 e (addFault c6 VerbatimNotSupported i e (r .faults))))
+      (rule asked xs k c6 i e r)
       (λ _. faults-extend (addFault c6 VerbatimNotSupported i e (r .faults)))
       (λ _. as-extends (headingOf (asked .source) i (trimEnd (asked .source) i e) xs (r .rules)) refl)
 
 -- ---- the areas before and after a line that goes on
 
-module _ (asked : Request) (xs : List State) (k : Caps) (c6 i e : ℕ) {l2 l3 l4 l6 v2 v3 v4 v6 : List ℕ} {q : RuleCounts} (h : HeldRuled l2 l3 l4 l6 q) (r : RuleProgress)
-    (d : Does (HeldRuled v2 v3 v4 v6) (line asked xs k c6 i e) (ruledIn l2 l3 l4 l6 q) (ruledIn v2 v3 v4 v6) (ruleProgress r)) (j : ℕ) (p : RuleCounts) (z : r ≡ Go j p) where
+module _ (asked : Request) (xs : List State) (k : Caps) (c6 i e : ℕ) {l2 l3 l4 l6 v2 v3 v4 v6 : List ℕ} {q : RuleCounts} (h : HeldRuled l2 l3 l4 l6 q)
+    (r : RuleProgress)
+    (d : Does (HeldRuled v2 v3 v4 v6) (line asked xs k c6 i e) (ruledIn l2 l3 l4 l6 q) (ruledIn v2 v3 v4 v6) (ruleProgress r)) (j : ℕ) (p : RuleCounts)
+    (z : r ≡ Go j p) where
   extended : Extends (asked .source) (contents ruleFormat l2 (q .rules)) (contents ruleFormat v2 (p .rules))
   extended = subst (Lines asked xs k c6 i e (ruledIn l2 l3 l4 l6 q)) (was-go d (ap ruleProgress z)) (line-extends asked xs k c6 i e (ruledIn l2 l3 l4 l6 q))
 

@@ -27,7 +27,8 @@ use Rattle.rules.specs.declared.Body.the-variants.{Unclosed, Listed, Rewritten,
 use Rattle.rules.specs.Heading.{bodyOf}
 use Rattle.rules.proofs.Patterns.{listed-from, listed-to}
 use Rattle.rules.specs.Rules.{entries, recordRule}
-use Rattle.rules_section.specs.RulesSection.{Sheet, sheet, Caps, Text, StateList, ruleOf, sourceText, textSince, noList, listSince, withRule, listedRule, rewrittenRule, pattern}
+use Rattle.rules_section.specs.RulesSection.{Sheet, sheet, Caps, Text, StateList, ruleOf, sourceText, textSince, noList, listSince, withRule}
+use Rattle.rules_section.specs.RulesSection.{listedRule, rewrittenRule, pattern}
 use Rattle.rules_section.specs.declared.SheetCounts.{SheetCounts}
 use Rattle.rules_section.specs.declared.SheetProgress.{SheetProgress}
 use Rattle.rules_section.specs.declared.SheetProgress.the-variants.{Go, Bad, Full}
@@ -59,7 +60,9 @@ module _ (asked : Request) (k : Caps) (i e : ℕ) (h : Head) (c : ℕ) (xs : Lis
     where
       by : (b : Body) → bodyOf (asked .source) i c ≡ b → P (pattern asked k i e h c xs w)
       by Unclosed q = subst P (sym (pattern-is-unclosed q)) unclosed
-      by (Listed g) q = subst P (sym (pattern-is-listed g q)) (listed g (listed-from (asked .source) i c (Listed g) (sym q) g refl) (listed-to (asked .source) i c (Listed g) (sym q) g refl))
+      by (Listed g) q =
+          subst P (sym (pattern-is-listed g q))
+          (listed g (listed-from (asked .source) i c (Listed g) (sym q) g refl) (listed-to (asked .source) i c (Listed g) (sym q) g refl))
       by Rewritten q = subst P (sym (pattern-is-rewritten q)) rewritten
       by Plain q = subst P (sym (pattern-is-plain q)) plain
 
@@ -109,7 +112,9 @@ module _ (asked : Request) (i e : ℕ) (h : Head) (c : ℕ) (xs : List State) (l
   unfolding listedRule
   is-listed g z = pattern-is-listed asked caps i e h c xs before g (sym is ∙ z)
 
-  is-rewritten : b ≡ Rewritten → pattern asked caps i e h c xs before ≡ after-text (written 4 e (append textFormat (length l4) (unescaped (asked .source) (asked .options .flags) i c) (before .text)))
+  is-rewritten : b ≡ Rewritten
+      → pattern asked caps i e h c xs before ≡ after-text (written 4 e
+      (append textFormat (length l4) (unescaped (asked .source) (asked .options .flags) i c) (before .text)))
   unfolding rewrittenRule
   is-rewritten z = pattern-is-rewritten asked caps i e h c xs before (sym is ∙ z)
 
@@ -127,32 +132,40 @@ module _ (asked : Request) (i e : ℕ) (h : Head) (c : ℕ) (xs : List State) (l
 
   -- the record was made, of the rule x
   module _ (x : Rule) (p : Progress) {v2 : List ℕ}
-      (d : Does (Held ruleFormat v2) (recordRule (asked .verdicts) (length l2) i e x) (contents ruleFormat l2 (q .rules)) (contents ruleFormat v2) (progress p)) (r : SheetProgress) where
+      (d : Does (Held ruleFormat v2) (recordRule (asked .verdicts) (length l2) i e x) (contents ruleFormat l2 (q .rules)) (contents ruleFormat v2)
+      (progress p)) (r : SheetProgress) where
     recorded : (l3′ l4′ : List ℕ) (m t : ℕ) → Held entryFormat l3′ m → Held textFormat l4′ t → sheetProgress r ≡ onto (λ n. sheetCounts n m t) (progress p)
-        → pattern asked caps i e h c xs before ≡ onto (λ rs. sheet rs (contents entryFormat l3′ m) (contents textFormat l4′ t)) (recordRule (asked .verdicts) (length l2) i e x (contents ruleFormat l2 (q .rules)))
+        → pattern asked caps i e h c xs before ≡ onto (λ rs. sheet rs (contents entryFormat l3′ m) (contents textFormat l4′ t))
+        (recordRule (asked .verdicts) (length l2) i e x (contents ruleFormat l2 (q .rules)))
         → Done v2 l3′ l4′ (sheetProgress r)
     recorded l3′ l4′ m t he ht z y =
         subst (Done v2 l3′ l4′) (sym z)
         (does-onto (λ rs. sheet rs (contents entryFormat l3′ m) (contents textFormat l4′ t)) (λ n. sheetCounts n m t) (sheetIn v2 l3′ l4′) y (λ n. refl)
         (λ n g. record { rules = g; entries = he; text = ht }) (progress p) d)
 
-    pub pattern-plain : b ≡ Plain → x ≡ ruleOf h (q .rules) (sourceText i c) (record { from = q .entries; count = 0 }) → sheetProgress r ≡ onto (λ n. sheetCounts n (q .entries) (q .text)) (progress p) → Done v2 l3 l4 (sheetProgress r)
+    pub pattern-plain : b ≡ Plain → x ≡ ruleOf h (q .rules) (sourceText i c) (record { from = q .entries; count = 0 })
+        → sheetProgress r ≡ onto (λ n. sheetCounts n (q .entries) (q .text)) (progress p) → Done v2 l3 l4 (sheetProgress r)
     unfolding withRule
     pattern-plain z y w =
         recorded l3 l4 (q .entries) (q .text) (held .entries) (held .text) w
         (pattern-is-plain asked caps i e h c xs before (sym is ∙ z) ∙ rw (rule-count, entry-count, ← y))
 
     module _ (g : ℕ) (z : b ≡ Listed g) {v3 : List ℕ} (o : Progress)
-        (n : Does (Held entryFormat v3) (entries (asked .source) (length l3) xs i g) (contents entryFormat l3 (q .entries)) (contents entryFormat v3) (progress o)) (j m : ℕ) (went : o ≡ Progress.Go j m) where
-      pub pattern-listed : (k : ℕ) → x ≡ ruleOf h (q .rules) (sourceText (g + 1) c) (record { from = q .entries; count = k }) → k ≡ m - q .entries → sheetProgress r ≡ onto (λ n. sheetCounts n m (q .text)) (progress p) → Done v2 v3 l4 (sheetProgress r)
+        (n : Does (Held entryFormat v3) (entries (asked .source) (length l3) xs i g) (contents entryFormat l3 (q .entries)) (contents entryFormat v3)
+        (progress o)) (j m : ℕ) (went : o ≡ Progress.Go j m) where
+      pub pattern-listed : (k : ℕ) → x ≡ ruleOf h (q .rules) (sourceText (g + 1) c) (record { from = q .entries; count = k }) → k ≡ m - q .entries
+          → sheetProgress r ≡ onto (λ n. sheetCounts n m (q .text)) (progress p) → Done v2 v3 l4 (sheetProgress r)
       unfolding withRule
       pattern-listed k y u w =
           let more : length (contents entryFormat v3 m) ≡ m = contents-length entry-sound (n .goes j m (ap progress went)) in
           recorded v3 l4 m (q .text) (n .goes j m (ap progress went)) (held .text) w
           (is-listed g z ∙ ap (after-list g) (was-go n (ap progress went)) ∙ rw (more, rule-count, entry-count, ← u, ← y))
 
-    module _ (z : b ≡ Rewritten) (o : Appended) {v4 : List ℕ} (n : Grows textFormat (append textFormat (length l4) (unescaped (asked .source) (asked .options .flags) i c)) l4 (q .text) o v4) (m : ℕ) (went : o ≡ Appended.Next m) where
-      pub pattern-rewritten : (k : ℕ) → x ≡ ruleOf h (q .rules) (record { place = 1; from = q .text; length = k }) (record { from = q .entries; count = 0 }) → k ≡ m - q .text → sheetProgress r ≡ onto (λ n. sheetCounts n (q .entries) m) (progress p) → Done v2 l3 v4 (sheetProgress r)
+    module _ (z : b ≡ Rewritten) (o : Appended) {v4 : List ℕ}
+        (n : Grows textFormat (append textFormat (length l4) (unescaped (asked .source) (asked .options .flags) i c)) l4 (q .text) o v4) (m : ℕ)
+        (went : o ≡ Appended.Next m) where
+      pub pattern-rewritten : (k : ℕ) → x ≡ ruleOf h (q .rules) (record { place = 1; from = q .text; length = k }) (record { from = q .entries; count = 0 })
+          → k ≡ m - q .text → sheetProgress r ≡ onto (λ n. sheetCounts n (q .entries) m) (progress p) → Done v2 l3 v4 (sheetProgress r)
       unfolding withRule
       pattern-rewritten k y u w =
           let more : length (contents textFormat v4 m) ≡ m = contents-length text-sound (n .held m went) in
@@ -160,7 +173,8 @@ module _ (asked : Request) (i e : ℕ) (h : Head) (c : ℕ) (xs : List State) (l
           (is-rewritten z ∙ ap after-text (written-next textFormat 4 e _ v4 o (n .says) went) ∙ rw (more, rule-count, entry-count, text-count, ← u, ← y))
 
   module _ (g : ℕ) (z : b ≡ Listed g) {v3 : List ℕ} (o : Progress)
-      (n : Does (Held entryFormat v3) (entries (asked .source) (length l3) xs i g) (contents entryFormat l3 (q .entries)) (contents entryFormat v3) (progress o)) where
+      (n : Does (Held entryFormat v3) (entries (asked .source) (length l3) xs i g) (contents entryFormat l3 (q .entries)) (contents entryFormat v3)
+      (progress o)) where
     pub pattern-list-bad : (kind at m : ℕ) → o ≡ Progress.Bad kind at m → Done l2 v3 l4 (bad kind at (sheetCounts (q .rules) m (q .text)))
     pattern-list-bad kind at m y =
         does-bad (is-listed g z ∙ ap (after-list g) (was-bad n (ap progress y)))
@@ -169,8 +183,24 @@ module _ (asked : Request) (i e : ℕ) (h : Head) (c : ℕ) (xs : List State) (l
     pub pattern-list-full : (k : ℕ) → o ≡ Progress.Full k → Done l2 v3 l4 (full k)
     pattern-list-full k y = does-full (is-listed g z ∙ ap (after-list g) (was-full n (ap progress y)))
 
-  module _ (z : b ≡ Rewritten) (o : Appended) {v4 : List ℕ} (n : Grows textFormat (append textFormat (length l4) (unescaped (asked .source) (asked .options .flags) i c)) l4 (q .text) o v4) where
+  module _ (z : b ≡ Rewritten) (o : Appended) {v4 : List ℕ}
+      (n : Grows textFormat (append textFormat (length l4) (unescaped (asked .source) (asked .options .flags) i c)) l4 (q .text) o v4) where
     pub pattern-text-full : o ≡ Appended.Full → Done l2 l3 v4 (full 4)
     pattern-text-full y = does-full (is-rewritten z ∙ ap after-text (written-full textFormat 4 e _ v4 o (n .says) y))
 
-pub ruleset patterning = (needs, rules-held, listed-from, list-to, list-closed, list-place, list-field, pattern-unclosed, pattern-plain, pattern-listed, pattern-rewritten, pattern-list-bad, pattern-list-full, pattern-text-full)
+pub ruleset patterning = (
+  needs,
+  rules-held,
+  listed-from,
+  list-to,
+  list-closed,
+  list-place,
+  list-field,
+  pattern-unclosed,
+  pattern-plain,
+  pattern-listed,
+  pattern-rewritten,
+  pattern-list-bad,
+  pattern-list-full,
+  pattern-text-full,
+)

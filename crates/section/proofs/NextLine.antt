@@ -40,7 +40,7 @@ use denote.Exit.{yes}
 use Rattle.text.specs.Walk.{Between}
 use Rattle.text.specs.Whitespace.{atLineEnd}
 use Rattle.text.specs.Scan.{lineEnd}
-use Rattle.section.specs.Reader.{readerAt, moved, movedBy, NextLine}
+use Rattle.section.specs.Reader.{readerAt, readerMoved, readerMovedBy, NextLine}
 use Rattle.section.specs.declared.reader.Reader.{Reader}
 use Rattle.section.specs.declared.reader.Line.{Line}
 use Rattle.section.proofs.Lines.{first-between}
@@ -145,9 +145,9 @@ module _ {M : Type 1} (𝓤 : URA M) (H : Heap 𝓤) (A : Atoms 𝓤) (W : Given
     abbrev between : Reader → Reader → Line
     between r q = record { start = r .offset; end = q .offset }
 
-    line-found : (r q : Reader) → i ≤ length (now src) → r ≡ movedBy scan flags (readerAt src i) → q ≡ moved lineEnd r → NextLine (now src) (scan (now src) flags) i (between r q)
+    line-found : (r q : Reader) → i ≤ length (now src) → r ≡ readerMovedBy scan flags (readerAt src i) → q ≡ readerMoved lineEnd r → NextLine (now src) (scan (now src) flags) i (between r q)
     line-found r q h e f =
-        subst (λ (x : Line). NextLine (now src) (scan (now src) flags) i x) (sym (λ k. between (e k) ((f ∙ ap (moved lineEnd) e) k)))
+        subst (λ (x : Line). NextLine (now src) (scan (now src) flags) i x) (sym (λ k. between (e k) ((f ∙ ap (readerMoved lineEnd) e) k)))
         (record { starts = bounded (now src) flags i h; ends = first-between (atLineEnd (now src)) (scan (now src) flags i) (length (now src)) (bounded (now src) flags i h .to) })
 
     module _ (C : Calls 𝓤 H) (Λ : Loops 𝓤 H) (fm : FmC 𝓤 H (W .laws) C) (g : Name)
@@ -167,14 +167,14 @@ module _ {M : Type 1} (𝓤 : URA M) (H : Heap 𝓤) (A : Atoms 𝓤) (W : Given
           move ! (1 ∷ 0 ∷ 3 ∷ []) $ use3 W (raw (Moves .pre (to-start r₀ w₀))) (qed W (‵ (together (tokens 1 κs qs)) ∷ ‵ (held κs .own r₀ (w₀ ∷ [])) ∷ ‵ (u64 .own flags (uint-vals w64 flags)) ∷ []) ∵
           says ! (subst Inside (sym e₀) asked) $ frame ! $ have-nothings ! 0 $ move ! (2 ∷ 0 ∷ []) $ fjoin ! $ move ! (1 ∷ 0 ∷ []) $ fjoin ! $ done !) $
           called ! fm flagged-mover (moves-flagged 𝓤 scan) moves (to-start r₀ w₀) (arg ! 8 refl (arg ! 16 refl (no-more !))) (λ w₁ r₁ _.
-          move ! (3 ∷ []) $ heard ! (r₁ ≡ movedBy scan flags r₀) (λ e₁. let f₁ = e₁ ∙ ap (movedBy scan flags) e₀ in peeks ! (held κs) (Is (held κs)) (shows 𝓤 H A (held κs)) r₁ (w₁ ∷ []) (λ is₁.
+          move ! (3 ∷ []) $ heard ! (r₁ ≡ readerMovedBy scan flags r₀) (λ e₁. let f₁ = e₁ ∙ ap (readerMovedBy scan flags) e₀ in peeks ! (held κs) (Is (held κs)) (shows 𝓤 H A (held κs)) r₁ (w₁ ∷ []) (λ is₁.
           -- [what the reader owns; the token; …; …; _9; …]: on to its end
           land ! (from ! (stop !)) (init ! 14 refl (StructLaws.lawful (ReaderType.the-type α) L 𝓤 H A W .typed r₁ _ is₁ .0)) $
           assigns ! (of-opd ! (load ! (from ! (stop !)) (look ! 14 refl))) (from ! (stop !)) (init ! 8 refl (StructLaws.lawful (ReaderType.the-type α) L 𝓤 H A W .typed r₁ _ is₁ .0)) $
           move ! (1 ∷ 0 ∷ []) $ use2 W (raw (Ends .pre (to r₁ w₁))) (qed W (‵ (together (tokens 1 κs qs)) ∷ ‵ (held κs .own r₁ (w₁ ∷ [])) ∷ []) ∵
           says ! (subst Inside (sym f₁) (bounded (now src) flags i asked .to)) $ frame ! $ have-nothings ! 0 $ move ! (1 ∷ 0 ∷ []) $ fjoin ! $ done !) $
           called ! fm to-end.ended (to-end.clauses 𝓤 H A mem run) ends (to r₁ w₁) (arg ! 7 refl (no-more !)) (λ w₂ r₂ _.
-          facts ! (held κs) (Is (held κs)) (shows 𝓤 H A (held κs)) r₂ (w₂ ∷ []) (λ is₂. move ! (2 ∷ []) $ heard ! (r₂ ≡ moved lineEnd r₁) (λ e₂.
+          facts ! (held κs) (Is (held κs)) (shows 𝓤 H A (held κs)) r₂ (w₂ ∷ []) (λ is₂. move ! (2 ∷ []) $ heard ! (r₂ ≡ readerMoved lineEnd r₁) (λ e₂.
           let was₁ = StructLaws.owed (ReaderType.the-type α) L r₁ _ is₁ in let was₂ = StructLaws.owed (ReaderType.the-type α) L r₂ _ is₂ in
           -- [the token; …; …; …; _9; …]: the two offsets are read, and the line is put together
           land ! (from ! (stop !)) (init ! 12 refl (StructLaws.lawful (ReaderType.the-type α) L 𝓤 H A W .typed r₂ _ is₂ .0)) $

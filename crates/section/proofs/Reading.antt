@@ -39,7 +39,7 @@ use denote.Triple.Statement.{Contract, Triple}
 use denote.Triple.Walked.{says, needs, Stays, stay-dropped, goes-dropped, walkOf, ends-at}
 use denote.Exit.{yes}
 use Rattle.text.specs.Walk.{Between}
-use Rattle.section.specs.Reader.{readerAt, moved, movedBy}
+use Rattle.section.specs.Reader.{readerAt, readerMoved, readerMovedBy}
 use Rattle.section.specs.declared.reader.Reader.{Reader}
 use Rattle.borrow_proofs.proofs.Walking.{parts, tokens, together, have-nothings, allocated, param, arg, release, called}
 use Rattle.borrow_proofs.proofs.Parameters.{Param, Params, number, stays, machine, meets-by}
@@ -135,7 +135,7 @@ module _ {M : Type 1} (𝓤 : URA M) where
   moves scan κs a = record {
     ghost = Unit {0};
     requires = λ _. fact 𝓤 (Inside (a .0));
-    ensures = λ _ r _. fact 𝓤 (r ≡ moved scan (a .0));
+    ensures = λ _ r _. fact 𝓤 (r ≡ readerMoved scan (a .0));
   }
 
   -- the same with the flags
@@ -150,7 +150,7 @@ module _ {M : Type 1} (𝓤 : URA M) where
   moves-flagged scan κs a = record {
     ghost = Unit {0};
     requires = λ _. fact 𝓤 (Inside (a .0));
-    ensures = λ _ r _. fact 𝓤 (r ≡ movedBy scan (a .1 .0) (a .0));
+    ensures = λ _ r _. fact 𝓤 (r ≡ readerMovedBy scan (a .1 .0) (a .0));
   }
 
 module _ {M : Type 1} (𝓤 : URA M) (H : Heap 𝓤) (A : Atoms 𝓤) where

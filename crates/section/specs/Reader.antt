@@ -13,12 +13,12 @@ abbrev pub readerAt : RefT (List ℕ) → ℕ → Reader
 readerAt s i = record { source = s; offset = i }
 
 -- the reader at the place that a scanner answers
-abbrev pub moved : (List ℕ → ℕ → ℕ) → Reader → Reader
-moved scan r = readerAt (r .source) (scan (now (r .source)) (r .offset))
+abbrev pub readerMoved : (List ℕ → ℕ → ℕ) → Reader → Reader
+readerMoved scan r = readerAt (r .source) (scan (now (r .source)) (r .offset))
 
 -- the same by a scanner that the flags are given to
-abbrev pub movedBy : (List ℕ → ℕ → ℕ → ℕ) → ℕ → Reader → Reader
-movedBy scan flags r = moved (λ s i. scan s flags i) r
+abbrev pub readerMovedBy : (List ℕ → ℕ → ℕ → ℕ) → ℕ → Reader → Reader
+readerMovedBy scan flags r = readerMoved (λ s i. scan s flags i) r
 
 -- x is the line that is read next from i on: it starts at the place that `to` finds (01, Declarations and Rules)
 pub record NextLine (s : List ℕ) (to : ℕ → ℕ) (i : ℕ) (x : Line) : Type 0 where

@@ -6,7 +6,7 @@ ghost use lib.ListN.{length};
 ghost use Rattle.text.specs.Walk.{Between};
 ghost use Rattle.text.specs.Scan.{lineEnd, skipBlanks};
 ghost use Rattle.section.specs.Section.{toDeclaration, toRule};
-ghost use Rattle.section.specs.Reader.{readerAt, moved, movedBy, NextLine};
+ghost use Rattle.section.specs.Reader.{readerAt, readerMoved, readerMovedBy, NextLine};
 use crate::to_declaration;
 use crate::to_rule;
 use text::scan::line_end;
@@ -31,7 +31,7 @@ pub fn reader_at<'a>(source: &'a [u8], offset: usize) -> Reader<'a>
 
 pub fn move_to_line_end<'a>(mut r: Reader<'a>) -> Reader<'a>
     requires { ⌜ r .offset ≤ length (now (r .source)) ⌝ }
-    ensures { λ q. ⌜ q ≡ moved lineEnd (r .entry) ⌝ }
+    ensures { λ q. ⌜ q ≡ readerMoved lineEnd (r .entry) ⌝ }
 {
     let k = line_end(r.source, r.offset);
     r.offset = k;
@@ -40,7 +40,7 @@ pub fn move_to_line_end<'a>(mut r: Reader<'a>) -> Reader<'a>
 
 pub fn move_past_blanks<'a>(mut r: Reader<'a>) -> Reader<'a>
     requires { ⌜ r .offset ≤ length (now (r .source)) ⌝ }
-    ensures { λ q. ⌜ q ≡ moved skipBlanks (r .entry) ⌝ }
+    ensures { λ q. ⌜ q ≡ readerMoved skipBlanks (r .entry) ⌝ }
 {
     let k = parse_spaces(r.source, r.offset);
     r.offset = k;
@@ -49,7 +49,7 @@ pub fn move_past_blanks<'a>(mut r: Reader<'a>) -> Reader<'a>
 
 pub fn move_to_declaration<'a>(mut r: Reader<'a>, flags: u64) -> Reader<'a>
     requires { ⌜ r .offset ≤ length (now (r .source)) ⌝ }
-    ensures { λ q. ⌜ q ≡ movedBy toDeclaration flags (r .entry) ⌝ }
+    ensures { λ q. ⌜ q ≡ readerMovedBy toDeclaration flags (r .entry) ⌝ }
 {
     let k = to_declaration(r.source, flags, r.offset);
     r.offset = k;
@@ -58,7 +58,7 @@ pub fn move_to_declaration<'a>(mut r: Reader<'a>, flags: u64) -> Reader<'a>
 
 pub fn move_to_rule<'a>(mut r: Reader<'a>, flags: u64) -> Reader<'a>
     requires { ⌜ r .offset ≤ length (now (r .source)) ⌝ }
-    ensures { λ q. ⌜ q ≡ movedBy toRule flags (r .entry) ⌝ }
+    ensures { λ q. ⌜ q ≡ readerMovedBy toRule flags (r .entry) ⌝ }
 {
     let k = to_rule(r.source, flags, r.offset);
     r.offset = k;

@@ -9,7 +9,8 @@ use Rattle.declarations.proofs.missing.expected_names.Statement.{statem
 use Rattle.declarations.proofs.missing.expected_names.Tie as tie
 
 abbrev Inv-loop : tie.InvT-loop
-Inv-loop src i e w area₀ n a₀ count₀ area a count = Expects (expectedNames src (length area₀) (range i e) w (contents expectedFormat area₀ n)) src (length area₀) i e a area count
+Inv-loop src i e w area₀ n a₀ count₀ area a count =
+    Expects (expectedNames src (length area₀) (range i e) w (contents expectedFormat area₀ n)) src (length area₀) i e a area count
 
 abbrev μ-loop : tie.MeasureT-loop
 μ-loop src i e w area₀ n a₀ count₀ area a count = e - a

@@ -101,7 +101,8 @@ module _ (c : tie.After-area6) where
   cleared-clear-all = cleared-area1 .before
 
   abbrev cleared-start : tie.Start
-  cleared-start = cleared-clear-all .before .before .before .before .before .before .before .before .before .before .before .before .before .before .before .before
+  cleared-start =
+      cleared-clear-all .before .before .before .before .before .before .before .before .before .before .before .before .before .before .before .before
 
 -- what is asked
 abbrev asked : tie.Start → Request
@@ -139,7 +140,8 @@ parse-text-requires c κs =
 returns-3 : tie.Need-returns-3
 returns-3 c =
     let p = parsed-area6 c in
-    call-text (asked (cleared-start p)) _ _ _ _ _ _ (parsed-if1 c .if1 .left) (parsed-if2 c .if2 .left) _ (parsed-utf8 c .utf8 .ensures) (parsed-if3 c .if3 .taken)
+    call-text (asked (cleared-start p)) _ _ _ _ _ _ (parsed-if1 c .if1 .left) (parsed-if2 c .if2 .left) _ (parsed-utf8 c .utf8 .ensures)
+    (parsed-if3 c .if3 .taken)
     (cleared-area1 p .area1 .given) (cleared-area2 p .area2 .given) (cleared-area3 p .area3 .given) (cleared-area4 p .area4 .given)
     (cleared-area5 p .area5 .given) (p .area6 .given) (parsed-parse-text c .parse-text .ensures)
 

@@ -101,7 +101,8 @@ module _ (c : tie.After-area6) where
   sections-parse-sections = sections-area1 .before
 
   abbrev sections-start : tie.Start
-  sections-start = sections-parse-sections .before .before .before .before .before .before .before .before .before .before .before .before .before .before .before
+  sections-start =
+      sections-parse-sections .before .before .before .before .before .before .before .before .before .before .before .before .before .before .before
 
 returns : tie.Need-returns
 returns c =

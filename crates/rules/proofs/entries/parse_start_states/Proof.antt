@@ -8,7 +8,9 @@ use Rattle.rules.proofs.entries.parse_start_states.Statement.{statement
 use Rattle.rules.proofs.entries.parse_start_states.Tie as tie
 
 abbrev Inv-loop : tie.InvT-loop
-Inv-loop src i g area1 n1 area3₀ n3 a₀ count₀ area3 a count = Lists (entries src (length area3₀) (contents stateFormat area1 n1) i g (contents entryFormat area3₀ n3)) src (length area3₀) (contents stateFormat area1 n1) i g a area3 count
+Inv-loop src i g area1 n1 area3₀ n3 a₀ count₀ area3 a count =
+    Lists (entries src (length area3₀) (contents stateFormat area1 n1) i g (contents entryFormat area3₀ n3)) src (length area3₀)
+    (contents stateFormat area1 n1) i g a area3 count
 
 abbrev μ-loop : tie.MeasureT-loop
 μ-loop src i g area1 n1 area3₀ n3 a₀ count₀ area3 a count = g + 1 - a

@@ -17,15 +17,21 @@ module _ (c : tie.After-parse-start-states-arg) where
   abbrev reading-start : tie.Start
   reading-start = reading-body-of .before .before .before .before .before .before .before
 
--- places recording of record-rule-requires: start
+-- places recording of record-rule-requires: body-of start
 module _ (c : tie.After-record-rule-arg) where
-  abbrev recording-start : tie.Start
-  recording-start = c .before .before .before .before .before .before .before .before .before .before .before .before .before .before .before .before .before .before .before .before
+  abbrev recording-body-of : tie.After-body-of
+  recording-body-of = c .before .before .before .before .before .before .before .before .before .before .before .before .before
 
--- places recording-text of record-rule-requires-2: start
+  abbrev recording-start : tie.Start
+  recording-start = recording-body-of .before .before .before .before .before .before .before
+
+-- places recording-text of record-rule-requires-2: body-of start
 module _ (c : tie.After-record-rule-arg2) where
+  abbrev recording-text-body-of : tie.After-body-of
+  recording-text-body-of = c .before .before .before .before .before .before .before .before .before .before .before .before
+
   abbrev recording-text-start : tie.Start
-  recording-text-start = c .before .before .before .before .before .before .before .before .before .before .before .before .before .before .before .before .before .before .before
+  recording-text-start = recording-text-body-of .before .before .before .before .before .before .before
 
 -- places listed of returns-2: record-rule rule-with more m parse-start-states g body-of start
 module _ (c : tie.After-with-counts) where

@@ -38,7 +38,7 @@ use Rattle.text.specs.Walk.{Between}
 use Rattle.text.specs.Class.{isBlank}
 use Rattle.text.specs.Whitespace.{byte}
 use Rattle.text.specs.Scan.{skipBlanks}
-use Rattle.section.specs.Reader.{readerAt, moved}
+use Rattle.section.specs.Reader.{readerAt, readerMoved}
 use Rattle.section.specs.declared.reader.Reader.{Reader}
 use Rattle.section.proofs.Lines.{first-between}
 use Rattle.borrow_proofs.proofs.Walking.{parts, tokens, together, have-nothings, allocated, param, arg, release, called}
@@ -115,7 +115,7 @@ module _ {M : Type 1} (𝓤 : URA M) (H : Heap 𝓤) (A : Atoms 𝓤) (W : Given
           move ! (1 ∷ 0 ∷ []) $ use2 W (raw (Moves .pre (to r₀ w₀))) (qed W (‵ (together (tokens 1 κs qs)) ∷ ‵ (held κs .own r₀ (w₀ ∷ [])) ∷ []) ∵
           says ! (subst Inside (sym e₀) asked) $ frame ! $ have-nothings ! 0 $ move ! (1 ∷ 0 ∷ []) $ fjoin ! $ done !) $
           called ! fm move-past.ended (move-past.clauses 𝓤 H A mem run) moves (to r₀ w₀) (arg ! 2 refl (no-more !)) (λ w₁ r₁ _.
-          facts ! (held κs) (Is (held κs)) (shows 𝓤 H A (held κs)) r₁ (w₁ ∷ []) (λ is₁. move ! (2 ∷ []) $ heard ! (r₁ ≡ moved skipBlanks r₀) (λ e₁.
+          facts ! (held κs) (Is (held κs)) (shows 𝓤 H A (held κs)) r₁ (w₁ ∷ []) (λ is₁. move ! (2 ∷ []) $ heard ! (r₁ ≡ readerMoved skipBlanks r₀) (λ e₁.
           let was = StructLaws.owed (ReaderType.the-type α) L r₁ _ is₁ in
           -- [the token; …; …; _4; …]: the offset is read and returned
           land ! (from ! (stop !)) (init ! 5 refl (StructLaws.lawful (ReaderType.the-type α) L 𝓤 H A W .typed r₁ _ is₁ .0)) $
@@ -123,7 +123,7 @@ module _ {M : Type 1} (𝓤 : URA M) (H : Heap 𝓤) (A : Atoms 𝓤) (W : Given
           assigns ! (of-opd ! (load ! (from ! (fld ! refl (stop !))) (look-in ! 5 (sub ! 1 refl (whole !))))) (from ! (stop !)) (init ! 11 refl (tt, record { fits = was .1 .0 .1 })) $
           returns ! (look ! 11 refl) $ release ! 11 refl refl $ release ! 9 refl refl $ release ! 7 refl refl $ release ! 5 refl refl $ release ! 3 refl refl $ free0 ! $ keep ! (0 ∷ []) $
           suffices ! _ (ends-at 𝓤 H A past-blanks.ended stayed (past-blanks.clauses 𝓤 H A mem run) W y (vint w64 (r₁ .offset)) (r₁ .offset) (tt, (tt, tt)) (tt, (tt, tt))) $
-          says ! (blanks-between (now src) i (r₁ .offset) asked (ap (λ (r : Reader). r .offset) (e₁ ∙ ap (moved skipBlanks) e₀))) $ frame ! $
+          says ! (blanks-between (now src) i (r₁ .offset) asked (ap (λ (r : Reader). r .offset) (e₁ ∙ ap (readerMoved skipBlanks) e₀))) $ frame ! $
           owned ! usize (Is usize) (uint-makes 𝓤 H A W w64) (r₁ .offset) _ (was .1 .0) $ have-nothings ! 2 $ done !)))))))
 
 pub past-blanks-spec : {M : Type 1} → stated.statement M
