@@ -4,3 +4,4 @@ pub mod Records
 pub mod Contents
 pub mod Lists
 pub mod Contracts
+pub mod Computing

@@ -8,11 +8,11 @@ use borrow.Author.Needs.{needs}
 use borrow.Author.Tests.{lt-ltb, le-ltb, ltb-true}
 use lib.Dec.{ltb}
 use lib.ListN.{length}
-use Rattle.text.specs.Class.{isLetter}
-use Rattle.text.specs.Walk.{Between}
-use Rattle.text.specs.Whitespace.{byte, whitespaceLen, Width}
+use Rattle.characters.specs.Class.{isLetter}
+use Rattle.characters.specs.Walk.{Between}
+use Rattle.characters.specs.Whitespace.{byte, whitespaceLen, Width}
 use Rattle.text.specs.Scan.{findWhitespace}
-use Rattle.text.proofs.Tests.{and-left}
+use Rattle.characters.proofs.Tests.{and-left}
 use Rattle.area.specs.declared.State.{State}
 use Rattle.area.specs.declared.Appended.{Appended}
 use Rattle.area.specs.declared.Appended.the-variants as Appended

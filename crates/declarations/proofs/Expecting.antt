@@ -8,12 +8,12 @@ use borrow.Author.Needs.{needs}
 use borrow.Author.Tests.{le-leb, lt-leb, lt-ltb, le-ltb, leb-true}
 use lib.Dec.{eqb, leb, ltb}
 use lib.ListN.{length}
-use Rattle.text.specs.Walk.{Between}
-use Rattle.text.specs.Class.{isAsciiWhitespace}
-use Rattle.text.specs.Whitespace.{byte}
-use Rattle.text.proofs.Walks.{first-from}
+use Rattle.characters.specs.Walk.{Between}
+use Rattle.characters.specs.Class.{isAsciiWhitespace}
+use Rattle.characters.specs.Whitespace.{byte}
+use Rattle.characters.proofs.Walks.{first-from}
 use Rattle.text.specs.Scan.{findAsciiWhitespace, skipAsciiWhitespace}
-use Rattle.text.proofs.Tests.{and-left}
+use Rattle.characters.proofs.Tests.{and-left}
 use Rattle.area.specs.declared.Expected.{Expected}
 use Rattle.area.specs.declared.Appended.{Appended}
 use Rattle.area.specs.declared.Appended.the-variants.{Next, Full}

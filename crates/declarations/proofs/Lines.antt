@@ -9,15 +9,15 @@ use native.Mathlib.Omega.{arith}
 use borrow.Author.Needs.{needs}
 use lib.Dec.{eqb}
 use lib.ListN.{length}
-use Rattle.text.specs.Walk.{Between}
-use Rattle.text.specs.Whitespace.{whitespaceLen, atWhitespace}
+use Rattle.characters.specs.Walk.{Between}
+use Rattle.characters.specs.Whitespace.{whitespaceLen, atWhitespace}
 use Rattle.text.specs.Range.{lookaheadIs}
 use Rattle.text.specs.Scan.{lineEnd, skipBlanks, findWhitespace, trimEnd, trimStart}
-use Rattle.text.specs.declared.Found.{Found}
-use Rattle.text.specs.declared.Found.the-variants.{At, Nothing}
-use Rattle.text.proofs.Tests.{by-test}
-use Rattle.text.proofs.Walks.{first-to, first-from}
-use Rattle.text.proofs.Spaces.{end-none-of-white}
+use Rattle.characters.specs.declared.Found.{Found}
+use Rattle.characters.specs.declared.Found.the-variants.{At, Nothing}
+use Rattle.characters.proofs.Tests.{by-test}
+use Rattle.characters.proofs.Walks.{first-to, first-from}
+use Rattle.characters.proofs.Spaces.{end-none-of-white}
 use Rattle.area.specs.declared.Expected.{Expected}
 use Rattle.area.specs.Contents.{contents, expectedFormat, Held}
 use Rattle.fault.specs.declared.Progress.{Progress}

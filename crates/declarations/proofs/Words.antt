@@ -7,14 +7,14 @@ use native.Mathlib.Omega.{arith}
 use borrow.Author.Needs.{needs}
 use borrow.Author.Tests.{eq-eqb, ne-eqb}
 use lib.Dec.{eqb}
-use Rattle.text.specs.Class.{isLetter, isDigit}
-use Rattle.text.specs.Walk.{Between}
-use Rattle.text.specs.Whitespace.{byte}
+use Rattle.characters.specs.Class.{isLetter, isDigit}
+use Rattle.characters.specs.Walk.{Between}
+use Rattle.characters.specs.Whitespace.{byte}
 use Rattle.text.specs.Range.{lookaheadIs}
 use Rattle.text.specs.Scan.{findWhitespace, trimEnd, trimStart}
-use Rattle.text.specs.declared.Found.{Found}
-use Rattle.text.proofs.Tests.{answer-not, and-false}
-use Rattle.text.proofs.Walks.{first-again, first-none}
+use Rattle.characters.specs.declared.Found.{Found}
+use Rattle.characters.proofs.Tests.{answer-not, and-false}
+use Rattle.characters.proofs.Walks.{first-again, first-none}
 use Rattle.section.specs.Section.{found}
 use Rattle.names.specs.Names.{allBytes}
 use Rattle.names.proofs.Forms.{bytes-fail, bytes-pass}

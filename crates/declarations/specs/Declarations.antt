@@ -5,8 +5,8 @@ use mathlib.Core.Bool.{Bool, cond, not, _&&_, _||_}
 use mathlib.Core.List.{List, [], _∷_}
 use lib.Dec.{eqb, ltb, leb}
 use lib.ListN.{length}
-use Rattle.text.specs.Class.{isLetter, isDigit}
-use Rattle.text.specs.Whitespace.{byte, whitespaceLen}
+use Rattle.characters.specs.Class.{isLetter, isDigit}
+use Rattle.characters.specs.Whitespace.{byte, whitespaceLen}
 use Rattle.text.specs.Range.{lookaheadIs}
 use Rattle.text.specs.Scan.{lineEnd, skipBlanks, skipAsciiWhitespace, findAsciiWhitespace, findWhitespace, trimEnd, trimStart}
 use Rattle.area.specs.declared.State.{State}

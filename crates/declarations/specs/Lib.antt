@@ -2,3 +2,4 @@ pub mod Declarations
 pub mod Stages
 pub mod Answers
 pub mod Contracts
+pub mod Computing

@@ -10,6 +10,7 @@ ghost use Rattle.section.specs.Request.{options};
 ghost use Rattle.declarations.specs.Declarations.{declaration, declarations};
 ghost use Rattle.declarations.specs.Answers.{HeldDeclared};
 ghost use Rattle.declarations.specs.Contracts.{DoesDeclared};
+use characters::Found;
 use fault::Progress;
 use fault::kinds::PREMATURE_END;
 use fault::kinds::UNKNOWN_DECLARATION;
@@ -19,7 +20,6 @@ use section::in_section;
 use section::reader::next_declaration;
 use section::reader::past_blanks;
 use states::declare_start_states;
-use text::Found;
 use text::range::lookahead_is;
 
 // A name in a declaration of states: of no good form; a repeat of the state with that span; or new.

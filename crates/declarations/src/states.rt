@@ -17,6 +17,7 @@ use area::STATE_AREA;
 use area::State;
 use area::push_state;
 use area::read_state;
+use characters::whitespace::whitespace_len;
 use fault::Span;
 use fault::add_duplicate_occurrence;
 use fault::kinds::DUPLICATE_START_STATE;
@@ -24,7 +25,6 @@ use fault::kinds::INVALID_START_STATE_NAME;
 use names::get_start_state_by_name;
 use names::validate_start_state_name;
 use text::scan::find_whitespace;
-use text::whitespace::whitespace_len;
 
 // What the name from a to e is.
 fn validate_start_state(src: &[u8], a: usize, e: usize, area: &[u8], n: u16) -> Naming

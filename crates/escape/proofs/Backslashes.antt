@@ -6,9 +6,9 @@ use Prim.Native.Nat.{ℕ, _<_}
 use native.Mathlib.Omega.{arith}
 use borrow.Author.Tests.{eqb-true}
 use lib.Dec.{eqb}
-use Rattle.text.specs.Whitespace.{byte}
-use Rattle.text.proofs.Walks.{first-from, first-here}
-use Rattle.text.proofs.Firsts.{first-passes}
+use Rattle.characters.specs.Whitespace.{byte}
+use Rattle.characters.proofs.Walks.{first-from, first-here}
+use Rattle.characters.proofs.Firsts.{first-passes}
 use Rattle.escape.specs.Escape.{nextBackslash}
 
 abbrev pub isBackslash : List ℕ → ℕ → Bool

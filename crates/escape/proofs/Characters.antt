@@ -7,14 +7,14 @@ use Prim.Native.Nat.{ℕ, _+_, _-_, _/_, _≤_, _<_}
 use native.Mathlib.Omega.{arith}
 use borrow.Author.Tests.{lt-leb}
 use lib.ListN.{length, length-append}
-use Rattle.text.specs.Walk.{first}
-use Rattle.text.specs.Whitespace.{byte}
-use Rattle.text.specs.Unicode.{encode, encodeAll}
-use Rattle.text.specs.Utf8.{isContinuation}
-use Rattle.text.proofs.Tests.{in-range, above-range}
-use Rattle.text.proofs.Walks.{first-here, first-none, first-over}
-use Rattle.text.proofs.Codes.{by-size, encode-1, encode-2, encode-3, encode-4, encode-long, encodeAll-append}
-use Rattle.text.proofs.Ascii.{first-at, inner-at, ascii-whole}
+use Rattle.characters.specs.Walk.{first}
+use Rattle.characters.specs.Whitespace.{byte}
+use Rattle.characters.specs.Unicode.{encode, encodeAll}
+use Rattle.characters.specs.Utf8.{isContinuation}
+use Rattle.characters.proofs.Tests.{in-range, above-range}
+use Rattle.characters.proofs.Walks.{first-here, first-none, first-over}
+use Rattle.characters.proofs.Codes.{by-size, encode-1, encode-2, encode-3, encode-4, encode-long, encodeAll-append}
+use Rattle.characters.proofs.Ascii.{first-at, inner-at, ascii-whole}
 use Rattle.escape.specs.Escape.{nextBackslash, atEdge, charEnd, nextEscape}
 use Rattle.escape.proofs.Backslashes.{isBackslash}
 

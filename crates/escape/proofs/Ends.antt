@@ -10,9 +10,9 @@ use native.Mathlib.Omega.{arith}
 use borrow.Author.Needs.{needs}
 use borrow.Author.Tests.{le-ltb, lt-ltb, ltb-false}
 use lib.Dec.{ltb}
-use Rattle.text.specs.Walk.{Between}
-use Rattle.text.specs.Whitespace.{byte}
-use Rattle.text.proofs.Tests.{by-test, le-or-lt}
+use Rattle.characters.specs.Walk.{Between}
+use Rattle.characters.specs.Whitespace.{byte}
+use Rattle.characters.proofs.Tests.{by-test, le-or-lt}
 use Rattle.escape.specs.Escape.{nextBackslash, nextEscape, isWhole, lastWhole, dropLone, rewrittenEnd}
 use Rattle.escape.proofs.Backslashes.{next-is}
 use Rattle.escape.proofs.Escapes.{next-start, next-end, whole-inside, none-behind, whole-from, whole-stays, whole-over}

@@ -7,7 +7,7 @@ use Prim.Native.Nat.{ℕ, zero, suc, _+_, _-_, _≤_, _<_}
 use native.Mathlib.Nat.{le-refl}
 use native.Mathlib.Omega.{arith}
 use borrow.Author.Tests.{le-ltb, ltb-true}
-use Rattle.text.proofs.Walks.{first-from}
+use Rattle.characters.proofs.Walks.{first-from}
 use Rattle.escape.specs.Escape.{Escape, nextBackslash, atEdge, charEnd, nextEscape, isWhole, escapesFrom, escapes, lastEnd, lastWhole}
 use Rattle.escape.proofs.Backslashes.{isBackslash, backslash-again}
 

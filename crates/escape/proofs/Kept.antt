@@ -5,8 +5,8 @@ use mathlib.Core.List.{List}
 use Prim.Native.Nat.{ℕ, _+_}
 use borrow.Author.Needs.{needs}
 use lib.Dec.{ltb, eqb}
-use Rattle.text.specs.Class.{isHexDigit, isAlwaysKept}
-use Rattle.text.specs.Whitespace.{byte}
+use Rattle.characters.specs.Class.{isHexDigit, isAlwaysKept}
+use Rattle.characters.specs.Whitespace.{byte}
 use Rattle.escape.specs.Escape.{isCodeLetter, isCode, isKeptBy, isKept}
 
 or-false : (p : Bool) → p ≡ p || false

@@ -7,8 +7,8 @@ use Prim.Native.Nat.{ℕ, _+_, _≤_, _<_}
 use native.Mathlib.Omega.{arith}
 use borrow.Author.Needs.{needs}
 use borrow.Author.Tests.{lt-ltb, le-ltb, not-true, not-false}
-use Rattle.text.specs.Walk.{Between}
-use Rattle.text.proofs.Tests.{answer-not, by-test}
+use Rattle.characters.specs.Walk.{Between}
+use Rattle.characters.proofs.Tests.{answer-not, by-test}
 use Rattle.escape.specs.Escape.{nextBackslash, charEnd, nextEscape, isWhole, isKept, anyEscape, isRewritten, lastWhole}
 use Rattle.escape.specs.Pieces.{pastEscape}
 use Rattle.escape.proofs.Escapes.{next-from, next-start, next-end, escapes-none, escapes-next, escapes-again, whole-stays, whole-over}

@@ -10,11 +10,11 @@ use borrow.Author.Needs.{needs}
 use borrow.Author.Tests.{ltb-true, ltb-false, eqb-true, eq-eqb, ne-eqb}
 use lib.Dec.{eqb, ltb}
 use lib.ListN.{length, take, drop, length-append}
-use Rattle.text.specs.Walk.{Between}
-use Rattle.text.specs.Whitespace.{byte}
+use Rattle.characters.specs.Walk.{Between}
+use Rattle.characters.specs.Whitespace.{byte}
 use Rattle.text.specs.Range.{part}
-use Rattle.text.proofs.Tests.{answer, by-test}
-use Rattle.text.proofs.Walks.{first-from, first-here, first-next, first-to}
+use Rattle.characters.proofs.Tests.{answer, by-test}
+use Rattle.characters.proofs.Walks.{first-from, first-here, first-next, first-to}
 use Rattle.text.proofs.Blocks.{first-shorter}
 use Rattle.area.specs.declared.Appended.{Appended}
 use Rattle.area.specs.declared.Appended.the-variants.{Next, Full}

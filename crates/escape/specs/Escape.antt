@@ -3,12 +3,12 @@ use Prim.Native.Nat.{ℕ, zero, suc, _+_, _-_, _/_, _%_}
 use mathlib.Core.Bool.{Bool, false, cond, not, _&&_, _||_}
 use mathlib.Core.List.{List, [], _∷_, _++_}
 use lib.Dec.{eqb, ltb}
-use Rattle.text.specs.Class.{among, isHexDigit, isAlwaysKept}
-use Rattle.text.specs.Walk.{first}
-use Rattle.text.specs.Whitespace.{byte}
+use Rattle.characters.specs.Class.{among, isHexDigit, isAlwaysKept}
+use Rattle.characters.specs.Walk.{first}
+use Rattle.characters.specs.Whitespace.{byte}
 use Rattle.text.specs.Range.{part}
 use Rattle.text.specs.Scan.{findByte}
-use Rattle.text.specs.Utf8.{isContinuation}
+use Rattle.characters.specs.Utf8.{isContinuation}
 
 -- ---- the escapes of a pattern
 

@@ -1,2 +1,3 @@
 pub mod Escape
 pub mod Pieces
+pub mod Computing

@@ -5,7 +5,7 @@ use Prim.Native.Nat.{ℕ, _+_, _-_}
 use mathlib.Core.Bool.{cond}
 use mathlib.Core.List.{List}
 use lib.Dec.{eqb}
-use Rattle.text.specs.Whitespace.{byte}
+use Rattle.characters.specs.Whitespace.{byte}
 use Rattle.text.specs.Range.{part}
 use Rattle.escape.specs.Escape.{Escape, nextBackslash, charEnd, nextEscape, isWhole, escaped}
 

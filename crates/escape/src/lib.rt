@@ -2,20 +2,20 @@
 ghost use mathlib.Core.Path.{_≡_};
 ghost use Prim.Native.Nat.{_+_, _≤_, _<_};
 ghost use lib.ListN.{length};
-ghost use Rattle.text.specs.Class.{ClassTable};
-ghost use Rattle.text.specs.Walk.{Between};
+ghost use Rattle.characters.specs.Class.{ClassTable};
+ghost use Rattle.characters.specs.Walk.{Between};
 ghost use Rattle.area.specs.Areas.{PushedText};
 ghost use Rattle.area.specs.Contents.{Held, Grows, append, textFormat};
 ghost use Rattle.escape.specs.Escape.{charEnd, isCodeLetter, isCode, isKeptBy, isKept, backspace, escaped, isRewritten, lastWhole, rewrittenEnd, unescaped};
 ghost use Rattle.escape.specs.Pieces.{pastEscape, escapeOf, pieceEnd, piece};
 use area::Appended;
 use area::push_text;
-use text::class::CLASS;
-use text::class::is_always_kept_in;
-use text::class::is_hex_digit;
+use characters::class::CLASS;
+use characters::class::is_always_kept_in;
+use characters::class::is_hex_digit;
+use characters::utf8::is_continuation;
+use characters::whitespace::byte_at;
 use text::scan::find_byte;
-use text::utf8::is_continuation;
-use text::whitespace::byte_at;
 
 const BACKSLASH: u8 = 0x5c;
 

@@ -14,11 +14,11 @@ use mir.Syntax.{w16}
 use mir.Val.{Fits}
 use lib.ListN.{length, take, drop, length-append, length-drop, List·getD-append}
 use lib.Seq.{getD-append-add, getD-take, getD-drop, length-take-le}
-use Rattle.text.specs.Walk.{first, last, Between}
-use Rattle.text.specs.declared.Found.{Found}
-use Rattle.text.specs.declared.Found.the-variants.{At, Nothing}
-use Rattle.text.proofs.Walks.{first-found, first-again, first-ended, last-found, last-again, last-ended, last-passed}
-use Rattle.text.proofs.Tests.{answer, le-or-lt}
+use Rattle.characters.specs.Walk.{first, last, Between}
+use Rattle.characters.specs.declared.Found.{Found}
+use Rattle.characters.specs.declared.Found.the-variants.{At, Nothing}
+use Rattle.characters.proofs.Walks.{first-found, first-again, first-ended, last-found, last-again, last-ended, last-passed}
+use Rattle.characters.proofs.Tests.{answer, le-or-lt}
 use Rattle.area.specs.declared.Fault.{Fault}
 use Rattle.area.specs.declared.Appended.{Appended}
 use Rattle.area.specs.declared.Appended.the-variants.{Next, Full}

@@ -3,7 +3,7 @@ use Prim.Native.Nat.{ℕ, zero, suc}
 use mathlib.Core.Path.{_≡_}
 use mathlib.Core.Bool.{Bool, true}
 use mathlib.Core.Option.{Option, none, some}
-use Rattle.text.proofs.Tests.{by-test}
+use Rattle.characters.proofs.Tests.{by-test}
 use Rattle.fault.specs.Step.{Out, go, bad, full, next, onto, written, loop}
 
 -- P holds of the place and the state with which the step goes on

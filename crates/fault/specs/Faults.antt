@@ -7,9 +7,9 @@ use mathlib.Core.Option.{Option, none, some}
 use lib.Dec.{eqb, ltb}
 use lib.ListN.{length}
 use Prim.Native.Nat.{_≤_, _<_}
-use Rattle.text.specs.Walk.{first, last}
-use Rattle.text.specs.declared.Found.{Found}
-use Rattle.text.specs.declared.Found.the-variants.{At, Nothing}
+use Rattle.characters.specs.Walk.{first, last}
+use Rattle.characters.specs.declared.Found.{Found}
+use Rattle.characters.specs.declared.Found.the-variants.{At, Nothing}
 use Rattle.area.specs.declared.Fault.{Fault}
 use Rattle.area.specs.Areas.{room, insertAt}
 use Rattle.area.specs.Records.{nthFault, faultWidth, mostOthers}

@@ -4,7 +4,7 @@ pub mod kinds; // the kinds of faults
 ghost use mathlib.Core.Path.{_≡_};
 ghost use Prim.Native.Nat.{_<_};
 ghost use lib.ListN.{length};
-ghost use Rattle.text.specs.Walk.{Between};
+ghost use Rattle.characters.specs.Walk.{Between};
 ghost use Rattle.area.specs.Contents.{faultFormat, contents};
 ghost use Rattle.fault.specs.Faults.{HeldFaults, GrowsFaults, nextNumber, addFault, startsFault, isFault, findFault, faultEnd, addSpan, addPair, addRepeat};
 use area::Appended;

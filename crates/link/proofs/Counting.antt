@@ -14,7 +14,7 @@ use lib.Dec.{leb, ltb}
 use lib.ListN.{length, length-append}
 use lib.Seq.{sets}
 use Rattle.text.specs.Range.{part, sameBytes}
-use Rattle.text.proofs.Tests.{le-or-lt}
+use Rattle.characters.proofs.Tests.{le-or-lt}
 use Rattle.area.specs.declared.Rule.{Rule}
 use Rattle.area.specs.Bytes.{bytes, pad, zeros}
 use Rattle.area.specs.Records.{entryWidth, entryBytes, ruleAt, nthRule}

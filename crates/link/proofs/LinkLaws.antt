@@ -9,7 +9,7 @@ use native.Mathlib.Omega.{arith}
 use borrow.Author.Tests.{le-leb, lt-ltb}
 use lib.Dec.{leb}
 use lib.ListN.{length, drop, length-append, length-drop}
-use Rattle.text.proofs.Tests.{and-left, and-right}
+use Rattle.characters.proofs.Tests.{and-left, and-right}
 use Rattle.area.specs.declared.State.{State}
 use Rattle.area.specs.declared.Rule.{Rule}
 use Rattle.area.specs.declared.Expected.{Expected}

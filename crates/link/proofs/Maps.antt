@@ -12,12 +12,12 @@ use borrow.Author.Needs.{needs}
 use borrow.Author.Tests.{eqb-true, eq-eqb, ne-eqb, le-leb, lt-leb}
 use lib.Dec.{eqb, leb}
 use lib.ListN.{length, length-map, List·getD-map}
-use Rattle.text.specs.Walk.{first}
+use Rattle.characters.specs.Walk.{first}
 use Rattle.text.specs.Range.{part, sameBytes, sameRange}
-use Rattle.text.proofs.Tests.{answer, and-left, and-right, le-or-lt}
-use Rattle.text.proofs.Walks.{first-found, first-again, first-ended}
+use Rattle.characters.proofs.Tests.{answer, and-left, and-right, le-or-lt}
+use Rattle.characters.proofs.Walks.{first-found, first-again, first-ended}
 use Rattle.text.proofs.Ranges.{same-self}
-use Rattle.text.proofs.Firsts.{first-passes, first-low}
+use Rattle.characters.proofs.Firsts.{first-passes, first-low}
 use Rattle.area.specs.Bytes.{fieldAt, fieldFrom}
 use Rattle.area.specs.Contents.{contents}
 use Rattle.area.specs.Lists.{all, allBelow}

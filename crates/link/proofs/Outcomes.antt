@@ -10,7 +10,7 @@ use native.Mathlib.Omega.{arith}
 use borrow.Author.Tests.{le-leb, lt-leb, leb-true, not-true, not-false}
 use lib.Dec.{eqb, leb}
 use lib.ListN.{length, getD, drop, length-map, length-replicate, List·getD-map}
-use Rattle.text.proofs.Tests.{and-left, and-right}
+use Rattle.characters.proofs.Tests.{and-left, and-right}
 use Rattle.area.specs.declared.Rule.{Rule}
 use Rattle.area.specs.Bytes.{bytes, pad, zeros}
 use Rattle.area.specs.Records.{ruleWidth, entryWidth, mostRules, ruleOf, nthRule}

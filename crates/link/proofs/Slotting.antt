@@ -12,12 +12,12 @@ use borrow.Author.Tests.{eqb-true, eqb-false, eq-eqb, ne-eqb}
 use lib.Dec.{eqb}
 use lib.ListN.{length, getD, set, drop, replicate, length-drop, length-set, length-replicate, getD-replicate, List·getD-eq-default}
 use lib.Seq.{drop-cons, take-all, getD-set-same, getD-set-other}
-use Rattle.text.specs.Whitespace.{byte}
-use Rattle.text.specs.Walk.{first, Between}
+use Rattle.characters.specs.Whitespace.{byte}
+use Rattle.characters.specs.Walk.{first, Between}
 use Rattle.text.specs.Range.{part, sameBytes}
-use Rattle.text.proofs.Tests.{le-or-lt}
+use Rattle.characters.proofs.Tests.{le-or-lt}
 use Rattle.text.proofs.Ranges.{part-none, same-equal, same-self}
-use Rattle.text.proofs.Walks.{first-here, first-over}
+use Rattle.characters.proofs.Walks.{first-here, first-over}
 use Rattle.area.specs.declared.Rule.{Rule}
 use Rattle.area.specs.Records.{nthRule, ruleAt}
 use Rattle.area.specs.Contents.{contents, ruleFormat}

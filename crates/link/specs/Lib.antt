@@ -2,3 +2,4 @@ pub mod Map
 pub mod Link
 pub mod Index
 pub mod Contracts
+pub mod Computing

@@ -6,7 +6,7 @@ use mathlib.Core.Option.{Option, none, some}
 use lib.Dec.{eqb, leb, ltb}
 use lib.ListN.{length, getD}
 use Rattle.text.specs.Range.{part, sameBytes}
-use Rattle.text.specs.Walk.{first}
+use Rattle.characters.specs.Walk.{first}
 use Rattle.area.specs.Bytes.{two, bytes, fieldFrom}
 use Rattle.area.specs.Contents.{Format, contents}
 use Rattle.area.specs.Lists.{all, allBelow}

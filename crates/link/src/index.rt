@@ -4,7 +4,7 @@ ghost use mathlib.Core.Path.{_≡_};
 ghost use Prim.Native.Nat.{_+_, _*_, _%_, _≤_, _<_, min};
 ghost use lib.Dec.{eqb};
 ghost use lib.ListN.{length, getD, replicate};
-ghost use Rattle.text.specs.Walk.{Between};
+ghost use Rattle.characters.specs.Walk.{Between};
 ghost use Rattle.text.specs.Range.{part};
 ghost use Rattle.area.specs.Records.{ruleWidth};
 ghost use Rattle.link.specs.Map.{mostEntries, entryCount, nth, findEntry};

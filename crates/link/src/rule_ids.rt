@@ -2,7 +2,7 @@
 ghost use mathlib.Core.Path.{_≡_};
 ghost use Prim.Native.Nat.{_*_, _≤_};
 ghost use lib.ListN.{length};
-ghost use Rattle.text.specs.Walk.{Between};
+ghost use Rattle.characters.specs.Walk.{Between};
 ghost use Rattle.area.specs.Records.{ruleWidth, mostRules};
 ghost use Rattle.area.specs.Contents.{ruleFormat, relaid};
 ghost use Rattle.link.specs.Map.{entryCount, findEntry};

@@ -1,4 +1,4 @@
--- On areas and rows of bytes the values of the answers have two bytes, so that their words tell them apart. Of the parse call crate accepted has
+-- On areas and rows of bytes the values of the answers have two bytes, so that their words tell them apart. Of the parse call crate parsed_sheet has
 -- it. The laws stand here, and not beside the words, so that a wrong edit of a call is refused by the call's own contract.
 use mathlib.Core.Path.{_≡_, subst⁻¹}
 use mathlib.Core.Bool.{Bool, true, false, cond, _&&_}
@@ -9,7 +9,7 @@ use native.Mathlib.Omega.{arith}
 use borrow.Author.Tests.{leb-true}
 use lib.Dec.{eqb, leb}
 use lib.ListN.{length, getD, length-append, List·getD-eq-default}
-use Rattle.text.proofs.Tests.{le-or-lt, by-test, and-left, and-right}
+use Rattle.characters.proofs.Tests.{le-or-lt, by-test, and-left, and-right}
 use Rattle.area.specs.declared.Rule.{Rule}
 use Rattle.area.specs.Records.{ruleWidth, entryWidth, ruleOf, ruleAt, entryAt, nthRule}
 use Rattle.area.specs.Contents.{contents, ruleFormat}

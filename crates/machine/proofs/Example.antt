@@ -1,5 +1,5 @@
 -- The hypotheses of demand 3 can be met, and its machine does something: a small file with pushes, pops below the bottom, a replace, skips, and
--- a refused row in the middle, computed. A definition that is added to the parse, the link or the run is to be listed here.
+-- a refused row in the middle, computed.
 use mathlib.Core.Path.{_≡_, refl, ap, _∙_}
 use mathlib.Core.Bool.{true}
 use mathlib.Core.List.{List, [], _∷_}
@@ -8,42 +8,22 @@ use Prim.Native.Nat.{ℕ, zero, suc, _<_}
 use native.Mathlib.Omega.{arith}
 use borrow.Author.Tests.{ltb-true}
 use lib.ListN.{getD, getElem?, replicate}
-use Rattle.text.proofs.Tests.{and-left, and-right}
-use Rattle.text.specs.Class.{isLineEnd, isBlank, isOtherWhitespace, isLetter, isDigit, isHexDigit, isMetaCharacter, isEscapeLetter, isWhitespaceByte, isAsciiWhitespace, isAlwaysKept}
-use Rattle.text.specs.Range.{part, sameBytes, sameRange, lookaheadIs}
-use Rattle.text.specs.Scan.{trimStart, trimEnd, backslashesBehind, backslashesBefore, keepEscaped, trimEndUnescaped}
-use Rattle.text.specs.Utf8.{charOf, charLen, utf8}
-use Rattle.text.specs.Walk.{firstOf, first, lastOf, last, repeat, skip}
-use Rattle.text.specs.Whitespace.{whitespaceOf, lineEndOf, whitespaceLen, lineEndLen}
-use Rattle.area.specs.Bytes.{AllBytes, two, bytes, pad, fieldAt, fieldFrom}
-use Rattle.area.specs.Areas.{room, insertAt}
-use Rattle.area.specs.Contents.{append, contents, listOf, relaid}
-use Rattle.area.specs.Records.{stateFields, ruleFields, entryFields, expectedFields, faultFields, stateOf, ruleOf, expectedOf, faultOf, stateAt, ruleAt, entryAt, expectedAt}
-use Rattle.fault.specs.Faults.{nextNumber, addFault, startsFault, isFault, findFault, faultEnd, addSpan, addPair, repeatAt, addRepeat}
-use Rattle.fault.specs.Step.{loop}
+use Rattle.characters.proofs.Tests.{and-left, and-right}
+use Rattle.area.specs.Bytes.{AllBytes, bytes}
 use Rattle.section.specs.Request.{request, options}
-use Rattle.section.specs.Section.{comments, isComment, pastComment, pastLine, toDeclaration, pastRuleLine, toRule, inSection, hasRoutines}
-use Rattle.names.specs.Names as N
-use Rattle.names.specs.Names.{allBytes, isNameByte, isStateName, isState, hasName, findRule, nameOf}
-use Rattle.escape.specs.Escape.{posixEscapes, isCodeLetter, isCode, isKeptBy, isKept, isRewritten, lastWhole, dropLone, rewrittenEnd, backspace, escapeFrom, escaped, unescaped, nextEscape, escapesFrom, escapes, anyEscape, lastEnd, replaced}
-use Rattle.declarations.specs.Declarations.{declareState, stateNames, isQuoted, expectedNames, isAlphanumeric, declares, declarationOf, declareAs, declaration, nextDeclaration, endDeclarations, declarations, trimmed, wordEnd, firstWord, restOf, isInclusive, isExclusive, isExpecting, statesOf, behindName, addState, repeatState, stateNamed, declareExpected}
-use Rattle.rules.specs.Heading.{operationOf, targetOf, isNoName, isName, labelBy, labelOf, headingOf, bodyOf, hasTarget, targetEnd, targetOperation, targetName, targetId, equalQuotes, ruleNamed, headingBehind, hasList, listEnd}
-use Rattle.rules.specs.Rules.{nextEntry, entries, refuses, recordRule, entryEnd, entryId}
-use Rattle.rules_section.specs.RulesSection.{listedRule, rewrittenRule, pattern, ruleAs, rule, line, nextRule, rules, routines, rulesSection, withRule}
-use Rattle.parse.specs.Parse.{Caps, caps, closed, judge, rulesFrom, opening, file, outcome, leaves, parseCall, parseFields}
-use Rattle.sheet_check.specs.SheetCheck.{decoded, longEnough, goodCounts, goodSizes, goodState, goodRule, goodExpected, goodRecords, sheetCheck}
-use Rattle.area.specs.Lists.{all, numbers, allBelow}
+use Rattle.rules.specs.Rules.{entries}
+use Rattle.rules_section.specs.RulesSection.{rule, rules}
+use Rattle.parse.specs.Parse.{Caps, caps, file}
+use Rattle.area.specs.Lists.{all}
 use Rattle.parsed_sheet.specs.Accepted.{isByte}
-use Rattle.parsed_sheet.specs.Meaning.{meaning}
-use Rattle.link.specs.Map.{mapEntryFields, mapEntryOf, mapEntryAt, entryOf, entriesOf, findEntry, idAt, idOf, distinct, nameInside, mapCheck}
-use Rattle.link.specs.Link as LK
-use Rattle.link.specs.Link.{isNone, isUnmapped, hasThatName, isUnused, unmapped, unused, linkAll, linkChecked, linkCall, linkFields}
+use Rattle.link.specs.Link.{unmapped, unused}
 use Rattle.run.specs.declared.Run.{Run}
 use Rattle.run.specs.declared.Step.{Step}
 use Rattle.run.specs.declared.Step.the-variants.{RowMismatch, Done, Stopped, Skip, Token}
-use Rattle.run.specs.Run.{running, Input, input, goodStart, startCall, startFields}
-use Rattle.machine.specs.File.{FileRule, operationBy, nameAt, nameFrom, mapOf, fileOf}
-use Rattle.machine.specs.Machine.{Given, Machine, fresh, lengths, fits, has, isEmpty, isLive, before, winnerOf, idIn, operate, move, token, wins, chooses, step}
+use Rattle.run.specs.Run.{running, Input, input}
+use Rattle.machine.specs.Computing.{computing}
+use Rattle.machine.specs.File.{FileRule}
+use Rattle.machine.specs.Machine.{Given, Machine, fresh, step}
 use Rattle.machine.specs.Means.{EntryOf}
 use Rattle.machine.specs.Demand.{Demand, Session, startLeftOf, sessionFile, sessionMap, given, MapHolds, Accepts, sessionCalls, DEMAND}
 use Rattle.machine.proofs.Options.{some-is, none-some}
@@ -108,80 +88,7 @@ unfoldable pub answers : Given → Machine → List Input → List Step
 answers g m [] = []
 answers g m (i ∷ is) = step g m i .answer ∷ answers g (step g m i .machine) is
 
--- ---- what is unfolded where something is computed, by crate
-
-unfoldable text-computes : Unit {0}
-unfolding isLineEnd isBlank isOtherWhitespace isLetter isDigit isHexDigit isMetaCharacter isEscapeLetter isWhitespaceByte isAsciiWhitespace isAlwaysKept part sameBytes sameRange lookaheadIs trimStart trimEnd backslashesBehind backslashesBefore keepEscaped trimEndUnescaped charOf
-text-computes = tt
-
-unfoldable text-computes-on : Unit {0}
-unfolding charLen utf8 firstOf first lastOf last repeat skip whitespaceOf lineEndOf whitespaceLen lineEndLen
-text-computes-on = tt
-
-unfoldable area-computes : Unit {0}
-unfolding room insertAt append stateOf ruleOf expectedOf faultOf two bytes pad fieldAt fieldFrom contents listOf stateFields ruleFields entryFields expectedFields faultFields stateAt ruleAt entryAt expectedAt
-area-computes = tt
-
-unfoldable fault-computes : Unit {0}
-unfolding nextNumber addFault startsFault isFault findFault faultEnd addSpan addPair repeatAt addRepeat loop
-fault-computes = tt
-
-unfoldable section-computes : Unit {0}
-unfolding comments isComment pastComment pastLine toDeclaration pastRuleLine toRule inSection hasRoutines
-section-computes = tt
-
-unfoldable names-computes : Unit {0}
-unfolding allBytes isNameByte isStateName isState N.findState hasName findRule nameOf
-names-computes = tt
-
-unfoldable escape-computes : Unit {0}
-unfolding posixEscapes isCodeLetter isCode isKeptBy isKept isRewritten lastWhole dropLone rewrittenEnd backspace escapeFrom escaped unescaped nextEscape escapesFrom escapes anyEscape lastEnd replaced
-escape-computes = tt
-
-unfoldable declarations-computes : Unit {0}
-unfolding declareState stateNames isQuoted expectedNames isAlphanumeric declares declarationOf declareAs declaration nextDeclaration endDeclarations declarations trimmed wordEnd firstWord restOf isInclusive isExclusive isExpecting statesOf behindName addState repeatState
-declarations-computes = tt
-
-unfoldable declarations-computes-on : Unit {0}
-unfolding stateNamed declareExpected
-declarations-computes-on = tt
-
-unfoldable rules-computes : Unit {0}
-unfolding operationOf targetOf isNoName isName labelBy labelOf headingOf bodyOf nextEntry entries refuses recordRule listedRule rewrittenRule pattern ruleAs rule line nextRule rules routines rulesSection hasTarget targetEnd targetOperation targetName targetId equalQuotes
-rules-computes = tt
-
-unfoldable rules-computes-on : Unit {0}
-unfolding ruleNamed headingBehind hasList listEnd entryEnd entryId withRule
-rules-computes-on = tt
-
-unfoldable parse-computes : Unit {0}
-unfolding closed judge rulesFrom opening file outcome leaves parseCall
-parse-computes = tt
-
-unfoldable sheet-check-computes : Unit {0}
-unfolding decoded all longEnough goodCounts goodSizes goodState goodRule goodExpected goodRecords sheetCheck
-sheet-check-computes = tt
-
-unfoldable accepted-computes : Unit {0}
-unfolding meaning
-accepted-computes = tt
-
-unfoldable link-computes : Unit {0}
-unfolding mapEntryFields mapEntryOf mapEntryAt entryOf entriesOf findEntry idAt idOf allBelow distinct nameInside mapCheck isNone isUnmapped hasThatName isUnused numbers unmapped unused relaid LK.fits linkAll linkChecked linkCall
-link-computes = tt
-
-unfoldable run-computes : Unit {0}
-unfolding goodStart startCall
-run-computes = tt
-
-unfoldable machine-computes : Unit {0}
-unfolding operationBy nameAt nameFrom mapOf fileOf lengths fits has isEmpty isLive before winnerOf idIn operate move token wins chooses step answers
-machine-computes = tt
-
--- all of it
-unfoldable computing : Unit {0}
-unfolding text-computes text-computes-on area-computes fault-computes section-computes names-computes escape-computes declarations-computes declarations-computes-on rules-computes rules-computes-on parse-computes sheet-check-computes accepted-computes link-computes run-computes machine-computes
-computing = tt
+-- ---- by computing
 
 -- the map holds the name of each named rule
 pub met-names : (r : Run) → MapHolds (sessionFile (session r)) (sessionMap (session r))
@@ -226,7 +133,7 @@ unfolding all
 entries-are-bytes = record { small = λ k. all-small entries-of-map k refl }
 
 met-words : (r : Run) → AcceptsInWords (session r)
-unfolding computing parseFields linkFields startFields
+unfolding computing
 met-words r = record { parsed = refl; linked = refl; started = refl }
 
 pub met-in-words : (r : Run) → InWords (session r) entry-rows

@@ -10,7 +10,7 @@ use borrow.Author.Tests.{eq-eqb, eqb-true, eqb-false, leb-true, leb-false, ltb-t
 use lib.Dec.{eqb, ltb}
 use lib.ListN.{length, getD, getElem?}
 use Rattle.text.specs.Range.{sameBytes}
-use Rattle.text.proofs.Tests.{by-test, and-left, and-right, or-true, or-cases}
+use Rattle.characters.proofs.Tests.{by-test, and-left, and-right, or-true, or-cases}
 use Rattle.text.proofs.Ranges.{same-equal, same-self}
 use Rattle.area.specs.Lists.{all}
 use Rattle.sheet_check.proofs.Checked.{all-at}

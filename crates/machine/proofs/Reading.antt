@@ -10,9 +10,9 @@ use borrow.Author.Tests.{eqb-true, ne-eqb, lt-ltb, le-ltb}
 use lib.Dec.{eqb, ltb}
 use lib.ListN.{length, getD, getElem?, take, drop, List·getD-map}
 use lib.Seq.{drop-cons}
-use Rattle.text.specs.Walk.{firstOf, first}
+use Rattle.characters.specs.Walk.{firstOf, first}
 use Rattle.text.specs.Range.{part, sameBytes}
-use Rattle.text.proofs.Tests.{le-or-lt, and-left}
+use Rattle.characters.proofs.Tests.{le-or-lt, and-left}
 use Rattle.area.specs.declared.State.{State}
 use Rattle.area.specs.declared.Rule.{Rule}
 use Rattle.area.specs.Records.{entryAt, stateOf, nthState, nthRule, nthEntry}

@@ -18,7 +18,7 @@ use Rattle.link.specs.Map.{Entry, entry, nth, mapWidth, mostEntries, mapFormat,
 use Rattle.link.specs.Link.{LinkLeft, linkLeft, linkRules, fits, unmapped, unused, linkAll, linkChecked, linkCall}
 use Rattle.link.proofs.LinkLaws.{linked-contents, linked-passes, entry-id}
 use borrow.Author.Tests.{eqb-true}
-use Rattle.text.proofs.Tests.{and-left, and-right}
+use Rattle.characters.proofs.Tests.{and-left, and-right}
 use Rattle.run.specs.Winner.{lexerOf}
 use Rattle.machine.specs.Means.{EntryOf}
 use Rattle.machine.specs.Demand.{linkedSheet}

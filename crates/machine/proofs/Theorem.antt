@@ -1,4 +1,4 @@
--- Demand 3 (S8). An accepted parse leaves a sheet that decodes to the file's contents and passes the check, and these are what the file means; a
+-- Demand 3. An accepted parse leaves a sheet that decodes to the file's contents and passes the check, and these are what the file means; a
 -- link keeps it so and gives each named rule the map's id; an accepted start leaves the machine's first run. So every call is a step of the
 -- machine (`Whole`); what the calls cover and how many move is said of any sheet that passes the check (`always`).
 use mathlib.Core.Path.{_≡_, refl, sym, ap, subst, subst⁻¹, _∙_}

@@ -8,7 +8,7 @@ use Prim.Native.Nat.{ℕ, _*_, _≤_, _<_}
 use native.Mathlib.Omega.{arith}
 use lib.ListN.{length, getD, getElem?, length-map}
 use Rattle.area.specs.declared.Rule.{Rule}
-use Rattle.text.proofs.Tests.{le-or-lt}
+use Rattle.characters.proofs.Tests.{le-or-lt}
 use Rattle.area.specs.Records.{nthRule}
 use Rattle.parse.specs.Parse.{Contents}
 use Rattle.run.specs.Winner.{lexerOf, live, lengthIn, weight, greatest, earliest}

@@ -3,3 +3,4 @@ pub mod Machine
 pub mod Means
 pub mod Demand
 pub mod Words
+pub mod Computing

@@ -13,7 +13,7 @@ use lib.ListN.{length, length-append, List·getD-append}
 use lib.Seq.{getD-append-seam}
 use Rattle.text.specs.Range.{part, sameBytes, sameRange}
 use Rattle.text.proofs.Ranges.{same-self}
-use Rattle.text.proofs.Firsts.{first-before, first-only}
+use Rattle.characters.proofs.Firsts.{first-before, first-only}
 use Rattle.area.specs.declared.Rule.{Rule}
 use Rattle.area.specs.Records.{ruleOf, nthRule}
 use Rattle.names.specs.Names.{nameOf, DistinctNames, hasName, findRule}

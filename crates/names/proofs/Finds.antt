@@ -8,11 +8,11 @@ use borrow.Author.Needs.{needs}
 use borrow.Author.Tests.{eq-eqb, ne-eqb, eqb-true}
 use lib.Dec.{eqb}
 use lib.ListN.{length}
-use Rattle.text.specs.Walk.{first}
+use Rattle.characters.specs.Walk.{first}
 use Rattle.text.specs.Range.{part, sameBytes, sameRange}
-use Rattle.text.proofs.Tests.{answer, and-left, and-right}
+use Rattle.characters.proofs.Tests.{answer, and-left, and-right}
 use Rattle.text.proofs.Ranges.{same-equal}
-use Rattle.text.proofs.Walks.{first-found, first-again, first-ended}
+use Rattle.characters.proofs.Walks.{first-found, first-again, first-ended}
 use Rattle.area.specs.declared.State.{State}
 use Rattle.area.specs.declared.Rule.{Rule}
 use Rattle.area.specs.Records.{stateAt, ruleAt, nthRule}

@@ -7,11 +7,11 @@ use native.Mathlib.Omega.{arith}
 use borrow.Author.Needs.{needs}
 use borrow.Author.Tests.{eq-eqb, ne-eqb, lt-ltb, le-ltb}
 use lib.Dec.{eqb}
-use Rattle.text.specs.Class.{isLetter, isDigit}
-use Rattle.text.specs.Walk.{first}
-use Rattle.text.specs.Whitespace.{byte}
-use Rattle.text.proofs.Tests.{answer-not}
-use Rattle.text.proofs.Walks.{first-found, first-again, first-ended}
+use Rattle.characters.specs.Class.{isLetter, isDigit}
+use Rattle.characters.specs.Walk.{first}
+use Rattle.characters.specs.Whitespace.{byte}
+use Rattle.characters.proofs.Tests.{answer-not}
+use Rattle.characters.proofs.Walks.{first-found, first-again, first-ended}
 use Rattle.names.specs.Names.{allBytes, isNameByte, isStateName}
 
 pub name-byte : (b : ℕ) (l d : Bool) → l ≡ isLetter b → d ≡ isDigit b → l || (d || (eqb b 0x5f || eqb b 0x2e)) ≡ isNameByte b

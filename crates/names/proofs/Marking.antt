@@ -11,10 +11,10 @@ use borrow.Author.Tests.{eqb-true, eqb-false}
 use lib.Dec.{eqb}
 use lib.ListN.{length, getD, take, drop, set, replicate, length-take, length-drop, length-set, length-replicate}
 use lib.Seq.{take-all, getD-take, getD-drop, getD-set-same, getD-set-other}
-use Rattle.text.specs.Whitespace.{byte}
+use Rattle.characters.specs.Whitespace.{byte}
 use Rattle.text.specs.Range.{part}
-use Rattle.text.proofs.Tests.{le-or-lt}
-use Rattle.text.proofs.Walks.{first-over, first-none}
+use Rattle.characters.proofs.Tests.{le-or-lt}
+use Rattle.characters.proofs.Walks.{first-over, first-none}
 use Rattle.area.specs.declared.Rule.{Rule}
 use Rattle.area.specs.Records.{ruleAt, nthRule}
 use Rattle.area.specs.Contents.{ruleFormat, contents, Held}

@@ -5,9 +5,9 @@ use mathlib.Core.Bool.{Bool, cond, not, _&&_, _||_}
 use mathlib.Core.List.{List, [], _∷_}
 use lib.Dec.{eqb, ltb}
 use lib.ListN.{length}
-use Rattle.text.specs.Class.{among, isLetter, isDigit}
-use Rattle.text.specs.Walk.{first}
-use Rattle.text.specs.Whitespace.{byte}
+use Rattle.characters.specs.Class.{among, isLetter, isDigit}
+use Rattle.characters.specs.Walk.{first}
+use Rattle.characters.specs.Whitespace.{byte}
 use Rattle.text.specs.Range.{part, sameRange}
 use Rattle.area.specs.declared.State.{State}
 use Rattle.area.specs.declared.Rule.{Rule}

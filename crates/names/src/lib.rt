@@ -4,7 +4,7 @@ pub mod marks; // marks of the names of rules
 ghost use mathlib.Core.Path.{_≡_};
 ghost use Prim.Native.Nat.{_≤_, _<_};
 ghost use lib.ListN.{length};
-ghost use Rattle.text.specs.Walk.{Between};
+ghost use Rattle.characters.specs.Walk.{Between};
 ghost use Rattle.area.specs.Contents.{stateFormat, ruleFormat, contents, Held};
 ghost use Rattle.area.specs.Records.{nthRule};
 ghost use Rattle.names.specs.Names.{allBytes, isNameByte, isStateName, isState, findState, hasName, findRule};
@@ -12,8 +12,8 @@ ghost use Rattle.names.specs.Marks.{NamesHeld};
 use crate::marks::mark_of;
 use area::read_rule;
 use area::read_state;
-use text::class::is_digit;
-use text::class::is_letter;
+use characters::class::is_digit;
+use characters::class::is_letter;
 use text::range::same_range;
 
 fn is_name_byte(b: u8) -> bool

@@ -2,7 +2,7 @@
 ghost use mathlib.Core.Path.{_≡_};
 ghost use Prim.Native.Nat.{_+_, _*_, _-_, _%_, _≤_, _<_};
 ghost use lib.ListN.{length, take};
-ghost use Rattle.text.specs.Whitespace.{byte};
+ghost use Rattle.characters.specs.Whitespace.{byte};
 ghost use Rattle.text.specs.Range.{part};
 ghost use Rattle.area.specs.Contents.{ruleFormat, contents, Held};
 ghost use Rattle.names.specs.Marks.{markCount, Mark, Marked};

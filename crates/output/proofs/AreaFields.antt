@@ -5,7 +5,7 @@ use mathlib.Core.List.{List}
 use native.Mathlib.Omega.{arith}
 use lib.ListN.{length, getD, List·getD-eq-default}
 use borrow.Author.Needs.{needs}
-use Rattle.text.specs.Whitespace.{byte}
+use Rattle.characters.specs.Whitespace.{byte}
 use Rattle.area.specs.Bytes.{fieldAt, fieldFrom}
 use Rattle.output.specs.Output.{Appends, printedField, printedFieldsAt}
 use Rattle.output.proofs.Appending.{joined-none, joined-next, joined-all}

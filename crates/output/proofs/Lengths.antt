@@ -5,7 +5,7 @@ use native.Mathlib.Omega.{arith}
 use lib.Dec.{ltb}
 use lib.ListN.{length, drop, length-append, length-take}
 use Rattle.text.specs.Range.{part}
-use Rattle.text.proofs.Tests.{by-test}
+use Rattle.characters.proofs.Tests.{by-test}
 use Rattle.area.specs.Bytes.{bytes}
 use Rattle.output.specs.Output.{joined, digitAt, tens, decimal, printedField, printedFields}
 

@@ -6,7 +6,7 @@ ghost use Rattle.output.specs.Contracts.{Puts};
 ghost use Rattle.area.specs.Contracts.{before};
 ghost use Rattle.output.specs.Output.{printedFieldsAt};
 use crate::put_field;
-use text::whitespace::byte_at;
+use characters::whitespace::byte_at;
 
 // The field at a place; bytes past the end count as 0.
 pub fn field_at(area: &[u8], at: usize) -> u16

@@ -5,7 +5,7 @@ use mathlib.Core.List.{List, [], _∷_}
 use Prim.Native.Nat.{ℕ, _≤_, _<_}
 use borrow.Author.Tests.{lt-ltb, le-ltb}
 use lib.ListN.{length}
-use Rattle.text.specs.Utf8.{utf8}
+use Rattle.characters.specs.Utf8.{utf8}
 use Rattle.area.specs.Bytes.{bytes, pad, zeros}
 use Rattle.area.specs.Contents.{Format, listOf, contents, Held, laid}
 use Rattle.area.proofs.Contents.{state-sound, rule-sound, entry-sound, text-sound, expected-sound, fault-sound, contents-length}

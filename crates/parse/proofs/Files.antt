@@ -11,12 +11,12 @@ use borrow.Author.Tests.{eq-eqb, ne-eqb, eqb-true}
 use lib.Dec.{eqb}
 use lib.ListN.{length}
 use Rattle.text.specs.Scan.{skipBlanks}
-use Rattle.text.specs.Class.{isBlank}
-use Rattle.text.specs.Whitespace.{byte}
+use Rattle.characters.specs.Class.{isBlank}
+use Rattle.characters.specs.Whitespace.{byte}
 use Rattle.text.specs.Range.{lookaheadIs}
-use Rattle.text.specs.declared.Found.{Found}
-use Rattle.text.specs.declared.Found.the-variants.{At, Nothing}
-use Rattle.text.proofs.Walks.{first-to}
+use Rattle.characters.specs.declared.Found.{Found}
+use Rattle.characters.specs.declared.Found.the-variants.{At, Nothing}
+use Rattle.characters.proofs.Walks.{first-to}
 use Rattle.area.specs.declared.State.{State}
 use Rattle.area.specs.declared.Fault.{Fault}
 use Rattle.area.specs.declared.Appended.{Appended}

@@ -12,7 +12,7 @@ use crate::Answer;
 use crate::Parsed;
 use crate::sections::parse_sections;
 use area::clear;
-use text::utf8::utf8;
+use characters::utf8::utf8;
 
 const MOST_BYTES: usize = 65535;
 

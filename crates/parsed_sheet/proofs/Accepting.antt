@@ -9,8 +9,8 @@ use native.Mathlib.Omega.{arith}
 use borrow.Author.Tests.{eqb-true, ltb-false}
 use lib.Dec.{eqb, ltb}
 use lib.ListN.{length}
-use Rattle.text.specs.Utf8.{utf8}
-use Rattle.text.proofs.Tests.{by-test}
+use Rattle.characters.specs.Utf8.{utf8}
+use Rattle.characters.proofs.Tests.{by-test}
 use Rattle.area.specs.declared.State.{State}
 use Rattle.area.specs.declared.Fault.{Fault}
 use Rattle.area.specs.Records.{stateOf, expectedOf, ruleOf}

@@ -10,13 +10,13 @@ use native.Mathlib.Omega.{arith}
 use borrow.Author.Tests.{ltb-true}
 use lib.Dec.{eqb, ltb}
 use lib.ListN.{length, take, drop, length-append, length-take, length-drop}
-use Rattle.text.specs.Whitespace.{whitespaceLen, atWhitespace, atLineEnd}
+use Rattle.characters.specs.Whitespace.{whitespaceLen, atWhitespace, atLineEnd}
 use Rattle.text.specs.Range.{lookaheadIs}
 use Rattle.text.specs.Scan.{lineEnd, skipWhitespace, skipBlanks, findWhitespace, trimEnd, trimStart, trimEndUnescaped}
-use Rattle.text.specs.Utf8.{utf8}
-use Rattle.text.proofs.Tests.{by-test}
-use Rattle.text.proofs.Walks.{first-from, first-to, repeat-keeps, skip-from}
-use Rattle.text.proofs.Spaces.{white-inside}
+use Rattle.characters.specs.Utf8.{utf8}
+use Rattle.characters.proofs.Tests.{by-test}
+use Rattle.characters.proofs.Walks.{first-from, first-to, repeat-keeps, skip-from}
+use Rattle.characters.proofs.Spaces.{white-inside}
 use Rattle.area.specs.declared.State.{State}
 use Rattle.area.specs.declared.Fault.{Fault}
 use Rattle.area.specs.Areas.{room, insertAt}

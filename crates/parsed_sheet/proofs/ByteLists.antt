@@ -8,13 +8,13 @@ use native.Mathlib.Omega.{arith}
 use borrow.Author.Tests.{lt-ltb, ltb-true}
 use lib.Dec.{eqb, ltb}
 use lib.ListN.{take, drop}
-use Rattle.text.specs.Class.{within}
-use Rattle.text.specs.Whitespace.{byte}
+use Rattle.characters.specs.Class.{within}
+use Rattle.characters.specs.Whitespace.{byte}
 use Rattle.text.specs.Range.{part}
-use Rattle.text.specs.Unicode.{isScalar, encode, encodeAll, Scalars}
-use Rattle.text.specs.Utf8.{utf8}
-use Rattle.text.proofs.Tests.{by-test, and-left, and-right, or-cases, range-of}
-use Rattle.text.proofs.Decoding.{utf8-judges}
+use Rattle.characters.specs.Unicode.{isScalar, encode, encodeAll, Scalars}
+use Rattle.characters.specs.Utf8.{utf8}
+use Rattle.characters.proofs.Tests.{by-test, and-left, and-right, or-cases, range-of}
+use Rattle.characters.proofs.Decoding.{utf8-judges}
 use Rattle.escape.specs.Escape.{Escape, escapes, posixEscapes, backspace, escapeFrom, escaped, rewrittenEnd, replaced, unescaped}
 use Rattle.area.specs.Lists.{all}
 use Rattle.parsed_sheet.specs.Accepted.{isByte}

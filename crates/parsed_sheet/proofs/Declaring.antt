@@ -9,11 +9,11 @@ use native.Mathlib.Omega.{arith}
 use borrow.Author.Tests.{ltb-true}
 use lib.Dec.{eqb, ltb}
 use lib.ListN.{length, length-append, List·getD-append}
-use Rattle.text.specs.Whitespace.{atWhitespace, atLineEnd}
+use Rattle.characters.specs.Whitespace.{atWhitespace, atLineEnd}
 use Rattle.text.specs.Range.{lookaheadIs}
 use Rattle.text.specs.Scan.{lineEnd, skipBlanks, skipAsciiWhitespace, findAsciiWhitespace, findWhitespace}
-use Rattle.text.proofs.Tests.{by-test}
-use Rattle.text.proofs.Walks.{first-from, first-to}
+use Rattle.characters.proofs.Tests.{by-test}
+use Rattle.characters.proofs.Walks.{first-from, first-to}
 use Rattle.area.specs.declared.State.{State}
 use Rattle.area.specs.declared.Expected.{Expected}
 use Rattle.area.specs.Records.{nthState, stateOf, expectedOf}

@@ -10,8 +10,8 @@ use native.Mathlib.Omega.{arith}
 use borrow.Author.Tests.{le-leb, leb-true}
 use lib.Dec.{eqb, leb, ltb}
 use lib.ListN.{length}
-use Rattle.text.proofs.Tests.{and-left}
-use Rattle.text.specs.Utf8.{utf8}
+use Rattle.characters.proofs.Tests.{and-left}
+use Rattle.characters.specs.Utf8.{utf8}
 use Rattle.area.specs.declared.State.{State}
 use Rattle.area.specs.declared.Rule.{Rule}
 use Rattle.area.specs.declared.Expected.{Expected}
@@ -19,7 +19,7 @@ use Rattle.area.specs.declared.Fault.{Fault}
 use Rattle.area.specs.Areas.{room}
 use Rattle.area.specs.Records.{faultWidth, mostOthers}
 use Rattle.text.specs.Scan.{lineEnd}
-use Rattle.text.specs.Whitespace.{atWhitespace}
+use Rattle.characters.specs.Whitespace.{atWhitespace}
 use Rattle.escape.specs.Escape.{unescaped}
 use Rattle.text.specs.Range.{lookaheadIs}
 use Rattle.section.specs.Request.{Options, Request}

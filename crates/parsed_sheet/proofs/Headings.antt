@@ -6,11 +6,11 @@ use mathlib.Core.List.{List}
 use native.Mathlib.Omega.{arith}
 use lib.Dec.{eqb}
 use lib.ListN.{length}
-use Rattle.text.specs.Class.{isBlank}
-use Rattle.text.specs.Whitespace.{byte}
+use Rattle.characters.specs.Class.{isBlank}
+use Rattle.characters.specs.Whitespace.{byte}
 use Rattle.text.specs.Scan.{lastBlank}
-use Rattle.text.specs.declared.Found.the-variants.{At}
-use Rattle.text.proofs.Tests.{by-test}
+use Rattle.characters.specs.declared.Found.the-variants.{At}
+use Rattle.characters.proofs.Tests.{by-test}
 use Rattle.area.specs.declared.State.{State}
 use Rattle.area.specs.declared.Rule.{Rule}
 use Rattle.rules.specs.declared.TargetState.{TargetState}

@@ -8,14 +8,14 @@ use native.Mathlib.Nat.{eq-zero-or-pos}
 use native.Mathlib.Omega.{arith}
 use lib.Dec.{eqb}
 use lib.ListN.{length}
-use Rattle.text.specs.Whitespace.{whitespaceLen, lineEndLen, atLineEnd}
+use Rattle.characters.specs.Whitespace.{whitespaceLen, lineEndLen, atLineEnd}
 use Rattle.text.specs.Range.{lookaheadIs}
 use Rattle.text.specs.Scan.{lineEnd, skipWhitespace, skipLineEnds, trimEnd, backslashesBefore, keepEscaped, trimEndUnescaped}
-use Rattle.text.specs.declared.Found.{Found}
-use Rattle.text.specs.declared.Found.the-variants.{At, Nothing}
-use Rattle.text.proofs.Tests.{by-test}
-use Rattle.text.proofs.Walks.{first-to, repeat-keeps, skip-to}
-use Rattle.text.proofs.Spaces.{white-inside, end-inside}
+use Rattle.characters.specs.declared.Found.{Found}
+use Rattle.characters.specs.declared.Found.the-variants.{At, Nothing}
+use Rattle.characters.proofs.Tests.{by-test}
+use Rattle.characters.proofs.Walks.{first-to, repeat-keeps, skip-to}
+use Rattle.characters.proofs.Spaces.{white-inside, end-inside}
 use Rattle.section.specs.Section.{found, isComment, pastComment, pastLine, toDeclaration, pastRuleLine, toRule}
 use Rattle.section.proofs.Lines.{ahead-within}
 

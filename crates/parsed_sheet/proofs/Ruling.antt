@@ -10,10 +10,10 @@ use native.Mathlib.Omega.{arith}
 use borrow.Author.Tests.{leb-false}
 use lib.Dec.{eqb, leb}
 use lib.ListN.{length, length-append}
-use Rattle.text.specs.Whitespace.{atWhitespace, atLineEnd}
+use Rattle.characters.specs.Whitespace.{atWhitespace, atLineEnd}
 use Rattle.text.specs.Scan.{lineEnd, trimEnd, trimEndUnescaped}
-use Rattle.text.proofs.Tests.{by-test}
-use Rattle.text.proofs.Walks.{first-from, first-to}
+use Rattle.characters.proofs.Tests.{by-test}
+use Rattle.characters.proofs.Walks.{first-from, first-to}
 use Rattle.area.specs.declared.State.{State}
 use Rattle.area.specs.declared.Rule.{Rule}
 use Rattle.area.specs.declared.Fault.{Fault}

@@ -9,14 +9,14 @@ use borrow.Author.Needs.{needs}
 use borrow.Author.Tests.{lt-ltb, le-ltb, ltb-true, ltb-false}
 use lib.Dec.{eqb, ltb}
 use lib.ListN.{length}
-use Rattle.text.specs.Class.{isBlank}
-use Rattle.text.specs.Walk.{Between, lastOf, last}
-use Rattle.text.specs.Whitespace.{byte}
+use Rattle.characters.specs.Class.{isBlank}
+use Rattle.characters.specs.Walk.{Between, lastOf, last}
+use Rattle.characters.specs.Whitespace.{byte}
 use Rattle.text.specs.Range.{part}
 use Rattle.text.specs.Scan.{lastBlank}
-use Rattle.text.specs.declared.Found.{Found}
-use Rattle.text.specs.declared.Found.the-variants.{At, Nothing}
-use Rattle.text.proofs.Tests.{and-left, by-test}
+use Rattle.characters.specs.declared.Found.{Found}
+use Rattle.characters.specs.declared.Found.the-variants.{At, Nothing}
+use Rattle.characters.proofs.Tests.{and-left, by-test}
 use Rattle.area.specs.declared.State.{State}
 use Rattle.area.specs.declared.Rule.{Rule}
 use Rattle.area.specs.Records.{ruleAt, nthRule}

@@ -9,10 +9,10 @@ use borrow.Author.Needs.{needs}
 use borrow.Author.Tests.{le-leb, lt-leb}
 use lib.Dec.{eqb, leb}
 use lib.ListN.{length}
-use Rattle.text.specs.Walk.{Between}
-use Rattle.text.specs.Whitespace.{byte}
+use Rattle.characters.specs.Walk.{Between}
+use Rattle.characters.specs.Whitespace.{byte}
 use Rattle.text.specs.Scan.{findByte, trimStart, trimEnd}
-use Rattle.text.proofs.Walks.{first-from}
+use Rattle.characters.proofs.Walks.{first-from}
 use Rattle.area.specs.declared.State.{State}
 use Rattle.area.specs.declared.Appended.{Appended}
 use Rattle.area.specs.declared.Appended.the-variants.{Next, Full}

@@ -6,11 +6,11 @@ use Prim.Native.Nat.{ℕ, _≤_, _<_}
 use borrow.Author.Needs.{needs}
 use borrow.Author.Tests.{le-leb, lt-leb, leb-false}
 use lib.Dec.{eqb, leb, ltb}
-use Rattle.text.specs.Walk.{Between}
-use Rattle.text.specs.Whitespace.{byte}
+use Rattle.characters.specs.Walk.{Between}
+use Rattle.characters.specs.Whitespace.{byte}
 use Rattle.text.specs.Scan.{findByte}
-use Rattle.text.proofs.Tests.{by-test}
-use Rattle.text.proofs.Walks.{first-from}
+use Rattle.characters.proofs.Tests.{by-test}
+use Rattle.characters.proofs.Walks.{first-from}
 use Rattle.escape.specs.Escape.{isRewritten}
 use Rattle.rules.specs.declared.Body.{Body}
 use Rattle.rules.specs.declared.Body.the-variants.{Unclosed, Listed, Rewritten, Plain}

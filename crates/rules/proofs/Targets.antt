@@ -9,11 +9,11 @@ use borrow.Author.Needs.{needs}
 use borrow.Author.Tests.{eq-eqb, ne-eqb, le-leb, lt-leb, leb-false}
 use lib.Dec.{eqb, leb}
 use lib.ListN.{length}
-use Rattle.text.specs.Walk.{Between}
-use Rattle.text.specs.Whitespace.{byte}
+use Rattle.characters.specs.Walk.{Between}
+use Rattle.characters.specs.Whitespace.{byte}
 use Rattle.text.specs.Scan.{findByte}
-use Rattle.text.proofs.Tests.{by-test}
-use Rattle.text.proofs.Walks.{first-from}
+use Rattle.characters.proofs.Tests.{by-test}
+use Rattle.characters.proofs.Walks.{first-from}
 use Rattle.area.specs.declared.State.{State}
 use Rattle.area.specs.Contents.{contents, stateFormat, Held}
 use Rattle.area.proofs.Contents.{state-sound, contents-length}

@@ -5,9 +5,9 @@ use mathlib.Core.Bool.{Bool, cond, not, _&&_, _||_}
 use mathlib.Core.List.{List}
 use lib.Dec.{eqb, leb, ltb}
 use lib.ListN.{length}
-use Rattle.text.specs.Whitespace.{byte}
+use Rattle.characters.specs.Whitespace.{byte}
 use Rattle.text.specs.Scan.{findByte, lastBlank}
-use Rattle.text.specs.declared.Found.the-variants.{At, Nothing}
+use Rattle.characters.specs.declared.Found.the-variants.{At, Nothing}
 use Rattle.area.specs.declared.State.{State}
 use Rattle.area.specs.declared.Rule.{Rule}
 use Rattle.area.specs.Records.{nthRule}

@@ -1,2 +1,3 @@
 pub mod Heading
 pub mod Rules
+pub mod Computing

@@ -5,9 +5,9 @@ ghost use lib.ListN.{length};
 ghost use Rattle.area.specs.Contracts.{before};
 ghost use Rattle.rules.specs.Heading.{bodyOf};
 use crate::Body;
+use characters::whitespace::byte_at;
 use escape::is_rewritten;
 use text::scan::find_byte;
-use text::whitespace::byte_at;
 
 // The pattern from i to c. An empty one has no list, whatever byte stands behind it.
 pub fn body_of(src: &[u8], i: usize, c: usize) -> Body

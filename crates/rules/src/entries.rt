@@ -1,7 +1,7 @@
 // The list of states in front of a pattern, between `<` and `>` (01, Rules).
 ghost use Prim.Native.Nat.{_≤_, _<_};
 ghost use lib.ListN.{length};
-ghost use Rattle.text.specs.Walk.{Between};
+ghost use Rattle.characters.specs.Walk.{Between};
 ghost use Rattle.area.specs.Contents.{stateFormat, entryFormat, contents, Held};
 ghost use Rattle.area.specs.Contracts.{before};
 ghost use Rattle.fault.specs.Contracts.{DoesRecords};

@@ -2,7 +2,7 @@
 ghost use mathlib.Core.Path.{_≡_};
 ghost use Prim.Native.Nat.{_+_, _-_, _≤_, _<_};
 ghost use lib.ListN.{length};
-ghost use Rattle.text.specs.Walk.{Between};
+ghost use Rattle.characters.specs.Walk.{Between};
 ghost use Rattle.area.specs.Contents.{stateFormat, ruleFormat, contents, Held};
 ghost use Rattle.area.specs.Contracts.{before};
 ghost use Rattle.names.specs.Names.{findState};
@@ -16,16 +16,16 @@ use crate::Label;
 use crate::Target;
 use crate::TargetState;
 use area::read_rule;
+use characters::Found;
+use characters::whitespace::byte_at;
 use fault::kinds::INVALID_NAME;
 use fault::kinds::INVALID_START_STATE;
 use fault::kinds::MISSING_SPACE;
 use fault::kinds::UNKNOWN_START_STATE;
 use names::find_rule;
 use names::get_start_state_by_name;
-use text::Found;
 use text::scan::find_byte;
 use text::scan::last_blank;
-use text::whitespace::byte_at;
 
 // ---- the target, behind the blank at r of a line trimmed at t
 

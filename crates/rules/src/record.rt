@@ -8,9 +8,9 @@ use area::Appended;
 use area::RULE_AREA;
 use area::Rule;
 use area::push_rule;
+use characters::whitespace::byte_at;
 use fault::Progress;
 use fault::kinds::REGEX_ERROR;
-use text::whitespace::byte_at;
 
 // Whether the engine refuses the rule at the position k. Past the end of the verdicts it passes.
 fn refuses(verdicts: &[u8], k: usize) -> bool

@@ -6,9 +6,9 @@ use mathlib.Core.Option.{Option, none, some}
 use Prim.Native.Nat.{ℕ, _+_}
 use lib.ListN.{length, take}
 use lib.Seq.{take-length, take-append-seam}
-use Rattle.text.specs.Whitespace.{atWhitespace}
+use Rattle.characters.specs.Whitespace.{atWhitespace}
 use Rattle.text.specs.Scan.{trimEnd, trimEndUnescaped}
-use Rattle.text.proofs.Tests.{by-test}
+use Rattle.characters.proofs.Tests.{by-test}
 use Rattle.area.specs.declared.State.{State}
 use Rattle.area.specs.declared.Rule.{Rule}
 use Rattle.area.specs.declared.Fault.{Fault}

@@ -7,8 +7,8 @@ use Prim.Native.Nat.{ℕ, _-_, _≤_, _<_}
 use native.Mathlib.Omega.{arith}
 use borrow.Author.Needs.{needs}
 use lib.ListN.{length, take}
-use Rattle.text.specs.Walk.{Between}
-use Rattle.text.specs.Whitespace.{atWhitespace, lineEndLen}
+use Rattle.characters.specs.Walk.{Between}
+use Rattle.characters.specs.Whitespace.{atWhitespace, lineEndLen}
 use Rattle.text.specs.Scan.{lineEnd, trimEnd, trimEndUnescaped}
 use Rattle.area.specs.declared.State.{State}
 use Rattle.area.specs.declared.Rule.{Rule}

@@ -16,6 +16,7 @@ use crate::SheetProgress;
 use crate::pattern::parse_pattern;
 use area::Appended;
 use area::FAULT_AREA;
+use characters::whitespace::matches_whitespace;
 use fault::Span;
 use fault::add_duplicate_occurrence;
 use fault::add_fault;
@@ -25,7 +26,6 @@ use rules::Heading;
 use rules::headings::heading_of;
 use text::scan::trim_end;
 use text::scan::trim_end_unescaped;
-use text::whitespace::matches_whitespace;
 
 // What the pattern comes to, with the count of faults.
 fn with_faults(p: SheetProgress, faults: u16) -> RuleProgress

@@ -8,7 +8,7 @@ use borrow.Author.Needs.{needs}
 use borrow.Author.Tests.{leb-true, ltb-true, eq-eqb, ne-eqb, eqb-true}
 use lib.Dec.{eqb, leb}
 use lib.ListN.{length}
-use Rattle.text.proofs.Tests.{and-left, and-right}
+use Rattle.characters.proofs.Tests.{and-left, and-right}
 use Rattle.area.specs.Records.{entryAt, entryWidth}
 use Rattle.area.specs.Contents.{contents, entryFormat}
 use Rattle.sheet_check.specs.SheetCheck.{declared}

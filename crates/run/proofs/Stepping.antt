@@ -9,7 +9,7 @@ use borrow.Author.Needs.{needs}
 use borrow.Author.Tests.{le-leb, lt-leb, leb-true, eq-eqb, ne-eqb}
 use lib.Dec.{leb}
 use lib.ListN.{length}
-use Rattle.text.proofs.Tests.{and-false}
+use Rattle.characters.proofs.Tests.{and-false}
 use Rattle.area.specs.declared.Rule.{Rule}
 use Rattle.area.specs.Records.{ruleAt, entryAt, nthRule}
 use Rattle.area.specs.Contents.{contents, stateFormat, ruleFormat}

@@ -11,9 +11,9 @@ use borrow.Author.Needs.{needs}
 use borrow.Author.Tests.{lt-ltb, le-ltb, ltb-true, ltb-false, eq-eqb, ne-eqb, eqb-true, eqb-false}
 use lib.Dec.{eqb, ltb}
 use lib.ListN.{length}
-use Rattle.text.specs.Walk.{first}
-use Rattle.text.proofs.Tests.{le-or-lt}
-use Rattle.text.proofs.Walks.{first-found, first-again, first-ended, first-to}
+use Rattle.characters.specs.Walk.{first}
+use Rattle.characters.proofs.Tests.{le-or-lt}
+use Rattle.characters.proofs.Walks.{first-found, first-again, first-ended, first-to}
 use Rattle.area.specs.declared.State.{State}
 use Rattle.area.specs.declared.Rule.{Rule}
 use Rattle.area.specs.Records.{stateAt, ruleAt, entryAt, nthState, nthRule, nthEntry}
@@ -22,7 +22,7 @@ use Rattle.sheet_check.proofs.Checked.{contents-read}
 use Rattle.run.specs.declared.Best.{Best}
 use Rattle.run.specs.Winner.{Lexer, findInList, listEnd, inList, live, lengthIn, weight, greatest, earliest, best, better}
 use Rattle.run.specs.Contracts.{lexerAt, Readable}
-use Rattle.text.proofs.Firsts.{first-passes, first-before, first-low, first-only}
+use Rattle.characters.proofs.Firsts.{first-passes, first-before, first-low, first-only}
 
 -- ---- a state in a list
 

@@ -1,3 +1,4 @@
 pub mod Winner
 pub mod Run
 pub mod Contracts
+pub mod Computing

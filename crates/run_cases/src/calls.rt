@@ -11,12 +11,12 @@ use crate::printing::say_run;
 use crate::printing::say_start;
 use crate::printing::say_step;
 use area::write_field;
+use characters::whitespace::byte_at;
 use link::call::set_rule_ids_spanned;
 use parse::call::parse;
 use run::Run;
 use run::call::start;
 use run::call::step;
-use text::whitespace::byte_at;
 
 // No more than there is.
 fn at_most(n: u16, most: usize) -> usize

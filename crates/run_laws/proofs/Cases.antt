@@ -7,7 +7,7 @@ use native.Mathlib.Omega.{arith}
 use borrow.Author.Tests.{leb-true, eqb-true, eqb-false}
 use lib.Dec.{eqb}
 use lib.ListN.{length}
-use Rattle.text.proofs.Tests.{by-test}
+use Rattle.characters.proofs.Tests.{by-test}
 use Rattle.area.specs.declared.Rule.{Rule}
 use Rattle.area.specs.Records.{nthRule}
 use Rattle.answers.specs.Numbers.{brokenSheetNumber, brokenRunNumber, rowMismatchNumber, doneNumber, stoppedNumber, unlinkedNumber}

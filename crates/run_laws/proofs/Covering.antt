@@ -7,7 +7,7 @@ use Prim.Native.Nat.{ℕ, _+_, _-_, _≤_}
 use native.Mathlib.Omega.{arith}
 use borrow.Author.Tests.{le-leb, lt-leb, lt-ltb, le-ltb}
 use lib.Dec.{leb, ltb}
-use Rattle.text.proofs.Tests.{le-or-lt, and-false}
+use Rattle.characters.proofs.Tests.{le-or-lt, and-false}
 use Rattle.run_laws.specs.Pieces.{Piece, Adjoin, among, covered}
 
 pub adjoin-append : (xs ys : List Piece) (p q e : ℕ) → Adjoin p xs q → Adjoin q ys e → Adjoin p (xs ++ ys) e

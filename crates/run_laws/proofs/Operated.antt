@@ -10,7 +10,7 @@ use native.Mathlib.Omega.{arith}
 use borrow.Author.Tests.{le-leb, lt-ltb, ltb-true, eqb-false}
 use lib.Dec.{eqb}
 use lib.ListN.{length}
-use Rattle.text.proofs.Tests.{le-or-lt, by-test, and-right}
+use Rattle.characters.proofs.Tests.{le-or-lt, by-test, and-right}
 use Rattle.area.specs.declared.Rule.{Rule}
 use Rattle.area.specs.Lists.{all}
 use Rattle.area.specs.Records.{entryAt, entryWidth}

@@ -6,7 +6,7 @@ use native.Mathlib.Omega.{arith}
 use borrow.Author.Tests.{leb-true}
 use lib.Dec.{leb}
 use lib.ListN.{length}
-use Rattle.text.proofs.Tests.{and-left, and-right}
+use Rattle.characters.proofs.Tests.{and-left, and-right}
 use Rattle.area.specs.Records.{entryAt}
 use Rattle.run.specs.declared.Begun.the-variants.{Started, StartRefused}
 use Rattle.run.specs.Run.{Running, running, leaving, runLeft, mostBytes, stackBytes, putState, firstRun, goodStart, goodRun, startCall, startFields, startWord}

@@ -12,16 +12,16 @@ use borrow.Author.Tests.{eq-eqb, ne-eqb, eqb-true, eqb-false}
 use lib.Dec.{eqb}
 use lib.ListN.{length, drop, length-take, length-drop}
 use lib.Seq.{getD-take, getD-drop}
-use Rattle.text.specs.Walk.{first, repeat, skip, Between}
-use Rattle.text.specs.Class.{isLineEnd}
-use Rattle.text.specs.Whitespace.{byte, lineEndOf, whitespaceLen, lineEndLen, atLineEnd}
+use Rattle.characters.specs.Walk.{first, repeat, skip, Between}
+use Rattle.characters.specs.Class.{isLineEnd}
+use Rattle.characters.specs.Whitespace.{byte, lineEndOf, whitespaceLen, lineEndLen, atLineEnd}
 use Rattle.text.specs.Range.{part, sameBytes, lookaheadIs}
 use Rattle.text.specs.Scan.{lineEnd, skipWhitespace, skipLineEnds}
-use Rattle.text.specs.declared.Found.{Found}
-use Rattle.text.specs.declared.Found.the-variants.{At, Nothing}
-use Rattle.text.proofs.Tests.{le-or-lt, and-right, and-false, by-test}
-use Rattle.text.proofs.Walks.{first-here, first-next, first-from, first-to, repeat-stop, repeat-keeps, repeat-go, repeat-stays, skip-stays, skip-stops, skip-from, skip-to}
-use Rattle.text.proofs.Spaces.{end-one, white-inside, end-inside}
+use Rattle.characters.specs.declared.Found.{Found}
+use Rattle.characters.specs.declared.Found.the-variants.{At, Nothing}
+use Rattle.characters.proofs.Tests.{le-or-lt, and-right, and-false, by-test}
+use Rattle.characters.proofs.Walks.{first-here, first-next, first-from, first-to, repeat-stop, repeat-keeps, repeat-go, repeat-stays, skip-stays, skip-stops, skip-from, skip-to}
+use Rattle.characters.proofs.Spaces.{end-one, white-inside, end-inside}
 use Rattle.text.proofs.Ranges.{ahead-short, same-equal}
 use Rattle.section.specs.Section.{comments, found, percents, slashes, isComment, pastComment, pastLine, toDeclaration, pastRuleLine, toRule, inSection, hasRoutines}
 

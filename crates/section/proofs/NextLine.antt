@@ -37,8 +37,8 @@ use denote.Triple.Spec.{Meets, tripleOf}
 use denote.Triple.Statement.{Contract, Triple}
 use denote.Triple.Walked.{says, needs, Stays, walkOf, ends-at}
 use denote.Exit.{yes}
-use Rattle.text.specs.Walk.{Between}
-use Rattle.text.specs.Whitespace.{atLineEnd}
+use Rattle.characters.specs.Walk.{Between}
+use Rattle.characters.specs.Whitespace.{atLineEnd}
 use Rattle.text.specs.Scan.{lineEnd}
 use Rattle.section.specs.Reader.{readerAt, readerMoved, readerMovedBy, NextLine}
 use Rattle.section.specs.declared.reader.Reader.{Reader}

@@ -38,7 +38,7 @@ use denote.Triple.Spec.{Meets, tripleOf}
 use denote.Triple.Statement.{Contract, Triple}
 use denote.Triple.Walked.{says, needs, Stays, stay-dropped, goes-dropped, walkOf, ends-at}
 use denote.Exit.{yes}
-use Rattle.text.specs.Walk.{Between}
+use Rattle.characters.specs.Walk.{Between}
 use Rattle.section.specs.Reader.{readerAt, readerMoved, readerMovedBy}
 use Rattle.section.specs.declared.reader.Reader.{Reader}
 use Rattle.borrow_proofs.proofs.Walking.{parts, tokens, together, have-nothings, allocated, param, arg, release, called}

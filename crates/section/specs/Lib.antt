@@ -1,3 +1,4 @@
 pub mod Request
 pub mod Section
 pub mod Reader
+pub mod Computing

@@ -3,7 +3,7 @@ use Prim.Native.Nat.{ℕ}
 use mathlib.Core.List.{List}
 use lib.ListN.{length}
 use denote.Ref.{RefT, now}
-use Rattle.text.specs.Walk.{Between}
+use Rattle.characters.specs.Walk.{Between}
 use Rattle.text.specs.Scan.{lineEnd}
 use Rattle.section.specs.declared.reader.Reader.{Reader}
 use Rattle.section.specs.declared.reader.Line.{Line}

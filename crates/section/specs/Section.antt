@@ -4,11 +4,11 @@ use mathlib.Core.Bool.{Bool, true, false, cond, not, _&&_}
 use mathlib.Core.List.{List, [], _∷_}
 use lib.Dec.{eqb}
 use lib.ListN.{length}
-use Rattle.text.specs.Walk.{repeat}
+use Rattle.characters.specs.Walk.{repeat}
 use Rattle.text.specs.Range.{lookaheadIs}
 use Rattle.text.specs.Scan.{lineEnd, skipWhitespace, skipLineEnds}
-use Rattle.text.specs.declared.Found.{Found}
-use Rattle.text.specs.declared.Found.the-variants.{At, Nothing}
+use Rattle.characters.specs.declared.Found.{Found}
+use Rattle.characters.specs.declared.Found.the-variants.{At, Nothing}
 
 -- flag 1 is given (01, Declarations)
 unfoldable pub comments : ℕ → Bool

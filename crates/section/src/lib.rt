@@ -5,17 +5,17 @@ ghost use mathlib.Core.Path.{_≡_};
 ghost use mathlib.Core.Bool.{true};
 ghost use Prim.Native.Nat.{_+_, _≤_};
 ghost use lib.ListN.{length};
-ghost use Rattle.text.specs.Walk.{Between};
+ghost use Rattle.characters.specs.Walk.{Between};
 ghost use Rattle.text.specs.Range.{lookaheadIs};
 ghost use Rattle.text.specs.Scan.{lineEnd};
 ghost use Rattle.section.specs.Section.{found, slashes, isComment, toDeclaration, toRule, inSection, hasRoutines};
-use text::Found;
-use text::class::is_line_end;
+use characters::Found;
+use characters::class::is_line_end;
+use characters::whitespace::byte_at;
 use text::range::lookahead_is;
 use text::scan::line_end;
 use text::scan::parse_nl;
 use text::scan::parse_ws;
-use text::whitespace::byte_at;
 
 pub fn is_found(f: Found) -> bool
     ensures { λ r. ⌜ r ≡ found f ⌝ }

@@ -3,7 +3,7 @@
 ghost use mathlib.Core.Path.{_≡_};
 ghost use Prim.Native.Nat.{_≤_};
 ghost use lib.ListN.{length};
-ghost use Rattle.text.specs.Walk.{Between};
+ghost use Rattle.characters.specs.Walk.{Between};
 ghost use Rattle.text.specs.Scan.{lineEnd, skipBlanks};
 ghost use Rattle.section.specs.Section.{toDeclaration, toRule};
 ghost use Rattle.section.specs.Reader.{readerAt, readerMoved, readerMovedBy, NextLine};

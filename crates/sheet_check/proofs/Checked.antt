@@ -10,7 +10,7 @@ use lib.Dec.{leb}
 use lib.ListN.{length, getD, List·getD-append}
 use lib.Seq.{getD-at}
 use borrow.Author.Tests.{leb-true, ltb-true, eq-eqb, ne-eqb}
-use Rattle.text.proofs.Tests.{and-left, and-right, le-or-lt}
+use Rattle.characters.proofs.Tests.{and-left, and-right, le-or-lt}
 use Rattle.area.specs.declared.State.{State}
 use Rattle.area.specs.declared.Rule.{Rule}
 use Rattle.area.specs.declared.Expected.{Expected}

@@ -17,7 +17,7 @@ use Rattle.area.specs.declared.Expected.{Expected}
 use Rattle.area.specs.Records.{stateWidth, ruleWidth, entryWidth, expectedWidth}
 use Rattle.area.specs.Contents.{Format, contents, listOf, stateFormat, ruleFormat, entryFormat, expectedFormat}
 use Rattle.area.proofs.Contents.{listOf-length}
-use Rattle.text.proofs.Tests.{and-left, and-right}
+use Rattle.characters.proofs.Tests.{and-left, and-right}
 use Rattle.sheet_check.specs.declared.Sizes.{Sizes}
 use Rattle.sheet_check.specs.SheetCheck.{SheetBytes, sizesOf, longEnough, goodCounts, goodSizes, ordered, within, declared, bytesAt, goodState, goodRule, goodExpected, goodRecords, decoded, sheetCheck}
 use Rattle.sheet_check.specs.Contracts.{AreasLong}

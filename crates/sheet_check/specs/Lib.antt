@@ -1,3 +1,4 @@
 pub mod SheetCheck
 pub mod Contracts
 pub mod Pattern
+pub mod Computing

@@ -6,7 +6,7 @@ use lib.Dec.{eqb}
 use lib.ListN.{length}
 use Rattle.answers.specs.Numbers.{areaFullNumber}
 use Rattle.text.specs.Range.{part}
-use Rattle.text.proofs.Tests.{by-test}
+use Rattle.characters.proofs.Tests.{by-test}
 use Rattle.area.specs.declared.State.{State}
 use Rattle.area.specs.declared.Rule.{Rule}
 use Rattle.area.specs.declared.Fault.{Fault}

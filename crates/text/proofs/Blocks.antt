@@ -12,42 +12,16 @@ use borrow.Author.Needs.{needs}
 use borrow.Author.Tests.{eq-eqb, leb-false}
 use lib.Dec.{leb}
 use lib.ListN.{length}
-use Rattle.text.specs.Class.{isBlank}
-use Rattle.text.specs.Walk.{any, first, Between}
-use Rattle.text.specs.Whitespace.{byte, atLineEnd}
+use Rattle.characters.specs.Class.{isBlank}
+use Rattle.characters.specs.Walk.{any, first, Between}
+use Rattle.characters.specs.Whitespace.{byte, atLineEnd}
 use Rattle.text.specs.Scan.{findLineEnd, lineEnd, lastBlank}
-use Rattle.text.specs.Utf8.{charLen, skipChars, utf8}
-use Rattle.text.specs.Shortcuts.{RulesOut, Tells}
-use Rattle.text.proofs.Tests.{le-or-lt, or-none, not-true}
-use Rattle.text.proofs.Shortcuts.{told}
-use Rattle.text.proofs.Spaces.{end-may-start}
-use Rattle.text.proofs.Walks.{first-here, first-over, first-from, last-none, last-over, scanning-down, skip-stays, skip-goes}
-use Rattle.text.proofs.Firsts.{first-passes, first-before}
-use Rattle.text.proofs.Chars.{char-one, char-fits, char-inside, walking}
-
--- ---- all of the first n positions
-
-module _ (test : ℕ → Bool) where
-  pub none-passes : (n m : ℕ) → any test n ≡ false → m < n → test m ≡ false
-  unfolding any
-  none-passes zero m e h = absurd (omega arith)
-  none-passes (suc n) m e h =
-      let p = or-none (any test n) (test n) e in
-      ⊎-elim (λ q. ap test q ∙ p .1) (λ l. none-passes n m (p .0) l) (eq-or-lt-of-le (le-of-suc-le-suc h))
-
-  pub none-ruled-out : RulesOut (any test 0) false
-  unfolding any
-  none-ruled-out = record { none = λ e. refl }
-
-  -- the loop has looked at k positions
-  pub rules-out-again : (found r : Bool) (k : ℕ) → RulesOut (any test k) found → RulesOut (test k) r → RulesOut (any test (k + 1)) (found || r)
-  unfolding any
-  rules-out-again found r k f g = record { none = λ e. rw (add-one, f .none (or-none found r e .0), g .none (or-none found r e .1)) refl }
-
-  pub rules-out-ended : (found : Bool) (k n : ℕ) → RulesOut (any test k) found → n ≤ k → k ≤ n → RulesOut (any test n) found
-  rules-out-ended found k n f a b =
-      let q : k ≡ n = omega arith in
-      rw (← q) f
+use Rattle.characters.specs.Shortcuts.{RulesOut, Tells}
+use Rattle.characters.proofs.Tests.{le-or-lt, or-none, not-true}
+use Rattle.characters.proofs.Spaces.{end-may-start}
+use Rattle.characters.proofs.Walks.{first-here, first-over, first-from, last-none, last-over, scanning-down}
+use Rattle.characters.proofs.Firsts.{first-passes, first-before}
+use Rattle.characters.proofs.Runs.{none-passes, none-ruled-out, rules-out-again, rules-out-ended}
 
 -- none of the block from k on passes
 block-fails : (test : ℕ → Bool) (k m : ℕ) → any (λ j. test (k + j)) 16 ≡ false → k ≤ m → m < k + 16 → test m ≡ false
@@ -120,38 +94,3 @@ block-blankless s i k e next r before is l f g =
 pub ruleset passing-blankless = (needs, block-blankless)
 
 pub ruleset scanning-blanks = (scanning-down, last-none)
-
--- ---- a text of ASCII bytes is well formed
-
-module _ (s : List ℕ) (ascii : any (λ k. leb 0x80 (byte s k)) (length s) ≡ false) where
-  below : (k : ℕ) → k < length s → byte s k < 0x80
-  below k h = leb-false 0x80 (byte s k) (none-passes (λ j. leb 0x80 (byte s j)) (length s) k ascii h)
-
-  one : (k : ℕ) → k < length s → 1 ≡ charLen s k
-  one k h =
-      let q = char-one (byte s k) (byte s (k + 1)) (byte s (k + 2)) (byte s (k + 3)) (below k h) in
-      q ∙ char-fits s k (rw (← q) (omega arith))
-
-  to-the-end : (n k : ℕ) → k + n ≡ length s → skipChars s k ≡ length s
-  to-the-end zero k e = sym (skip-stays (charLen s) (length s) (char-inside s) k none) ∙ omega arith
-    where
-      none : charLen s k ≡ 0
-      none = ⊎-elim (λ z. z) (λ p. absurd (omega (arith, char-inside s k p))) (eq-zero-or-pos (charLen s k))
-  to-the-end (suc n) k e =
-      skip-goes (charLen s) (length s) (char-inside s) k (rw (← one k (omega arith)) (omega arith))
-      ∙ rw (← one k (omega arith)) (to-the-end n (k + 1) (omega arith))
-
-  pub ascii-well-formed : utf8 s ≡ true
-  unfolding utf8
-  ascii-well-formed = eq-eqb (skipChars s 0) (length s) (to-the-end (length s) 0 (omega arith))
-
-pub ascii-tells : (s : List ℕ) (above : Bool) (k : ℕ) → RulesOut (any (λ m. leb 0x80 (byte s m)) k) above → length s ≤ k → k ≤ length s → Tells (utf8 s) (not above)
-ascii-tells s above k f a b =
-    record { holds = λ t. ascii-well-formed s (rules-out-ended (λ m. leb 0x80 (byte s m)) above k (length s) f a b .none (not-true above t)) }
-
-pub rules-itself-out : (p : Bool) → RulesOut p p
-rules-itself-out p = record { none = λ e. e }
-
-pub ruleset looking-for-ascii = (needs, none-ruled-out, rules-out-again, rules-itself-out, ascii-tells)
-
-pub ruleset walking-by-characters = (walking, told)

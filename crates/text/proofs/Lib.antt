@@ -1,15 +1,3 @@
-pub mod Tests
-pub mod Walks
-pub mod Firsts
-pub mod Table
-pub mod Shortcuts
-pub mod Spaces
 pub mod Ranges
 pub mod Trims
-pub mod Chars
 pub mod Blocks
-pub mod Codes
-pub mod Uax31
-pub mod Ascii
-pub mod Encoding
-pub mod Decoding

@@ -11,10 +11,10 @@ use borrow.Author.Tests.{eq-eqb, ne-eqb, eqb-true}
 use lib.Dec.{eqb}
 use lib.ListN.{length, take, drop, length-take, length-drop}
 use lib.Seq.{take-length, take-all, take-suc, getD-drop}
-use Rattle.text.specs.Whitespace.{byte}
+use Rattle.characters.specs.Whitespace.{byte}
 use Rattle.text.specs.Range.{part, sameBytes, sameRange, lookaheadIs}
-use Rattle.text.specs.declared.Found.the-variants.{At, Nothing}
-use Rattle.text.proofs.Tests.{and-left, and-right, le-or-lt}
+use Rattle.characters.specs.declared.Found.the-variants.{At, Nothing}
+use Rattle.characters.proofs.Tests.{and-left, and-right, le-or-lt}
 
 -- ---- sameBytes is equality
 

@@ -11,22 +11,16 @@ use borrow.Author.Needs.{needs}
 use borrow.Author.Tests.{le-leb, lt-leb, eq-eqb, ne-eqb, eqb-true, leb-false}
 use lib.Dec.{eqb, leb}
 use lib.ListN.{length}
-use Rattle.text.specs.Class.{isWhitespaceByte, isLineEnd, isBlank, isOtherWhitespace}
-use Rattle.text.specs.Walk.{last, skip, Between}
-use Rattle.text.specs.Whitespace.{byte, isNextLine, isMark, isSeparator, whitespaceOf, whitespaceLen, Width}
-use Rattle.text.specs.Shortcuts.{RulesOut, Tells, mayBeWhitespace}
+use Rattle.characters.specs.Class.{isWhitespaceByte, isLineEnd, isBlank, isOtherWhitespace}
+use Rattle.characters.specs.Walk.{last, skip, Between}
+use Rattle.characters.specs.Whitespace.{byte, isNextLine, isMark, isSeparator, whitespaceOf, whitespaceLen, Width}
+use Rattle.characters.specs.Shortcuts.{RulesOut, Tells, mayBeWhitespace}
 use Rattle.text.specs.Scan.{skipWhitespace, trimStart, trimEnd, backslashesBehind, backslashesBefore, keepEscaped, trimEndUnescaped}
-use Rattle.text.proofs.Tests.{and-left, and-right, or-cases, or-none, not-true, by-test, le-or-lt, equal, unequal}
-use Rattle.text.proofs.Walks.{first-here, first-none, first-over, last-found, last-again, last-ended, skip-stays, skip-goes, repeat-keeps}
-use Rattle.text.proofs.Spaces.{white-inside}
+use Rattle.characters.proofs.Tests.{and-left, and-right, or-cases, or-none, not-true, by-test, le-or-lt, equal, unequal}
+use Rattle.characters.proofs.Walks.{first-here, first-none, first-over, last-found, last-again, last-ended, skip-stays, skip-goes, repeat-keeps}
+use Rattle.characters.proofs.Spaces.{white-inside, inner-none}
 
 -- ---- no whitespace character starts inside another
-
--- a byte from 80 to BF starts no whitespace character
-pub inner-none : (a b c : ℕ) → 0x80 ≤ a → a < 0xc0 → whitespaceOf a b c ≡ 0
-unfolding whitespaceOf isWhitespaceByte isLineEnd isBlank isOtherWhitespace
-inner-none a b c l h =
-    simp (ne-eqb a 0x0a (omega arith), ne-eqb a 0x0b (omega arith), ne-eqb a 0x0d (omega arith), ne-eqb a 0x20 (omega arith), ne-eqb a 0x09 (omega arith), ne-eqb a 0x0c (omega arith), ne-eqb a 0xc2 (omega arith), ne-eqb a 0xe2 (omega arith))
 
 -- the second and the third byte of a whitespace character of three
 three-bytes : (a b c : ℕ) → isMark a b c || isSeparator a b c ≡ true → (b ≡ 0x80) × (0x80 ≤ c) × (c < 0xc0)

@@ -4,11 +4,11 @@ use mathlib.Core.List.{List}
 use Prim.Native.Nat.{ℕ, _+_, _-_, _%_, min}
 use lib.Dec.{eqb, leb}
 use lib.ListN.{length}
-use Rattle.text.specs.Class.{isBlank, isAsciiWhitespace}
-use Rattle.text.specs.Walk.{first, last, skip}
-use Rattle.text.specs.Whitespace.{byte, whitespaceLen, lineEndLen, atWhitespace, atLineEnd}
-use Rattle.text.specs.declared.Found.{Found}
-use Rattle.text.specs.declared.Found.the-variants.{At, Nothing}
+use Rattle.characters.specs.Class.{isBlank, isAsciiWhitespace}
+use Rattle.characters.specs.Walk.{first, last, skip}
+use Rattle.characters.specs.Whitespace.{byte, whitespaceLen, lineEndLen, atWhitespace, atLineEnd}
+use Rattle.characters.specs.declared.Found.{Found}
+use Rattle.characters.specs.declared.Found.the-variants.{At, Nothing}
 
 -- past the whitespace characters at i: no more of them than bytes (01, Declarations)
 abbrev pub skipWhitespace : List ℕ → ℕ → ℕ

@@ -3,7 +3,7 @@ ghost use mathlib.Core.Path.{_≡_};
 ghost use Prim.Native.Nat.{_+_, _-_, _≤_, min};
 ghost use lib.ListN.{length};
 ghost use Rattle.text.specs.Range.{sameRange, lookaheadIs};
-use crate::Found;
+use characters::Found;
 
 // Whether the n bytes of s from a on are those of t from c on. It looks at every byte whatever it finds, so that the compiler can take many at
 // once.

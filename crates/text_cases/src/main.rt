@@ -2,9 +2,11 @@
 // tools/text-cases writes the texts and, from the code points and not from this code, what is to be printed.
 ghost use Prim.Native.Nat.{_≤_};
 ghost use lib.ListN.{length};
+use characters::Found;
+use characters::utf8::utf8;
+use characters::whitespace::matches_whitespace;
 use libc::STDIN_FILENO;
 use libc::STDOUT_FILENO;
-use text::Found;
 use text::range::lookahead_is;
 use text::range::same_range;
 use text::scan::find_ascii_whitespace;
@@ -19,8 +21,6 @@ use text::scan::skip_ascii_whitespace;
 use text::scan::trim_end;
 use text::scan::trim_end_unescaped;
 use text::scan::trim_start;
-use text::utf8::utf8;
-use text::whitespace::matches_whitespace;
 
 fn print(n: usize) {
     io::write_all(STDOUT_FILENO, b" ");

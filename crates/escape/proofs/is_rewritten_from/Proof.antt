@@ -2,8 +2,8 @@
 use mathlib.Core.Path.{_≡_}
 use Prim.Native.Nat.{_≤_, _-_}
 use borrow.Author.Needs.{needs}
-use Rattle.text.specs.Class.{ClassTable}
-use Rattle.text.proofs.Table.{table, class-table}
+use Rattle.characters.specs.Class.{ClassTable}
+use Rattle.characters.proofs.Table.{table, class-table}
 use Rattle.escape.specs.Escape.{isRewritten}
 use Rattle.escape.proofs.Passed.{asking}
 use Rattle.escape.proofs.is_rewritten_from.Statement.{statement}

@@ -1,7 +1,7 @@
 -- `escape::unescape` meets its contract: what is written, and what is left, make the whole text.
 use Prim.Native.Nat.{_-_}
-use Rattle.text.specs.Class.{ClassTable}
-use Rattle.text.proofs.Table.{table, class-table}
+use Rattle.characters.specs.Class.{ClassTable}
+use Rattle.characters.proofs.Table.{table, class-table}
 use Rattle.escape.specs.Escape.{unescaped}
 use Rattle.escape.proofs.Pieces.{Writing, writing}
 use Rattle.escape.proofs.unescape.Statement.{statement}

@@ -2,7 +2,7 @@
 use mathlib.Core.Path.{_≡_}
 use Prim.Native.Nat.{_≤_}
 use lib.Dec.{eqb}
-use Rattle.text.specs.Walk.{last}
+use Rattle.characters.specs.Walk.{last}
 use Rattle.area.specs.Contents.{faultFormat, contents}
 use Rattle.area.specs.Records.{nthFault}
 use borrow.Author.Needs.{needs}

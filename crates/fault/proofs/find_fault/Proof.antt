@@ -1,7 +1,7 @@
 -- `fault::find_fault` meets its contract: from where the loop stands the first position is the same.
 use mathlib.Core.Path.{_≡_}
 use Prim.Native.Nat.{_≤_, _-_}
-use Rattle.text.specs.Walk.{first}
+use Rattle.characters.specs.Walk.{first}
 use Rattle.area.specs.Contents.{faultFormat, contents}
 use Rattle.fault.specs.Faults.{isFault}
 use Rattle.fault.proofs.Spans.{finding}

@@ -1,7 +1,7 @@
 -- `names::get_start_state_by_name` meets its contract: from where the loop stands the first state of the name is the same.
 use mathlib.Core.Path.{_≡_}
 use Prim.Native.Nat.{_≤_, _-_}
-use Rattle.text.specs.Walk.{first}
+use Rattle.characters.specs.Walk.{first}
 use Rattle.area.specs.Contents.{stateFormat, contents}
 use Rattle.names.specs.Names.{isState}
 use Rattle.names.proofs.Finds.{finding-names}

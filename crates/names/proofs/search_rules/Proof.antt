@@ -1,7 +1,7 @@
 -- `names::search_rules` meets its contract: from where the loop stands the first rule of the name is the same.
 use mathlib.Core.Path.{_≡_}
 use Prim.Native.Nat.{_≤_, _-_}
-use Rattle.text.specs.Walk.{first}
+use Rattle.characters.specs.Walk.{first}
 use Rattle.area.specs.Contents.{ruleFormat, contents}
 use Rattle.area.specs.Records.{nthRule}
 use Rattle.names.specs.Names.{hasName}

@@ -2,7 +2,7 @@
 use mathlib.Core.Path.{_≡_}
 use Prim.Native.Nat.{_≤_, _-_}
 use lib.ListN.{length}
-use Rattle.text.specs.Whitespace.{whitespaceLen}
+use Rattle.characters.specs.Whitespace.{whitespaceLen}
 use Rattle.section.specs.Section.{toDeclaration}
 use Rattle.section.proofs.Lines.{resting}
 use Rattle.section.proofs.to_declaration.Statement.{statement}

@@ -2,7 +2,7 @@
 use mathlib.Core.Path.{_≡_}
 use Prim.Native.Nat.{_≤_, _-_}
 use lib.ListN.{length}
-use Rattle.text.specs.Whitespace.{lineEndLen}
+use Rattle.characters.specs.Whitespace.{lineEndLen}
 use Rattle.section.specs.Section.{toRule}
 use Rattle.section.proofs.Lines.{resting}
 use Rattle.section.proofs.to_rule.Statement.{statement}

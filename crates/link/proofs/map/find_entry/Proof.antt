@@ -1,7 +1,7 @@
 -- `link::map::find_entry` meets its contract: from where the loop stands the first entry of the name is the same.
 use mathlib.Core.Path.{_≡_}
 use Prim.Native.Nat.{_≤_, _-_}
-use Rattle.text.specs.Walk.{first}
+use Rattle.characters.specs.Walk.{first}
 use Rattle.text.specs.Range.{part}
 use Rattle.link.specs.Map.{entryCount}
 use Rattle.link.proofs.Maps.{has, finding-entries}

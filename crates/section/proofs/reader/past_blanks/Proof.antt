@@ -34,9 +34,9 @@ use denote.Triple.Spec.{tripleOf}
 use denote.Triple.Statement.{Contract, Triple}
 use denote.Triple.Table.{entered, cited}
 use denote.Triple.Walked.{says, needs, Stays, walkOf, ends-at}
-use Rattle.text.specs.Walk.{Between}
-use Rattle.text.specs.Class.{isBlank}
-use Rattle.text.specs.Whitespace.{byte}
+use Rattle.characters.specs.Walk.{Between}
+use Rattle.characters.specs.Class.{isBlank}
+use Rattle.characters.specs.Whitespace.{byte}
 use Rattle.text.specs.Scan.{skipBlanks}
 use Rattle.section.specs.Reader.{readerAt, readerMoved}
 use Rattle.section.specs.declared.reader.Reader.{Reader}

@@ -3,8 +3,8 @@ use mathlib.Core.Path.{_≡_}
 use mathlib.Core.Bool.{not}
 use Prim.Native.Nat.{_≤_}
 use lib.Dec.{eqb}
-use Rattle.text.specs.Walk.{last}
-use Rattle.text.specs.Whitespace.{byte}
+use Rattle.characters.specs.Walk.{last}
+use Rattle.characters.specs.Whitespace.{byte}
 use Rattle.text.proofs.Trims.{counting}
 use Rattle.text.proofs.scan.backslashes_before.Statement.{statement}
 use Rattle.text.proofs.scan.backslashes_before.Tie as tie

@@ -1,8 +1,8 @@
 -- `text::scan::block_may_end_line` meets its contract: where it has found none, no line end starts with a byte looked at so far.
 use Prim.Native.Nat.{_+_, _≤_, _-_}
-use Rattle.text.specs.Shortcuts.{RulesOut}
-use Rattle.text.specs.Walk.{any}
-use Rattle.text.specs.Whitespace.{atLineEnd}
+use Rattle.characters.specs.Shortcuts.{RulesOut}
+use Rattle.characters.specs.Walk.{any}
+use Rattle.characters.specs.Whitespace.{atLineEnd}
 use Rattle.text.proofs.Blocks.{looking}
 use Rattle.text.proofs.scan.block_may_end_line.Statement.{statement}
 use Rattle.text.proofs.scan.block_may_end_line.Tie as tie

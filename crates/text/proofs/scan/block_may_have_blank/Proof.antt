@@ -1,9 +1,9 @@
 -- `text::scan::block_may_have_blank` meets its contract: where it has found none, no byte looked at so far is a blank.
 use Prim.Native.Nat.{_+_, _≤_, _-_}
-use Rattle.text.specs.Class.{isBlank}
-use Rattle.text.specs.Shortcuts.{RulesOut}
-use Rattle.text.specs.Walk.{any}
-use Rattle.text.specs.Whitespace.{byte}
+use Rattle.characters.specs.Class.{isBlank}
+use Rattle.characters.specs.Shortcuts.{RulesOut}
+use Rattle.characters.specs.Walk.{any}
+use Rattle.characters.specs.Whitespace.{byte}
 use Rattle.text.proofs.Blocks.{looking}
 use Rattle.text.proofs.scan.block_may_have_blank.Statement.{statement}
 use Rattle.text.proofs.scan.block_may_have_blank.Tie as tie

@@ -5,9 +5,9 @@ use mathlib.Core.Bool.{false}
 use mathlib.Core.Logic.{⊎-elim}
 use Prim.Native.Nat.{_≤_, _-_}
 use Rattle.text.specs.Scan.{findLineEnd}
-use Rattle.text.specs.Whitespace.{atLineEnd}
-use Rattle.text.proofs.Walks.{scanning}
-use Rattle.text.proofs.Spaces.{end-may-start}
+use Rattle.characters.specs.Whitespace.{atLineEnd}
+use Rattle.characters.proofs.Walks.{scanning}
+use Rattle.characters.proofs.Spaces.{end-may-start}
 use Rattle.text.proofs.scan.find_line_end.Statement.{statement}
 use Rattle.text.proofs.scan.find_line_end.Tie as tie
 

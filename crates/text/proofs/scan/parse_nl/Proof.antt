@@ -3,7 +3,7 @@ use mathlib.Core.Path.{_≡_}
 use Prim.Native.Nat.{_≤_, _-_}
 use lib.ListN.{length}
 use Rattle.text.specs.Scan.{skipLineEnds}
-use Rattle.text.proofs.Spaces.{skipping}
+use Rattle.characters.proofs.Spaces.{skipping}
 use Rattle.text.proofs.scan.parse_nl.Statement.{statement}
 use Rattle.text.proofs.scan.parse_nl.Tie as tie
 

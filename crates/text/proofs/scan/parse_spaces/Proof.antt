@@ -3,7 +3,7 @@ use mathlib.Core.Path.{_≡_}
 use Prim.Native.Nat.{_≤_, _-_}
 use lib.ListN.{length}
 use Rattle.text.specs.Scan.{skipBlanks}
-use Rattle.text.proofs.Walks.{scanning}
+use Rattle.characters.proofs.Walks.{scanning}
 use Rattle.text.proofs.scan.parse_spaces.Statement.{statement}
 use Rattle.text.proofs.scan.parse_spaces.Tie as tie
 

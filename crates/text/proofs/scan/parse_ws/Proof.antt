@@ -3,7 +3,7 @@ use mathlib.Core.Path.{_≡_}
 use Prim.Native.Nat.{_≤_, _-_}
 use lib.ListN.{length}
 use Rattle.text.specs.Scan.{skipWhitespace}
-use Rattle.text.proofs.Spaces.{skipping}
+use Rattle.characters.proofs.Spaces.{skipping}
 use Rattle.text.proofs.scan.parse_ws.Statement.{statement}
 use Rattle.text.proofs.scan.parse_ws.Tie as tie
 

@@ -1,0 +1,13 @@
+pub mod Tests
+pub mod Walks
+pub mod Firsts
+pub mod Table
+pub mod Shortcuts
+pub mod Spaces
+pub mod Chars
+pub mod Runs
+pub mod Codes
+pub mod Uax31
+pub mod Ascii
+pub mod Encoding
+pub mod Decoding

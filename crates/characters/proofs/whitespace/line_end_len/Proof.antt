@@ -1,0 +1,20 @@
+-- `characters::whitespace::line_end_len` meets its contract: the bytes at the offset are measured.
+use Rattle.characters.proofs.Spaces.{measuring}
+use Rattle.characters.proofs.whitespace.line_end_len.Statement.{statement}
+use Rattle.characters.proofs.whitespace.line_end_len.Tie as tie
+
+pub line-end-len-spec : {M : Type 1} → statement M
+line-end-len-spec =
+    tie.close
+    (tie.spec
+    (λ c κs. search measuring)
+    (λ c κs. search measuring)
+    (λ c. search measuring)
+    (λ c κs. search measuring)
+    (λ c. search measuring)
+    (λ c. search measuring)
+    (λ c κs. search measuring)
+    (λ c. search measuring)
+    (λ c κs. search measuring)
+    (λ c κs. search measuring)
+    (λ c. search measuring))

@@ -1,0 +1,107 @@
+// Well-formed UTF-8: the rows of the Unicode standard's table 3-7, and a walk from character to character.
+ghost use mathlib.Core.Path.{_≡_};
+ghost use Prim.Native.Nat.{_≤_};
+ghost use lib.ListN.{length};
+ghost use Rattle.characters.specs.Shortcuts.{Tells};
+ghost use Rattle.characters.specs.Whitespace.{Width};
+ghost use Rattle.characters.specs.Utf8;
+ghost use Rattle.characters.specs.Utf8.{isContinuation, twoBytes, threeBytes, fourBytes, charOf, charLen};
+use crate::whitespace::byte_at;
+
+pub fn is_continuation(b: u8) -> bool
+    ensures { λ r. ⌜ r ≡ isContinuation b ⌝ }
+{
+    (0x80 <= b) & (b <= 0xbf)
+}
+
+fn two_bytes(a: u8, b: u8) -> bool
+    ensures { λ r. ⌜ r ≡ twoBytes a b ⌝ }
+{
+    ((0xc2 <= a) & (a <= 0xdf)) & ((0x80 <= b) & (b <= 0xbf))
+}
+
+fn three_bytes(a: u8, b: u8, c: u8) -> bool
+    ensures { λ r. ⌜ r ≡ threeBytes a b c ⌝ }
+{
+    let tb = (0x80 <= b) & (b <= 0xbf);
+    let tc = (0x80 <= c) & (c <= 0xbf);
+    ((a == 0xe0) & (((0xa0 <= b) & (b <= 0xbf)) & tc))
+        | ((((0xe1 <= a) & (a <= 0xec)) & (tb & tc))
+            | (((a == 0xed) & (((0x80 <= b) & (b <= 0x9f)) & tc))
+                | (((0xee <= a) & (a <= 0xef)) & (tb & tc))))
+}
+
+fn four_bytes(a: u8, b: u8, c: u8, d: u8) -> bool
+    ensures { λ r. ⌜ r ≡ fourBytes a b c d ⌝ }
+{
+    let tb = (0x80 <= b) & (b <= 0xbf);
+    let tcd = ((0x80 <= c) & (c <= 0xbf)) & ((0x80 <= d) & (d <= 0xbf));
+    ((a == 0xf0) & (((0x90 <= b) & (b <= 0xbf)) & tcd))
+        | ((((0xf1 <= a) & (a <= 0xf3)) & (tb & tcd))
+            | ((a == 0xf4) & (((0x80 <= b) & (b <= 0x8f)) & tcd)))
+}
+
+// Of the bytes a b c d, how many make a character, or 0.
+fn char_of(a: u8, b: u8, c: u8, d: u8) -> usize
+    ensures { λ r. ⌜ r ≡ charOf a b c d ⌝ }
+{
+    if a < 0x80 {
+        return 1;
+    }
+    if two_bytes(a, b) {
+        return 2;
+    }
+    if three_bytes(a, b, c) {
+        return 3;
+    }
+    if four_bytes(a, b, c, d) {
+        return 4;
+    }
+    0
+}
+
+// How many bytes the character has that starts at k and ends within the text, or 0.
+pub fn char_len(s: &[u8], k: usize) -> usize
+    requires { ⌜ k ≤ length (now s) ⌝ }
+    ensures { λ r. ⌜ Width (now (s .entry)) k (charLen (now (s .entry)) k) r ⌝ }
+{
+    let n = char_of(
+        byte_at(s, k),
+        byte_at(s, k + 1),
+        byte_at(s, k + 2),
+        byte_at(s, k + 3),
+    );
+    if n <= s.len() - k {
+        return n;
+    }
+    0
+}
+
+// Whether every byte is ASCII, and so a character by itself. It looks at all of them whatever it finds, so that the compiler can take many at once.
+fn is_ascii(s: &[u8]) -> bool
+    ensures { λ r. ⌜ Tells (Utf8.utf8 (now (s .entry))) r ⌝ }
+{
+    let mut above = false;
+    let mut k = 0;
+    while k < s.len() {
+        above = above | (0x80 <= s[k]);
+        k += 1;
+    }
+    !above
+}
+
+pub fn utf8(s: &[u8]) -> bool
+    ensures { λ r. ⌜ r ≡ Utf8.utf8 (now (s .entry)) ⌝ }
+{
+    if is_ascii(s) {
+        return true;
+    }
+    let mut k = 0;
+    loop {
+        let n = char_len(s, k);
+        if n == 0 {
+            return k == s.len();
+        }
+        k += n;
+    }
+}

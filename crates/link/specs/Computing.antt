@@ -1,0 +1,27 @@
+-- What a proof by computing unfolds: the definitions of this crate, a marker for each of its files, and the markers of the crates below it.
+-- tools/computing writes this file.
+use Rattle.characters.specs.Computing.{computing as characters-computing}
+use Rattle.text.specs.Computing.{computing as text-computing}
+use Rattle.area.specs.Computing.{computing as area-computing}
+use Rattle.names.specs.Computing.{computing as names-computing}
+use Rattle.parse.specs.Computing.{computing as parse-computing}
+use Rattle.sheet_check.specs.Computing.{computing as sheet-check-computing}
+use Rattle.link.specs.Index.{slotFrom, slotOf}
+use Rattle.link.specs.Link.{withId, withFound, isNone, isUnlinked, unlinked, linkRule, linkRules, isUnmapped, hasThatName, isUnused, unmapped, unused, fits, linkAll, linkChecked, linkCall, linkFields}
+use Rattle.link.specs.Map.{mapEntryFields, mapEntryOf, mapEntryAt, entryOf, entriesOf, findEntry, idAt, idOf, distinct, nameInside, mapCheck}
+
+unfoldable index-file : Unit {0}
+unfolding slotFrom slotOf
+index-file = tt
+
+unfoldable link-file : Unit {0}
+unfolding withId withFound isNone isUnlinked unlinked linkRule linkRules isUnmapped hasThatName isUnused unmapped unused fits linkAll linkChecked linkCall linkFields
+link-file = tt
+
+unfoldable map-file : Unit {0}
+unfolding mapEntryFields mapEntryOf mapEntryAt entryOf entriesOf findEntry idAt idOf distinct nameInside mapCheck
+map-file = tt
+
+unfoldable pub computing : Unit {0}
+unfolding characters-computing text-computing area-computing names-computing parse-computing sheet-check-computing index-file link-file map-file
+computing = tt
