@@ -1,7 +1,7 @@
 -- A declaration, and the loop over the declarations: a law for each way through. What a part of the areas comes to is the outcome for all of
 -- them, the others unchanged; and a line that is read has a byte, so the loop goes forward.
 use mathlib.Core.Path.{_≡_, refl, sym, ap, subst, _∙_}
-use mathlib.Core.Bool.{Bool, true, false, cond}
+use mathlib.Core.Bool.{Bool, true, false}
 use mathlib.Core.List.{List}
 use Prim.Native.Nat.{ℕ, _-_, _≤_, _<_}
 use native.Mathlib.Nat.{le-refl}
@@ -16,7 +16,7 @@ use Rattle.text.specs.Scan.{lineEnd, skipBlanks, findWhitespace, trimEnd, trimS
 use Rattle.characters.specs.declared.Found.{Found}
 use Rattle.characters.specs.declared.Found.the-variants.{At, Nothing}
 use Rattle.characters.proofs.Tests.{by-test}
-use Rattle.characters.proofs.Walks.{first-to, first-from}
+use Rattle.characters.proofs.Walks.{first-to}
 use Rattle.characters.proofs.Spaces.{end-none-of-white}
 use Rattle.area.specs.declared.Expected.{Expected}
 use Rattle.area.specs.Contents.{contents, expectedFormat, Held}
