@@ -152,8 +152,8 @@ named-forward s k exclusive a e n {j} {m} q = by (isStateName s a e) refl q
     known = ltb (findState s a e (n .states)) (length (n .states))
 
     by : (t : Bool) → isStateName s a e ≡ t
-        → cond (not t) (bad InvalidStartStateName a n) (cond known
-        (repeatState s k (state a e exclusive) (nthState (n .states) (findState s a e (n .states))) n) (addState s k (state a e exclusive) n))
+        → cond (not t) (bad InvalidStartStateName a n)
+        (cond known (repeatState s k (state a e exclusive) (nthState (n .states) (findState s a e (n .states))) n) (addState s k (state a e exclusive) n))
         ≡ go j m → a < j
     by true f z =
         omega (

@@ -54,8 +54,8 @@ module _ (c1 c2 c3 c4 c5 c6 : ℕ) (o : Outcome) (v1 v2 v3 v4 v5 v6 : List ℕ) 
     unfolding leaves
     text-faulty n z z1 z2 z3 z4 z5 zn =
         let h = d .faults n z in
-        (λ i. left (FaultyFile (sym (contents-length fault-sound h) i)) (zn i) ((z1 ∙ ap zeros (e .long1)) i) ((z2 ∙ ap zeros (e .long2)) i)
-        ((z3 ∙ ap zeros (e .long3)) i)
+        (λ i. left (FaultyFile (sym (contents-length fault-sound h) i)) (zn i)
+        ((z1 ∙ ap zeros (e .long1)) i) ((z2 ∙ ap zeros (e .long2)) i) ((z3 ∙ ap zeros (e .long3)) i)
         ((z4 ∙ ap zeros (e .long4)) i) ((z5 ∙ ap zeros (e .long5)) i) (laid-is h (e .long6) i))
         ∙ ap (leaves sizes) (sym (d .says ∙ ap (outcomeOf v1 v2 v3 v4 v5 v6) z))
 

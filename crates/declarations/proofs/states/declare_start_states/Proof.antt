@@ -10,8 +10,8 @@ use Rattle.declarations.proofs.states.declare_start_states.Tie as tie
 
 abbrev Inv-loop : tie.InvT-loop
 Inv-loop src exclusive a t area1₀ area6₀ at₀ counts₀ area1 area6 at counts =
-    Declares (stateNames src (nameCaps (length area1₀) (length area6₀)) exclusive (range at₀ t)
-    (namesIn area1₀ area6₀ counts₀)) src exclusive t area1₀ area6₀ at area1 area6 counts
+    Declares (stateNames src (nameCaps (length area1₀) (length area6₀)) exclusive (range at₀ t) (namesIn area1₀ area6₀ counts₀))
+    src exclusive t area1₀ area6₀ at area1 area6 counts
 
 abbrev μ-loop : tie.MeasureT-loop
 μ-loop src exclusive a t area1₀ area6₀ at₀ counts₀ area1 area6 at counts = t - at
