@@ -112,7 +112,7 @@ met r = record { parsed = refl; unmapped = 0; unused = 0; linked = refl; started
 -- and these are the answers
 pub met-answers : (r : Run) → answers (given (session r)) fresh entry-rows
     ≡ Token 300 0 2 ∷ Skip ∷ RowMismatch ∷ Skip ∷ Token 301 4 1 ∷ Token 302 5 1 ∷ Token 300 6 1 ∷ Stopped ∷ Token 302 7 1 ∷ Done ∷ []
-unfolding computing
+unfolding computing answers
 met-answers r = refl
 
 -- so demand 3 holds of the calls with these rows
