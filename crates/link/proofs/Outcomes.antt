@@ -145,10 +145,10 @@ module _ (name : Rule → List ℕ) (xs : List Rule) (es : List Entry) (x2 x7 x8
     unfolding linkChecked
     short-8 g = rw (h, g)
 
-    pub none-short : fits (unused name es xs) x8 ≡ true → (m k : ℕ) → m ≡ length (unmapped name es xs) → k ≡ length (unused name es xs) → (y : LinkLeft)
-        → y ≡ linkAll name (Linked m k) xs es x2 x7 x8 → y ≡ linkChecked name xs es x2 x7 x8
+    pub none-short : fits (unused name es xs) x8 ≡ true → (m k : ℕ) → m ≡ length (unmapped name es xs) → k ≡ length (unused name es xs)
+        → linkAll name (Linked m k) xs es x2 x7 x8 ≡ linkChecked name xs es x2 x7 x8
     unfolding linkChecked
-    none-short g m k p q y e = rw (h, g, ← p, ← q) e
+    none-short g m k p q = rw (h, g, ← p, ← q)
 
 -- ---- the call
 
@@ -181,8 +181,7 @@ module _ (b : SheetBytes) (names entries x7 x8 : List ℕ) (t : Bool) (is : t �
     unfolding linkCall
     call-map g = rw (passed b t is h, ← says, not-true u g)
 
-    pub call-linked : not u ≡ false → (y : LinkLeft)
-        → y ≡ linkChecked (nameIn b) (contents ruleFormat (b .area2) (count b 2)) (entriesOf names entries) (b .area2) x7 x8
-        → y ≡ linkCall b names entries x7 x8
+    pub call-linked : not u ≡ false
+        → linkChecked (nameIn b) (contents ruleFormat (b .area2) (count b 2)) (entriesOf names entries) (b .area2) x7 x8 ≡ linkCall b names entries x7 x8
     unfolding linkCall decoded
-    call-linked g y e = rw (passed b t is h, ← says, not-false u g) e
+    call-linked g = rw (passed b t is h, ← says, not-false u g)

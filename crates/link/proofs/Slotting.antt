@@ -27,7 +27,7 @@ use Rattle.sheet_check.proofs.Checked.{contents-read}
 use Rattle.link.specs.declared.MapEntry.{MapEntry}
 use Rattle.link.specs.Map.{mapEntryAt, entryCount, Entry, entriesOf, nth, findEntry, distinct, mapCheck}
 use Rattle.link.specs.Link.{isNamed, hasThatName, isUnused}
-use Rattle.link.specs.Index.{slotCount, slotFrom, slotOf, Slot, Slots, EntrySlots, RuleSlots, EntryIndex, EntriesIndexed, MapChecked}
+use Rattle.link.specs.Index.{slotCount, slotFrom, slotOf, Slot, Slots, EntrySlots, RuleSlots, EntryIndex, RuleIndex, EntriesIndexed, MapChecked}
 use Rattle.link.proofs.Maps.{entries-count, name-at, has, entry-missing, entry-first, distinct-read}
 
 -- ---- the slot of bytes
@@ -191,7 +191,7 @@ unfolding all
 all-from test [] d f = refl
 all-from test (x ∷ xs) d f = rw (f 0 (omega arith)) (all-from test xs d (λ k h. f (suc k) (omega arith)))
 
-module _ (name : Rule → List ℕ) (l : List ℕ) (count : ℕ) (slots bytes : List ℕ) (S : RuleSlots name l count count slots) (r : ℕ) (q : Slot bytes r) where
+module _ (name : Rule → List ℕ) (l : List ℕ) (count : ℕ) (slots bytes : List ℕ) (I : RuleIndex name l count slots) (r : ℕ) (q : Slot bytes r) where
   none-named : getD slots r 0 ≡ 0 → (k : ℕ) → k < count → hasThatName name bytes (nthRule (contents ruleFormat l count) k) ≡ false
   unfolding hasThatName
   none-named e k h = by (isNamed (nthRule (contents ruleFormat l count) k)) refl
@@ -200,7 +200,7 @@ module _ (name : Rule → List ℕ) (l : List ℕ) (count : ℕ) (slots bytes : 
       x = nthRule (contents ruleFormat l count) k
 
       by : (t : Bool) → isNamed (nthRule (contents ruleFormat l count) k) ≡ t → t && sameBytes bytes (name (nthRule (contents ruleFormat l count) k)) ≡ false
-      by true t = same-not bytes (name (nthRule (contents ruleFormat l count) k)) (λ z. slot-empty (λ j. isNamed (nthRule (contents ruleFormat l count) j)) (λ j. name (nthRule (contents ruleFormat l count) j)) S bytes r q e k h t (sym z))
+      by true t = same-not bytes (name (nthRule (contents ruleFormat l count) k)) (λ z. slot-empty (λ j. isNamed (nthRule (contents ruleFormat l count) j)) (λ j. name (nthRule (contents ruleFormat l count) j)) (I .slots) bytes r q e k h t (sym z))
       by false t = refl
 
   pub unused-by-slot : getD slots r 0 ≡ 0 → true ≡ isUnused name (contents ruleFormat l count) bytes
@@ -209,7 +209,7 @@ module _ (name : Rule → List ℕ) (l : List ℕ) (count : ℕ) (slots bytes : 
       sym (all-from (λ x. not (hasThatName name bytes x)) (contents ruleFormat l count) (ruleFormat .blank) (λ k h. ap not (none-named e k (omega (arith, h, contents-count ruleFormat l count)))))
 
   pub slot-rule : (getD slots r 0 ≡ 0 → ⊥) → getD slots r 0 - 1 < count
-  slot-rule d = omega (arith, d, S .low r)
+  slot-rule d = omega (arith, d, I .slots .low r)
 
 -- ---- the loops that make the slots
 
@@ -228,10 +228,10 @@ module _ (l : List ℕ) (count k : ℕ) (h : k < count) (x : Rule) (is : x ≡ r
   rule-slotted name r q = subst (λ (y : Rule). Slot (name y) r) (is ∙ sym (contents-read ruleFormat l count k h)) q
 
 pub rules-indexed : (name : Rule → List ℕ) (l : List ℕ) (count k : ℕ) (slots : List ℕ) → count ≤ k → k ≤ count
-    → RuleSlots name l count k slots → RuleSlots name l count count slots
+    → RuleSlots name l count k slots → RuleIndex name l count slots
 rules-indexed name l count k slots h g S =
     let q : k ≡ count = omega arith in
-    subst (λ (n : ℕ). RuleSlots name l count n slots) q S
+    record { slots = subst (λ (n : ℕ). RuleSlots name l count n slots) q S }
 
 -- ---- the map check
 

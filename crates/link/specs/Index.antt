@@ -49,6 +49,10 @@ pub record EntryIndex (names entries l : List ℕ) : Type 0 where
   pub different : distinct (entriesOf names entries) ≡ true
   pub slots : EntrySlots names entries (entryCount entries) l
 
+-- the slots of the named rules of an area
+pub record RuleIndex (name : Rule → List ℕ) (area : List ℕ) (count : ℕ) (l : List ℕ) : Type 0 where
+  pub slots : RuleSlots name area count count l
+
 -- what the making of the slots answers and leaves
 pub record EntriesIndexed (names entries : List ℕ) (r : Bool) (l : List ℕ) : Type 0 where
   pub is : r ≡ distinct (entriesOf names entries)

@@ -8,7 +8,7 @@ ghost use Rattle.area.specs.Contents.{contents, ruleFormat};
 ghost use Rattle.link.specs.declared.LinkAnswer.the-variants.{Linked};
 ghost use Rattle.names.specs.Names.{nameOf};
 ghost use Rattle.link.specs.Map.{mostEntries, entryCount, entriesOf};
-ghost use Rattle.link.specs.Index.{EntryIndex, RuleSlots};
+ghost use Rattle.link.specs.Index.{EntryIndex, RuleIndex};
 ghost use Rattle.link.specs.Link.{unmapped, unused, fits, linkLeft, linkAll, linkChecked, linkCall};
 ghost use Rattle.sheet_check.specs.Contracts.{sheetIn};
 ghost use Rattle.area.specs.Contracts.{before, after};
@@ -48,7 +48,7 @@ fn write_all(
     requires { ⌜ (rules ≤ mostRules) × (rules * ruleWidth ≤ length (now area2)) ⌝ }
     requires { ⌜ entryCount (now entries) ≤ mostEntries ⌝ }
     requires { ⌜ EntryIndex (now names) (now entries) (now «entry_slots») ⌝ }
-    requires { ⌜ RuleSlots (nameOf (now src)) (now area2) rules rules (now «rule_slots») ⌝ }
+    requires { ⌜ RuleIndex (nameOf (now src)) (now area2) rules (now «rule_slots») ⌝ }
     requires { ⌜
         fits (unmapped (nameOf (now src)) (entriesOf (now names) (now entries)) (contents ruleFormat (now area2) rules)) (now area7)
         ≡ true

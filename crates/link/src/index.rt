@@ -10,7 +10,7 @@ ghost use Rattle.area.specs.Records.{ruleWidth};
 ghost use Rattle.link.specs.Map.{mostEntries, entryCount, nth, findEntry};
 ghost use Rattle.names.specs.Names.{nameOf};
 ghost use Rattle.link.specs.Link.{isUnused};
-ghost use Rattle.link.specs.Index.{slotCount, Slot, EntrySlots, RuleSlots, EntryIndex, EntriesIndexed, MapChecked};
+ghost use Rattle.link.specs.Index.{slotCount, Slot, EntrySlots, RuleIndex, EntryIndex, EntriesIndexed, MapChecked};
 ghost use Rattle.area.specs.Contracts.{before, after};
 ghost use Rattle.link.specs.Contracts.{mapIn, rulesIn, namesIn};
 use crate::map::MAP_WIDTH;
@@ -163,7 +163,7 @@ fn rule_slot(src: &[u8], x: Rule) -> usize
 pub fn index_rules(src: &[u8], area: &[u8], count: u16, slots: &mut [u16])
     requires { ⌜ count * ruleWidth ≤ length (now area) ⌝ }
     requires { ⌜ now slots ≡ replicate slotCount 0 ⌝ }
-    ensures { λ _. ⌜ RuleSlots (namesIn src) (before area) count count (after slots) ⌝ }
+    ensures { λ _. ⌜ RuleIndex (namesIn src) (before area) count (after slots) ⌝ }
 {
     let mut k = 0;
     while k < count {
@@ -188,7 +188,7 @@ pub fn is_unused_by(
     j: usize,
 ) -> bool
     requires { ⌜ count * ruleWidth ≤ length (now area) ⌝ }
-    requires { ⌜ RuleSlots (nameOf (now src)) (now area) count count (now slots) ⌝ }
+    requires { ⌜ RuleIndex (nameOf (now src)) (now area) count (now slots) ⌝ }
     requires { ⌜ j < entryCount (now entries) ⌝ }
     ensures { λ r. ⌜ r ≡ isUnused (namesIn src) (rulesIn area count) (nth (mapIn names entries) j .name) ⌝ }
 {

@@ -10,7 +10,7 @@ ghost use Rattle.area.specs.Contents.{contents, ruleFormat, entryFormat, laid};
 ghost use Rattle.names.specs.Names.{nameOf};
 ghost use Rattle.link.specs.Map.{mostEntries, entryCount, entriesOf, nth};
 ghost use Rattle.link.specs.Link.{isUnmapped, isUnlinked, hasThatName, isUnused, unlinked, unmapped, unused, fits};
-ghost use Rattle.link.specs.Index.{EntryIndex, RuleSlots};
+ghost use Rattle.link.specs.Index.{EntryIndex, RuleIndex};
 ghost use Rattle.area.specs.Contracts.{before, after};
 ghost use Rattle.link.specs.Contracts.{mapIn, rulesIn, namesIn};
 use crate::index::is_unused_by;
@@ -139,7 +139,7 @@ pub fn count_unused(
     names: &[u8],
     entries: &[u8],
 ) -> u16
-    requires { ⌜ RuleSlots (nameOf (now src)) (now area) count count (now slots) ⌝ }
+    requires { ⌜ RuleIndex (nameOf (now src)) (now area) count (now slots) ⌝ }
     requires { ⌜ count * ruleWidth ≤ length (now area) ⌝ }
     requires { ⌜ entryCount (now entries) ≤ mostEntries ⌝ }
     ensures { λ r. ⌜ r ≡ length (unused (namesIn src) (mapIn names entries) (rulesIn area count)) ⌝ }
@@ -168,7 +168,7 @@ pub fn write_unused(
     entries: &[u8],
     into: &mut [u8],
 )
-    requires { ⌜ RuleSlots (nameOf (now src)) (now area) count count (now slots) ⌝ }
+    requires { ⌜ RuleIndex (nameOf (now src)) (now area) count (now slots) ⌝ }
     requires { ⌜ count * ruleWidth ≤ length (now area) ⌝ }
     requires { ⌜ entryCount (now entries) ≤ mostEntries ⌝ }
     requires { ⌜ now into ≡ zeros (length (now into)) ⌝ }

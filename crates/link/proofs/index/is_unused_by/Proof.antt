@@ -1,23 +1,22 @@
 -- `link::index::is_unused_by` meets its contract: where the slot is 0 no rule has the name, and a rule that has it is enough.
 use mathlib.Core.Path.{sym, _∙_}
 use native.Mathlib.Omega.{arith}
-use Rattle.names.specs.Names.{nameOf}
 use Rattle.link.proofs.Counting.{unused-found}
 use Rattle.link.proofs.Slotting.{slotting-entries, unused-by-slot, slot-rule}
 use Rattle.link.proofs.index.is_unused_by.Statement.{statement}
 use Rattle.link.proofs.index.is_unused_by.Tie as tie
 
 read-slot-requires : tie.Need-read-slot-requires
-read-slot-requires c κs = omega (arith, c .entry-slot .ensures .small, c .before .before .before .before .before .before .pre .1 .0 .long)
+read-slot-requires c κs = omega (arith, c .entry-slot .ensures .small, c .before .before .before .before .before .before .pre .1 .0 .slots .long)
 
 returns : tie.Need-returns
 returns c = unused-by-slot _ _ _ _ _ (c .before .before .before .before .before .before .before .before .pre .1 .0) _ (c .before .before .entry-slot .ensures) (sym (c .before .read-slot .ensures) ∙ c .if1 .taken)
 
 read-rule-requires : tie.Need-read-rule-requires
-read-rule-requires c κs = omega (arith, slot-rule (nameOf _) _ _ _ _ (c .before .before .before .before .before .before .before .before .pre .1 .0) _ (c .before .before .entry-slot .ensures) (λ z. c .if1 .left (c .before .read-slot .ensures ∙ z)), c .before .read-slot .ensures, c .before .before .before .before .before .before .before .before .pre .0)
+read-rule-requires c κs = omega (arith, slot-rule _ _ _ _ _ (c .before .before .before .before .before .before .before .before .pre .1 .0) _ (c .before .before .entry-slot .ensures) (λ z. c .if1 .left (c .before .read-slot .ensures ∙ z)), c .before .read-slot .ensures, c .before .before .before .before .before .before .before .before .pre .0)
 
 returns-2 : tie.Need-returns-2
-returns-2 c = unused-found _ _ _ (c .before .before .before .before .before .before .before .before .before .before .before .args .count) _ _ (c .before .before .read-rule .ensures) _ (c .before .has-that-name .ensures) (omega (arith, slot-rule (nameOf _) _ _ _ _ (c .before .before .before .before .before .before .before .before .before .before .before .pre .1 .0) _ (c .before .before .before .before .before .entry-slot .ensures) (λ z. c .before .before .before .if1 .left (c .before .before .before .before .read-slot .ensures ∙ z)), c .before .before .before .before .read-slot .ensures)) (c .if2 .taken)
+returns-2 c = unused-found _ _ _ (c .before .before .before .before .before .before .before .before .before .before .before .args .count) _ _ (c .before .before .read-rule .ensures) _ (c .before .has-that-name .ensures) (omega (arith, slot-rule _ _ _ _ _ (c .before .before .before .before .before .before .before .before .before .before .before .pre .1 .0) _ (c .before .before .before .before .before .entry-slot .ensures) (λ z. c .before .before .before .if1 .left (c .before .before .before .before .read-slot .ensures ∙ z)), c .before .before .before .before .read-slot .ensures)) (c .if2 .taken)
 
 pub is-unused-by-spec : {M : Type 1} → statement M
 is-unused-by-spec =
