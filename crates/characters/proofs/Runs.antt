@@ -15,7 +15,7 @@ use Rattle.characters.specs.Walk.{any}
 use Rattle.characters.specs.Whitespace.{byte}
 use Rattle.characters.specs.Utf8.{charLen, skipChars, utf8}
 use Rattle.characters.specs.Shortcuts.{RulesOut, Tells}
-use Rattle.characters.proofs.Tests.{le-or-lt, or-none, not-true}
+use Rattle.characters.proofs.Tests.{or-none, not-true}
 use Rattle.characters.proofs.Shortcuts.{told}
 use Rattle.characters.proofs.Walks.{skip-stays, skip-goes}
 use Rattle.characters.proofs.Chars.{char-one, char-fits, char-inside, walking}

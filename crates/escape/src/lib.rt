@@ -5,6 +5,7 @@ ghost use lib.ListN.{length};
 ghost use Rattle.characters.specs.Class.{ClassTable};
 ghost use Rattle.characters.specs.Walk.{Between};
 ghost use Rattle.area.specs.Areas.{PushedText};
+ghost use Rattle.area.specs.Contracts.{before, after};
 ghost use Rattle.area.specs.Contents.{Held, Grows, append, textFormat};
 ghost use Rattle.escape.specs.Escape.{charEnd, isCodeLetter, isCode, isKeptBy, isKept, backspace, escaped, isRewritten, lastWhole, rewrittenEnd, unescaped};
 ghost use Rattle.escape.specs.Pieces.{pastEscape, escapeOf, pieceEnd, piece};
@@ -224,7 +225,10 @@ fn push_piece(
 pub fn unescape(src: &[u8], flags: u64, i: usize, c: usize, area: &mut [u8], n: u16) -> Appended
     requires { ⌜ (i ≤ c) × (c ≤ length (now src)) ⌝ }
     requires { ⌜ Held textFormat (now area) n ⌝ }
-    ensures { λ r. ⌜ Grows textFormat (append textFormat (length (now (area .entry))) (unescaped (now (src .entry)) flags i c)) (now (area .entry)) n r (now (area .exit)) ⌝ }
+    ensures { λ r. ⌜
+        Grows textFormat (append textFormat (length (before area)) (unescaped (before src) flags i c))
+        (before area) n r (after area)
+        ⌝ }
 {
     let classes = &CLASS;
     let z = rewritten_end(src, i, c);

@@ -5,6 +5,7 @@ ghost use mathlib.Core.Path.{_≡_};
 ghost use Prim.Native.Nat.{_<_};
 ghost use lib.ListN.{length};
 ghost use Rattle.characters.specs.Walk.{Between};
+ghost use Rattle.area.specs.Contracts.{before, after};
 ghost use Rattle.area.specs.Contents.{faultFormat, contents};
 ghost use Rattle.fault.specs.Faults.{HeldFaults, GrowsFaults, nextNumber, addFault, startsFault, isFault, findFault, faultEnd, addSpan, addPair, addRepeat};
 use area::Appended;
@@ -143,7 +144,10 @@ fn add_span(area: &mut [u8], n: u16, j: usize, start: u16, end: u16) -> Appended
 // A fault of two spans behind the others: that of the name at first, and that of its first repeat. Both fit, or none is written.
 fn add_pair(area: &mut [u8], n: u16, kind: u16, first: Span, second: Span) -> Appended
     requires { ⌜ HeldFaults (now area) n ⌝ }
-    ensures { λ r. ⌜ GrowsFaults (addPair (length (now (area .entry))) kind (first .start) (first .end) (second .start) (second .end)) (now (area .entry)) n r (now (area .exit)) ⌝ }
+    ensures { λ r. ⌜
+        GrowsFaults (addPair (length (before area)) kind (first .start) (first .end) (second .start) (second .end))
+        (before area) n r (after area)
+        ⌝ }
 {
     let count = n as usize;
     if has_room(area.len(), FAULT_WIDTH, MOST_OTHERS, count, 2) {
@@ -177,7 +181,10 @@ pub fn add_duplicate_occurrence(
     second: Span,
 ) -> Appended
     requires { ⌜ HeldFaults (now area) n ⌝ }
-    ensures { λ r. ⌜ GrowsFaults (addRepeat (length (now (area .entry))) kind (first .start) (first .end) (second .start) (second .end)) (now (area .entry)) n r (now (area .exit)) ⌝ }
+    ensures { λ r. ⌜
+        GrowsFaults (addRepeat (length (before area)) kind (first .start) (first .end) (second .start) (second .end))
+        (before area) n r (after area)
+        ⌝ }
 {
     let start = first.start;
     let end = first.end;

@@ -20,7 +20,7 @@ use Rattle.area.proofs.Fields.{bytes-length}
 use Rattle.area.proofs.Contents.{rule-sound}
 use Rattle.parse.specs.Parse.{Contents}
 use Rattle.sheet_check.specs.declared.Sizes.{Sizes}
-use Rattle.sheet_check.specs.SheetCheck.{SheetBytes, sheetBytes, nameIn, count, decoded, sizesOf, mark, ordered, within, declared, bytesAt, goodRule, goodRecords, sheetCheck}
+use Rattle.sheet_check.specs.SheetCheck.{SheetBytes, sheetBytes, nameIn, count, decoded, sizesOf, mark, ordered, within, declared, textBytes, goodRule, goodRecords, sheetCheck}
 use Rattle.area.specs.Lists.{all}
 use Rattle.sheet_check.proofs.Checked.{GoodRecords, good-rule, checked-sizes, checked-long, checked-records, rules-count}
 use Rattle.link.specs.declared.LinkAnswer.the-variants.{Linked, BrokenSheet, BrokenMap, AreaFull}
@@ -86,7 +86,7 @@ mark-good z has i x m e = ap rest m ∙ ap rest (sym (le-leb (x .«has_id») 1 (
         marked && mark (x .named) && mark (x .place)
         && ordered (x .«span_start») (x .«span_end») (z .source)
         && within (x .«name_from») (x .«name_length») (z .source)
-        && within (x .«text_from») (x .«text_length») (bytesAt z (x .place))
+        && within (x .«text_from») (x .«text_length») (textBytes z (x .place))
         && within (x .«list_from») (x .«list_count») (z .entries)
         && leb (x .operation) 3 && declared (z .states) (x .target)
 

@@ -16,5 +16,5 @@ abbrev pub rulesIn : Bytes → ℕ → List Rule
 rulesIn area count = contents ruleFormat (before area) count
 
 -- the name of each rule, in a source
-abbrev pub namesIn : Bytes → Rule → List ℕ
-namesIn src = nameOf (before src)
+abbrev pub ruleNamesIn : Bytes → Rule → List ℕ
+ruleNamesIn src = nameOf (before src)

@@ -12,7 +12,7 @@ ghost use Rattle.link.specs.Index.{EntryIndex, RuleIndex};
 ghost use Rattle.link.specs.Link.{unmapped, unused, fits, linkLeft, linkAll, linkChecked, linkCall};
 ghost use Rattle.sheet_check.specs.Contracts.{sheetIn};
 ghost use Rattle.area.specs.Contracts.{before, after};
-ghost use Rattle.link.specs.Contracts.{mapIn, rulesIn, namesIn};
+ghost use Rattle.link.specs.Contracts.{mapIn, rulesIn, ruleNamesIn};
 use crate::LinkAnswer;
 use crate::index::SLOTS;
 use crate::index::check_map;
@@ -42,8 +42,8 @@ fn write_all(
     rule_slots: &[u16],
     area7: &mut [u8],
     area8: &mut [u8],
-    missing: u16,
-    idle: u16,
+    unmapped_count: u16,
+    unused_count: u16,
 ) -> LinkAnswer
     requires { ⌜ (rules ≤ mostRules) × (rules * ruleWidth ≤ length (now area2)) ⌝ }
     requires { ⌜ entryCount (now entries) ≤ mostEntries ⌝ }
@@ -59,7 +59,7 @@ fn write_all(
         ⌝ }
     ensures { λ r. ⌜
         linkLeft r (after area2) (after area7) (after area8)
-        ≡ linkAll (namesIn src) (Linked missing idle) (rulesIn area2 rules) (mapIn names entries) (before area2) (before area7) (before area8)
+        ≡ linkAll (ruleNamesIn src) (Linked «unmapped_count» «unused_count») (rulesIn area2 rules) (mapIn names entries) (before area2) (before area7) (before area8)
         ⌝ }
 {
     clear(area8);
@@ -67,7 +67,7 @@ fn write_all(
     link_rules(src, area2, rules, names, entries, entry_slots);
     clear(area7);
     write_unlinked(area2, rules, area7);
-    LinkAnswer::Linked(missing, idle)
+    LinkAnswer::Linked(unmapped_count, unused_count)
 }
 
 // A sheet and a map that passed their checks.
@@ -86,17 +86,17 @@ fn link_checked(
     requires { ⌜ entryCount (now entries) ≤ mostEntries ⌝ }
     ensures { λ r. ⌜
         linkLeft r (after area2) (after area7) (after area8)
-        ≡ linkChecked (namesIn src) (rulesIn area2 rules) (mapIn names entries) (before area2) (before area7) (before area8)
+        ≡ linkChecked (ruleNamesIn src) (rulesIn area2 rules) (mapIn names entries) (before area2) (before area7) (before area8)
         ⌝ }
 {
-    let missing = count_unmapped(src, area2, rules, names, entries, entry_slots);
-    if area7.len() < missing as usize * NUMBER_WIDTH {
+    let unmapped_count = count_unmapped(src, area2, rules, names, entries, entry_slots);
+    if area7.len() < unmapped_count as usize * NUMBER_WIDTH {
         return LinkAnswer::AreaFull(UNMAPPED_AREA);
     }
     let mut rule_slots = [0; SLOTS];
     index_rules(src, area2, rules, &mut rule_slots);
-    let idle = count_unused(src, area2, rules, &rule_slots, names, entries);
-    if area8.len() < idle as usize * NUMBER_WIDTH {
+    let unused_count = count_unused(src, area2, rules, &rule_slots, names, entries);
+    if area8.len() < unused_count as usize * NUMBER_WIDTH {
         return LinkAnswer::AreaFull(UNUSED_AREA);
     }
     write_all(
@@ -109,8 +109,8 @@ fn link_checked(
         &rule_slots,
         area7,
         area8,
-        missing,
-        idle,
+        unmapped_count,
+        unused_count,
     )
 }
 

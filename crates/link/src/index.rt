@@ -12,7 +12,7 @@ ghost use Rattle.names.specs.Names.{nameOf};
 ghost use Rattle.link.specs.Link.{isUnused};
 ghost use Rattle.link.specs.Index.{slotCount, Slot, EntrySlots, RuleIndex, EntryIndex, EntriesIndexed, MapChecked};
 ghost use Rattle.area.specs.Contracts.{before, after};
-ghost use Rattle.link.specs.Contracts.{mapIn, rulesIn, namesIn};
+ghost use Rattle.link.specs.Contracts.{mapIn, rulesIn, ruleNamesIn};
 use crate::map::MAP_WIDTH;
 use crate::map::find_entry;
 use crate::map::has_name;
@@ -153,7 +153,7 @@ pub fn find_by(
 // ---- rules
 
 fn rule_slot(src: &[u8], x: Rule) -> usize
-    ensures { λ r. ⌜ Slot (namesIn src x) r ⌝ }
+    ensures { λ r. ⌜ Slot (ruleNamesIn src x) r ⌝ }
 {
     let from = x.name_from as usize;
     slot_of(src, from, from + x.name_length as usize)
@@ -163,7 +163,7 @@ fn rule_slot(src: &[u8], x: Rule) -> usize
 pub fn index_rules(src: &[u8], area: &[u8], count: u16, slots: &mut [u16])
     requires { ⌜ count * ruleWidth ≤ length (now area) ⌝ }
     requires { ⌜ now slots ≡ replicate slotCount 0 ⌝ }
-    ensures { λ _. ⌜ RuleIndex (namesIn src) (before area) count (after slots) ⌝ }
+    ensures { λ _. ⌜ RuleIndex (ruleNamesIn src) (before area) count (after slots) ⌝ }
 {
     let mut k = 0;
     while k < count {
@@ -190,7 +190,7 @@ pub fn is_unused_by(
     requires { ⌜ count * ruleWidth ≤ length (now area) ⌝ }
     requires { ⌜ RuleIndex (nameOf (now src)) (now area) count (now slots) ⌝ }
     requires { ⌜ j < entryCount (now entries) ⌝ }
-    ensures { λ r. ⌜ r ≡ isUnused (namesIn src) (rulesIn area count) (nth (mapIn names entries) j .name) ⌝ }
+    ensures { λ r. ⌜ r ≡ isUnused (ruleNamesIn src) (rulesIn area count) (nth (mapIn names entries) j .name) ⌝ }
 {
     let at = entry_slot(names, entries, j);
     let number = read_slot(slots, at);

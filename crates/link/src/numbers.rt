@@ -12,7 +12,7 @@ ghost use Rattle.link.specs.Map.{mostEntries, entryCount, entriesOf, nth
 ghost use Rattle.link.specs.Link.{isUnmapped, isUnlinked, hasThatName, isUnused, unlinked, unmapped, unused, fits};
 ghost use Rattle.link.specs.Index.{EntryIndex, RuleIndex};
 ghost use Rattle.area.specs.Contracts.{before, after};
-ghost use Rattle.link.specs.Contracts.{mapIn, rulesIn, namesIn};
+ghost use Rattle.link.specs.Contracts.{mapIn, rulesIn, ruleNamesIn};
 use crate::index::is_unused_by;
 use crate::map::MAP_WIDTH;
 use crate::map::has_name;
@@ -36,7 +36,7 @@ fn write_number(into: &mut [u8], n: u16, number: u16)
 
 fn is_unmapped(src: &[u8], names: &[u8], entries: &[u8], slots: &[u16], x: Rule) -> bool
     requires { ⌜ EntryIndex (now names) (now entries) (now slots) ⌝ }
-    ensures { λ r. ⌜ r ≡ isUnmapped (namesIn src) (mapIn names entries) x ⌝ }
+    ensures { λ r. ⌜ r ≡ isUnmapped (ruleNamesIn src) (mapIn names entries) x ⌝ }
 {
     if x.named != 1 {
         return false;
@@ -54,7 +54,7 @@ pub fn count_unmapped(
 ) -> u16
     requires { ⌜ EntryIndex (now names) (now entries) (now slots) ⌝ }
     requires { ⌜ count * ruleWidth ≤ length (now area) ⌝ }
-    ensures { λ r. ⌜ r ≡ length (unmapped (namesIn src) (mapIn names entries) (rulesIn area count)) ⌝ }
+    ensures { λ r. ⌜ r ≡ length (unmapped (ruleNamesIn src) (mapIn names entries) (rulesIn area count)) ⌝ }
 {
     let mut n = 0;
     let mut k = 0;
@@ -100,7 +100,7 @@ pub fn write_unlinked(area: &[u8], count: u16, into: &mut [u8])
 
 pub fn has_that_name(src: &[u8], x: Rule, names: &[u8], entries: &[u8], j: usize) -> bool
     requires { ⌜ j < entryCount (now entries) ⌝ }
-    ensures { λ r. ⌜ r ≡ hasThatName (namesIn src) (nth (mapIn names entries) j .name) x ⌝ }
+    ensures { λ r. ⌜ r ≡ hasThatName (ruleNamesIn src) (nth (mapIn names entries) j .name) x ⌝ }
 {
     if x.named != 1 {
         return false;
@@ -119,7 +119,7 @@ pub fn is_unused(
 ) -> bool
     requires { ⌜ count * ruleWidth ≤ length (now area) ⌝ }
     requires { ⌜ j < entryCount (now entries) ⌝ }
-    ensures { λ r. ⌜ r ≡ isUnused (namesIn src) (rulesIn area count) (nth (mapIn names entries) j .name) ⌝ }
+    ensures { λ r. ⌜ r ≡ isUnused (ruleNamesIn src) (rulesIn area count) (nth (mapIn names entries) j .name) ⌝ }
 {
     let mut k = 0;
     while k < count {
@@ -142,7 +142,7 @@ pub fn count_unused(
     requires { ⌜ RuleIndex (nameOf (now src)) (now area) count (now slots) ⌝ }
     requires { ⌜ count * ruleWidth ≤ length (now area) ⌝ }
     requires { ⌜ entryCount (now entries) ≤ mostEntries ⌝ }
-    ensures { λ r. ⌜ r ≡ length (unused (namesIn src) (mapIn names entries) (rulesIn area count)) ⌝ }
+    ensures { λ r. ⌜ r ≡ length (unused (ruleNamesIn src) (mapIn names entries) (rulesIn area count)) ⌝ }
 {
     let most = entries.len() / MAP_WIDTH;
     let mut n = 0;
@@ -176,7 +176,7 @@ pub fn write_unused(
         fits (unused (nameOf (now src)) (entriesOf (now names) (now entries)) (contents ruleFormat (now area) count)) (now into)
         ≡ true
         ⌝ }
-    ensures { λ _. ⌜ after into ≡ laid entryFormat (length (before into)) (unused (namesIn src) (mapIn names entries) (rulesIn area count)) ⌝ }
+    ensures { λ _. ⌜ after into ≡ laid entryFormat (length (before into)) (unused (ruleNamesIn src) (mapIn names entries) (rulesIn area count)) ⌝ }
 {
     let most = entries.len() / MAP_WIDTH;
     let mut n = 0;

@@ -9,7 +9,7 @@ ghost use Rattle.link.specs.Map.{entryCount, findEntry};
 ghost use Rattle.link.specs.Link.{withId, linkRule, linkRules};
 ghost use Rattle.link.specs.Index.{EntryIndex};
 ghost use Rattle.area.specs.Contracts.{before, after};
-ghost use Rattle.link.specs.Contracts.{mapIn, rulesIn, namesIn};
+ghost use Rattle.link.specs.Contracts.{mapIn, rulesIn, ruleNamesIn};
 use crate::index::find_by;
 use crate::map::MAP_WIDTH;
 use crate::map::read_map_entry;
@@ -20,7 +20,7 @@ use area::read_rule;
 // The entry with a rule's name, or the number of entries.
 pub fn entry_of(src: &[u8], names: &[u8], entries: &[u8], slots: &[u16], x: Rule) -> usize
     requires { ⌜ EntryIndex (now names) (now entries) (now slots) ⌝ }
-    ensures { λ r. ⌜ Between 0 (entryCount (before entries)) (findEntry (mapIn names entries) (namesIn src x)) r ⌝ }
+    ensures { λ r. ⌜ Between 0 (entryCount (before entries)) (findEntry (mapIn names entries) (ruleNamesIn src x)) r ⌝ }
 {
     let from = x.name_from as usize;
     find_by(
@@ -44,7 +44,7 @@ fn with_id(x: Rule, has: u16, id: u16) -> Rule
 
 fn link_rule(src: &[u8], names: &[u8], entries: &[u8], slots: &[u16], x: Rule) -> Rule
     requires { ⌜ EntryIndex (now names) (now entries) (now slots) ⌝ }
-    ensures { λ r. ⌜ r ≡ linkRule (namesIn src) (mapIn names entries) x ⌝ }
+    ensures { λ r. ⌜ r ≡ linkRule (ruleNamesIn src) (mapIn names entries) x ⌝ }
 {
     if x.named != 1 {
         return x;
@@ -68,7 +68,7 @@ pub fn link_rules(
 )
     requires { ⌜ EntryIndex (now names) (now entries) (now slots) ⌝ }
     requires { ⌜ (count ≤ mostRules) × (count * ruleWidth ≤ length (now area)) ⌝ }
-    ensures { λ _. ⌜ after area ≡ relaid ruleFormat (before area) (linkRules (namesIn src) (mapIn names entries) (rulesIn area count)) ⌝ }
+    ensures { λ _. ⌜ after area ≡ relaid ruleFormat (before area) (linkRules (ruleNamesIn src) (mapIn names entries) (rulesIn area count)) ⌝ }
 {
     let mut k = 0;
     while k < count {

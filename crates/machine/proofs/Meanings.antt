@@ -18,7 +18,7 @@ use Rattle.link.specs.Map.{Entry}
 use Rattle.run.specs.declared.Step.the-variants.{RowMismatch, Done, Stopped}
 use Rattle.run.specs.Run.{Input}
 use Rattle.machine.specs.File.{FileState, FileRule}
-use Rattle.machine.specs.Machine.{Given, Machine, currentState, lengths, fits, notAbove, has, isEmpty, isLive, Winner, winner, before, winnerOf, idIn, Answered, answered, token, wins, chooses, step}
+use Rattle.machine.specs.Machine.{Given, Machine, currentState, lengths, fits, notAbove, has, isEmpty, isLive, Winner, winner, firstOrLonger, winnerOf, idIn, Answered, answered, token, wins, chooses, step}
 use Rattle.machine.specs.Means.{lengthAt, Fitting, Misfit, Has, Live, Won, EntryOf, Means}
 use Rattle.machine.proofs.Options.{some-is, none-some, place-inside}
 
@@ -178,8 +178,8 @@ module _ (live : FileRule → Bool) (x : FileRule) (xs : List FileRule) (l : ℕ
       early zero y h q t = less
       early (suc k) y h q t = p .earliest k y (omega arith) q t
 
-  alive : live x ≡ true → (o : Option Winner) → Picks live xs ls o → Picks live (x ∷ xs) (l ∷ ls) (before x l o)
-  unfolding before
+  alive : live x ≡ true → (o : Option Winner) → Picks live xs ls o → Picks live (x ∷ xs) (l ∷ ls) (firstOrLonger x l o)
+  unfolding firstOrLonger
   alive e none p = first-found e (λ k y q t. absurd (p k y q t))
   alive e (some w) p =
       by-test (Picks live (x ∷ xs) (l ∷ ls)) (ltb l (w .bytes)) (some w) (some (winner x l)) (λ q. later-found w (ltb-true l (w .bytes) q) p)
@@ -192,7 +192,7 @@ picked states state [] ls h = λ k x e t. none-some x e
 picked states state (x ∷ xs) [] h = absurd (omega arith)
 picked states state (x ∷ xs) (l ∷ ls) h =
     let p = picked states state xs ls (omega arith) in
-    by-test (Picks (isLive states state) (x ∷ xs) (l ∷ ls)) (isLive states state x) (before x l (winnerOf states state xs ls)) (winnerOf states state xs ls)
+    by-test (Picks (isLive states state) (x ∷ xs) (l ∷ ls)) (isLive states state x) (firstOrLonger x l (winnerOf states state xs ls)) (winnerOf states state xs ls)
     (λ e. alive (isLive states state) x xs l ls e (winnerOf states state xs ls) p) (λ e. dead (isLive states state) x xs l ls e (winnerOf states state xs ls) p)
 
 -- ---- ids

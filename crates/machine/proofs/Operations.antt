@@ -10,14 +10,12 @@ use borrow.Author.Tests.{ne-eqb}
 use lib.Dec.{eqb}
 use lib.ListN.{length, take, length-append}
 use lib.Seq.{length-take-le}
-use Rattle.text.specs.Range.{part}
 use Rattle.area.specs.declared.State.{State}
 use Rattle.area.specs.declared.Rule.{Rule}
 use Rattle.area.specs.Records.{entryWidth, nthRule}
 use Rattle.area.specs.Contents.{entryFormat, relaid}
 use Rattle.parse.specs.Parse.{Contents}
 use Rattle.link.specs.Map.{Entry, idOf}
-use Rattle.names.specs.Names.{nameOf}
 use Rattle.link.specs.Link.{isNamed, withId, withFound, linkRule, linkRules}
 use Rattle.link.proofs.LinkLaws.{link-changes-ids}
 use Rattle.link.proofs.Outcomes.{link-at}

@@ -71,13 +71,13 @@ module _ (name : Rule → List ℕ) (c : Contents) (es : List Entry) (limit : �
       ap (λ (l : Lexer). length (l .states)) (sheet .reads) ∙ sym (length-map (c .states) fileState) in
       let w = always b (sheet .checks) n x started is in
       let sound-first = subst (λ (k : ℕ). SoundRun k n size (startCall n x .after)) states (w .first) in
-      let sound-each = subst (λ (k : ℕ). EachCall (SoundCall k n size) (calls b (startCall n x .after) is)) states (w .each) in
+      let sound-each = subst (λ (k : ℕ). EachCall (SoundCall k n size) (startCall n x .after) (calls b (startCall n x .after) is)) states (w .each) in
       let left = start-as n x started in
       let runs : Runs g size fresh first = record {
         sound = subst (λ (z : RunLeft Begun). SoundAs g size (z .after)) left sound-first;
         begins = start-begins n x started;
       } in
-      let each = subst (λ (z : RunLeft Begun). AllSound g size (calls b (z .after) is)) left sound-each in
+      let each = subst (λ (z : RunLeft Begun). AllSound g size (z .after) (calls b (z .after) is)) left sound-each in
       let places = place-next [] (fresh .stack) (x .stack) (x .stack) (place-first (x .stack)) in
       subst⁻¹ (Followed (fileIn name c) es) left (
         as-machine g fresh [] (x .stack) first runs places,

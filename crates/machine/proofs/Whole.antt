@@ -11,7 +11,7 @@ use Rattle.link.specs.Map.{Entry}
 use Rattle.run.specs.declared.Step.{Step}
 use Rattle.run.specs.declared.Step.the-variants.{Unlinked}
 use Rattle.run.specs.Winner.{Lexer, lexerOf}
-use Rattle.run.specs.Run.{running, Input, RunLeft, stepRun, stepCall}
+use Rattle.run.specs.Run.{Running, running, Input, RunLeft, stepRun, stepCall}
 use Rattle.run_laws.specs.Calls.{calls, EachCall}
 use Rattle.run_laws.specs.Always.{SoundCall}
 use Rattle.machine.specs.File.{fileIn}
@@ -71,14 +71,14 @@ linked-answer g m i a next h held e = go (subst (λ (z : Step). Means g m i z ne
 -- ---- all calls
 
 -- each of them is sound
-abbrev pub AllSound : Given → ℕ → List (RunLeft Step) → Type 0
-AllSound g size os = EachCall (SoundCall (length (g .file .states)) (g .n) size) os
+abbrev pub AllSound : Given → ℕ → Running → List (RunLeft Step) → Type 0
+AllSound g size x os = EachCall (SoundCall (length (g .file .states)) (g .n) size) x os
 
 -- over a stack whose bytes were s before the start call
 module _ (g : Given) (differ : Distinct (g .map)) (b : SheetBytes) (by-machine : Calls g b) (s : List ℕ) where
   -- from the machine m on, which held these stacks before
   pub follows : (is : List Input) (m : Machine) (held : List (List ℕ)) (l : List ℕ) → Runs g (length s) m l → Places (m .stack ∷ held) s l
-      → AllSound g (length s) (calls b (running (runAs (g .n) m) l) is) → Follows g s m held is (calls b (running (runAs (g .n) m) l) is)
+      → (let x : Running = running (runAs (g .n) m) l in AllSound g (length s) x (calls b x is) → Follows g s m held is (calls b x is))
   unfolding calls EachCall Follows
   follows [] m held l h places sound = tt
   follows (i ∷ is) m held l h places sound =
@@ -86,7 +86,7 @@ module _ (g : Given) (differ : Distinct (g .map)) (b : SheetBytes) (by-machine :
       let a : Step = step g m i .answer in
       let meant = means g m i in
       let left = by-machine .called (length s) m l i h in
-      let each = subst (λ (o : RunLeft Step). AllSound g (length s) (o ∷ calls b (o .after) is)) left sound in
+      let each = subst (λ (o : RunLeft Step). AllSound g (length s) (running (runAs (g .n) m) l) (o ∷ calls b (o .after) is)) left sound in
       let runs = next-runs g (length s) m l h next (each .0 .after) in
       let stand = place-next (m .stack ∷ held) (next .stack) s l places in
       subst⁻¹ (λ (o : RunLeft Step). Follows g s m held (i ∷ is) (o ∷ calls b (o .after) is)) left (

@@ -17,7 +17,7 @@ use Rattle.link.specs.Computing.{computing as link-computing}
 use Rattle.run.specs.Computing.{computing as run-computing}
 use Rattle.machine.specs.Demand.{lastHeld, Follows, DEMAND}
 use Rattle.machine.specs.File.{operationBy, nameAt, nameFrom, mapOf, fileOf}
-use Rattle.machine.specs.Machine.{lengths, fits, has, isEmpty, isLive, before, winnerOf, idIn, operate, move, token, wins, chooses, step}
+use Rattle.machine.specs.Machine.{lengths, fits, has, isEmpty, isLive, firstOrLonger, winnerOf, idIn, operate, move, token, wins, chooses, step}
 use Rattle.machine.specs.Words.{FollowsInWords, callsInWords, IN-WORDS}
 
 unfoldable demand-file : Unit {0}
@@ -29,7 +29,7 @@ unfolding operationBy nameAt nameFrom mapOf fileOf
 file-file = tt
 
 unfoldable machine-file : Unit {0}
-unfolding lengths fits has isEmpty isLive before winnerOf idIn operate move token wins chooses step
+unfolding lengths fits has isEmpty isLive firstOrLonger winnerOf idIn operate move token wins chooses step
 machine-file = tt
 
 unfoldable words-file : Unit {0}

@@ -78,9 +78,9 @@ abbrev pub winner : FileRule → ℕ → Winner
 winner x l = record { rule = x; bytes = l }
 
 -- a live rule before others wins unless one of them is longer
-unfoldable pub before : FileRule → ℕ → Option Winner → Option Winner
-before x l none = some (winner x l)
-before x l (some w) = cond (ltb l (w .bytes)) (some w) (some (winner x l))
+unfoldable pub firstOrLonger : FileRule → ℕ → Option Winner → Option Winner
+firstOrLonger x l none = some (winner x l)
+firstOrLonger x l (some w) = cond (ltb l (w .bytes)) (some w) (some (winner x l))
 
 -- the greatest length among live rules, the earlier rule at a tie
 unfoldable pub winnerOf : List FileState → ℕ → List FileRule → List ℕ → Option Winner
@@ -88,7 +88,7 @@ winnerOf states state [] ls = none
 winnerOf states state (x ∷ xs) [] = none
 winnerOf states state (x ∷ xs) (l ∷ ls) =
     let w = winnerOf states state xs ls in
-    cond (isLive states state x) (before x l w) w
+    cond (isLive states state x) (firstOrLonger x l w) w
 
 -- ---- a step
 

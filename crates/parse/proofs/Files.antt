@@ -49,7 +49,7 @@ use Rattle.parse.specs.declared.Parsed.{Parsed}
 use Rattle.parse.specs.declared.Parsed.the-variants.{Clean, Faulty, Short}
 use Rattle.parse.specs.Parse.{Caps, Outcome, accepted, faulty, areaFull, caps, closed, ending, judge, contentsOf, rulesFrom, undeclared}
 use Rattle.parse.specs.Parse.{withStates, opening, file}
-use Rattle.rules_section.specs.Answers.{ruleProgress, ruledIn, HeldRuled, ruleCounts, sizesOf}
+use Rattle.rules_section.specs.Answers.{ruleProgress, ruledIn, HeldRuled, ruleCounts, ruleCapsOf}
 use Rattle.parse.specs.Answers.{closedBy, judgedBy, contentsIn, HeldFile, Parses, Zeroed}
 
 -- ---- state 0 and the declarations
@@ -230,7 +230,7 @@ module _ (asked : Request) (l1 l2 l3 l4 l5 l6 : List ℕ) (zero : Zeroed l1 l2 l
 
   module _ (i : ℕ) (c : DeclarationCounts) (went : r ≡ Declaring.Go i c) where
     module _ (v2 v3 v4 x6 : List ℕ) (q : RuleProgress)
-        (g : Does (HeldRuled v2 v3 v4 x6) (rulesSection asked (contents stateFormat v1 (c .states)) (sizesOf (length l2) (length l3) (length l4))
+        (g : Does (HeldRuled v2 v3 v4 x6) (rulesSection asked (contents stateFormat v1 (c .states)) (ruleCapsOf (length l2) (length l3) (length l4))
         (length w6) i) (ruledIn l2 l3 l4 w6 (ruleCounts 0 0 0 (c .faults))) (ruledIn v2 v3 v4 x6) (ruleProgress q))
         (long : length w6 ≡ length l6) where
       abbrev last : ℕ → Ruled → Outcome
@@ -241,7 +241,7 @@ module _ (asked : Request) (l1 l2 l3 l4 l5 l6 : List ℕ) (zero : Zeroed l1 l2 l
       ruled o z =
           opened (go i c) (ap declarationProgress went)
           ∙ ap (λ (m : ℕ). ending (λ x. x .faults) (length l6)
-          (rulesSection asked (contents stateFormat v1 (c .states)) (sizesOf (length l2) (length l3) (length l4)) m i
+          (rulesSection asked (contents stateFormat v1 (c .states)) (ruleCapsOf (length l2) (length l3) (length l4)) m i
           (ruledIn l2 l3 l4 w6 (ruleCounts 0 0 0 (c .faults)))) last) (sym long)
           ∙ ap (λ (x : Out Ruled). ending (λ x. x .faults) (length l6) x last) (g .says ∙ ap (onto (ruledIn v2 v3 v4 x6)) z)
 

@@ -15,7 +15,7 @@ use Rattle.area.specs.Records.{stateOf, ruleOf, expectedOf, nthRule}
 use Rattle.section.specs.Request.{Request}
 use Rattle.parse.specs.Parse.{Contents, Caps, outcome, accepted, sheetLeft}
 use Rattle.sheet_check.specs.declared.Sizes.{Sizes}
-use Rattle.sheet_check.specs.SheetCheck.{sizesOf, goodCounts, declared, bytesAt, goodState, goodRule, goodExpected, goodRecords}
+use Rattle.sheet_check.specs.SheetCheck.{sizesOf, goodCounts, declared, textBytes, goodState, goodRule, goodExpected, goodRecords}
 use Rattle.area.specs.Lists.{all}
 use Rattle.names.specs.Names.{nameOf}
 use Rattle.parsed_sheet.specs.Accepted.{StateHolds, ExpectedHolds, EntryHolds, RuleHolds, ContentsHold, ContentsFit, isByte, sheetLeftBy}
@@ -36,7 +36,7 @@ module _ (z : Sizes) where
   rule-good : (j : ℕ) (x : Rule) → RuleHolds (z .source) (z .states) (z .entries) (z .text) j x → goodRule z x ≡ true
   unfolding goodRule
   rule-good j x h =
-      rw (h .hasId, le-leb (x .named) 1 (h .named), le-leb (x .place) 1 (h .place), le-leb (x .«span_start») (x .«span_end») (h .ordered), le-leb (x .«span_end») (z .source) (h .inside), le-leb (x .«name_from» + x .«name_length») (z .source) (h .name), le-leb (x .«text_from» + x .«text_length») (bytesAt z (x .place)) (h .text), le-leb (x .«list_from» + x .«list_count») (z .entries) (h .list), le-leb (x .operation) 3 (h .operation), lt-ltb (x .target) (z .states) (h .target))
+      rw (h .hasId, le-leb (x .named) 1 (h .named), le-leb (x .place) 1 (h .place), le-leb (x .«span_start») (x .«span_end») (h .ordered), le-leb (x .«span_end») (z .source) (h .inside), le-leb (x .«name_from» + x .«name_length») (z .source) (h .name), le-leb (x .«text_from» + x .«text_length») (textBytes z (x .place)) (h .text), le-leb (x .«list_from» + x .«list_count») (z .entries) (h .list), le-leb (x .operation) 3 (h .operation), lt-ltb (x .target) (z .states) (h .target))
 
 -- ---- the contents
 

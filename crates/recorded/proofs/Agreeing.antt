@@ -1,5 +1,5 @@
 -- An answer true of a comparison of several parts says that each part is what was recorded.
-use Prim.Native.Nat.{ℕ, _+_, _*_, _-_, _≤_}
+use Prim.Native.Nat.{ℕ, _+_, _-_, _≤_}
 use mathlib.Core.Path.{_≡_, refl, sym, ap, subst, _∙_}
 use mathlib.Core.Bool.{Bool, true, false, _&&_, false≢true}
 use mathlib.Core.List.{List}
@@ -10,7 +10,7 @@ use lib.ListN.{length, take, drop}
 use lib.Seq.{length-take-le}
 use borrow.Author.Needs.{needs}
 use borrow.Author.Tests.{eqb-true}
-use Rattle.area.specs.Bytes.{pad, fieldAt}
+use Rattle.area.specs.Bytes.{pad}
 use Rattle.recorded.specs.declared.compared.Compared.{Compared}
 use Rattle.recorded.specs.Records.{numberAt, skipTo, bytesEnd, bytesAt, lentAt, countsFrom, areasAt, fourthAt, areasEnd, Skips, Ends}
 use Rattle.recorded.specs.Comparison.{WhenTrue, AreaHolds, CountsAre, AreaIs, ThreeAre, NumbersAre, LeftIs, Compares}

@@ -125,12 +125,12 @@ fn same_numbers(answers: &[u8], lengths: usize, word: u64, counts: &[u16]) -> Co
         ⌝ }
 {
     let at = skip(answers, lengths, 24);
-    let tally = skip(answers, at, 4);
+    let recorded_counts = skip(answers, at, 4);
     let same = word == number(answers, at) as u64;
-    let equal = same & counted(counts, answers, tally);
+    let equal = same & counted(counts, answers, recorded_counts);
     Compared {
         equal: equal,
-        next: skip(answers, tally, 12),
+        next: skip(answers, recorded_counts, 12),
     }
 }
 

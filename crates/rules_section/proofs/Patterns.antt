@@ -32,7 +32,7 @@ use Rattle.rules_section.specs.RulesSection.{listedRule, rewrittenRule, 
 use Rattle.rules_section.specs.declared.SheetCounts.{SheetCounts}
 use Rattle.rules_section.specs.declared.SheetProgress.{SheetProgress}
 use Rattle.rules_section.specs.declared.SheetProgress.the-variants.{Go, Bad, Full}
-use Rattle.rules_section.specs.Answers.{sheetProgress, sheetIn, HeldSheet, sheetCounts, sizesOf}
+use Rattle.rules_section.specs.Answers.{sheetProgress, rulesSheetIn, HeldSheet, sheetCounts, ruleCapsOf}
 
 -- ---- what becomes of a pattern, by what it is
 
@@ -89,13 +89,13 @@ rules-held h = h .rules
 module _ (asked : Request) (i e : ℕ) (h : Head) (c : ℕ) (xs : List State) (l2 l3 l4 : List ℕ) (q : SheetCounts) (held : HeldSheet l2 l3 l4 q)
     (b : Body) (is : b ≡ bodyOf (asked .source) i c) where
   abbrev caps : Caps
-  caps = sizesOf (length l2) (length l3) (length l4)
+  caps = ruleCapsOf (length l2) (length l3) (length l4)
 
   abbrev before : Sheet
-  before = sheetIn l2 l3 l4 q
+  before = rulesSheetIn l2 l3 l4 q
 
   abbrev Done : List ℕ → List ℕ → List ℕ → Out SheetCounts → Type 0
-  Done v2 v3 v4 o = Does (HeldSheet v2 v3 v4) (pattern asked caps i e h c xs) before (sheetIn v2 v3 v4) o
+  Done v2 v3 v4 o = Does (HeldSheet v2 v3 v4) (pattern asked caps i e h c xs) before (rulesSheetIn v2 v3 v4) o
 
   -- the rule of a text and a list, behind what is written
   abbrev made : Text → StateList → Sheet → Out Sheet
@@ -140,7 +140,7 @@ module _ (asked : Request) (i e : ℕ) (h : Head) (c : ℕ) (xs : List State) (l
         → Done v2 l3′ l4′ (sheetProgress r)
     recorded l3′ l4′ m t he ht z y =
         subst (Done v2 l3′ l4′) (sym z)
-        (does-onto (λ rs. sheet rs (contents entryFormat l3′ m) (contents textFormat l4′ t)) (λ n. sheetCounts n m t) (sheetIn v2 l3′ l4′) y (λ n. refl)
+        (does-onto (λ rs. sheet rs (contents entryFormat l3′ m) (contents textFormat l4′ t)) (λ n. sheetCounts n m t) (rulesSheetIn v2 l3′ l4′) y (λ n. refl)
         (λ n g. record { rules = g; entries = he; text = ht }) (progress p) d)
 
     pub pattern-plain : b ≡ Plain → x ≡ ruleOf h (q .rules) (sourceText i c) (record { from = q .entries; count = 0 })

@@ -37,7 +37,7 @@ use Rattle.rules_section.specs.declared.SheetProgress.{SheetProgress}
 use Rattle.rules_section.specs.declared.RuleCounts.{RuleCounts}
 use Rattle.rules_section.specs.declared.RuleProgress.{RuleProgress}
 use Rattle.rules_section.specs.declared.RuleProgress.the-variants.{Go, Bad, Full}
-use Rattle.rules_section.specs.Answers.{sheetProgress, sheetIn, HeldSheet, sheetCounts, ruleProgress, ruledIn, HeldRuled, ruleCounts, sizesOf}
+use Rattle.rules_section.specs.Answers.{sheetProgress, rulesSheetIn, HeldSheet, sheetCounts, ruleProgress, ruledIn, HeldRuled, ruleCounts, ruleCapsOf}
 use Rattle.rules_section.specs.Answers.{afterFaults}
 use Rattle.rules_section.proofs.Extending.{rules-kept, names-kept}
 
@@ -67,7 +67,7 @@ fresh-inside s i e t xs rs b x is k h z l = omega (arith, fresh-to s i t xs rs x
 
 module _ (asked : Request) (xs : List State) (i e : ℕ) (l2 l3 l4 l6 : List ℕ) (q : RuleCounts) (h : HeldRuled l2 l3 l4 l6 q) where
   abbrev caps : Caps
-  caps = sizesOf (length l2) (length l3) (length l4)
+  caps = ruleCapsOf (length l2) (length l3) (length l4)
 
   abbrev before : Ruled
   before = ruledIn l2 l3 l4 l6 q
@@ -93,8 +93,8 @@ module _ (asked : Request) (xs : List State) (i e : ℕ) (l2 l3 l4 l6 : List ℕ
 
     module _ (k : ℕ) (hd : Head) (z : x ≡ Fresh k hd) where
       pub rule-fresh : (c : ℕ) → Between i (length (asked .source)) (trimEndUnescaped (asked .source) i k) c → {v2 v3 v4 : List ℕ} (p : SheetProgress)
-          → Does (HeldSheet v2 v3 v4) (pattern asked caps i e hd c xs) (sheetIn l2 l3 l4 (sheetCounts (q .rules) (q .entries) (q .text)))
-          (sheetIn v2 v3 v4) (sheetProgress p)
+          → Does (HeldSheet v2 v3 v4) (pattern asked caps i e hd c xs) (rulesSheetIn l2 l3 l4 (sheetCounts (q .rules) (q .entries) (q .text)))
+          (rulesSheetIn v2 v3 v4) (sheetProgress p)
           → (r : RuleProgress) → ruleProgress r ≡ onto (λ w. ruleCounts (w .rules) (w .entries) (w .text) (q .faults)) (sheetProgress p)
           → Done v2 v3 v4 l6 (ruleProgress r)
       unfolding ruleAs
@@ -133,7 +133,7 @@ record Sizes : Type 0 where
   six : ℕ
 
 abbrev sizes : List ℕ → List ℕ → List ℕ → List ℕ → Sizes
-sizes l2 l3 l4 l6 = record { caps = sizesOf (length l2) (length l3) (length l4); six = length l6 }
+sizes l2 l3 l4 l6 = record { caps = ruleCapsOf (length l2) (length l3) (length l4); six = length l6 }
 
 abbrev body : Request → List State → Sizes → ℕ → Ruled → Out Ruled
 body asked xs c i r = nextRule asked xs (c .caps) (c .six) i r
@@ -156,7 +156,7 @@ pub record Rules (whole : Out Ruled) (asked : Request) (xs : List State) (k2 k3 
 pub rules-start : (asked : Request) (xs : List State) (i : ℕ) (x : Line) (l2 l3 l4 l6 : List ℕ) (q : RuleCounts) → HeldRuled l2 l3 l4 l6 q
     → NextLine (asked .source) (toRule (asked .source) (asked .options .flags)) i x
     → (marks : List ℕ) → Marked (asked .source) (contents ruleFormat l2 (q .rules)) marks → DistinctNames (asked .source) (contents ruleFormat l2 (q .rules))
-    → Rules (rules asked xs (sizesOf (length l2) (length l3) (length l4)) (length l6) i (ruledIn l2 l3 l4 l6 q)) asked xs l2 l3 l4 l6 x l2 l3 l4 l6 q marks
+    → Rules (rules asked xs (ruleCapsOf (length l2) (length l3) (length l4)) (length l6) i (ruledIn l2 l3 l4 l6 q)) asked xs l2 l3 l4 l6 x l2 l3 l4 l6 q marks
 unfolding rules
 rules-start asked xs i x l2 l3 l4 l6 q h b marks m d = record {
   held = h;
@@ -170,7 +170,7 @@ rules-start asked xs i x l2 l3 l4 l6 q h b marks m d = record {
   long6 = refl;
   loops = record {
     going = rw (← b .starts .is)
-        (going-start (inSection (asked .source)) (nextRule asked xs (sizesOf (length l2) (length l3) (length l4)) (length l6)) (length (asked .source))
+        (going-start (inSection (asked .source)) (nextRule asked xs (ruleCapsOf (length l2) (length l3) (length l4)) (length l6)) (length (asked .source))
         (x .start) (ruledIn l2 l3 l4 l6 q) (length (asked .source)) (omega arith));
     same = refl;
   };
@@ -179,7 +179,7 @@ rules-start asked xs i x l2 l3 l4 l6 q h b marks m d = record {
 module _ {whole : Out Ruled} {asked : Request} {xs : List State} {k2 k3 k4 k6 : List ℕ} {here : Line} {l2 l3 l4 l6 : List ℕ} {q : RuleCounts} {marks : List ℕ}
     (x : Rules whole asked xs k2 k3 k4 k6 here l2 l3 l4 l6 q marks) (t : Bool) (tested : t ≡ inSection (asked .source) (here .start)) (pass : t ≡ true)
     {v2 v3 v4 v6 : List ℕ} (r : RuleProgress)
-    (d : Does (HeldRuled v2 v3 v4 v6) (line asked xs (sizesOf (length l2) (length l3) (length l4)) (length l6) (here .start) (here .end))
+    (d : Does (HeldRuled v2 v3 v4 v6) (line asked xs (ruleCapsOf (length l2) (length l3) (length l4)) (length l6) (here .start) (here .end))
     (ruledIn l2 l3 l4 l6 q) (ruledIn v2 v3 v4 v6) (ruleProgress r)) where
   abbrev i : ℕ
   i = here .start
@@ -191,7 +191,7 @@ module _ {whole : Out Ruled} {asked : Request} {xs : List State} {k2 k3 k4 k6 : 
   inside = in-section-inside (asked .source) i t tested pass (x .within)
 
   is-next : body asked xs (sizes l2 l3 l4 l6) i (ruledIn l2 l3 l4 l6 q)
-      ≡ next (line asked xs (sizesOf (length l2) (length l3) (length l4)) (length l6) i e (ruledIn l2 l3 l4 l6 q))
+      ≡ next (line asked xs (ruleCapsOf (length l2) (length l3) (length l4)) (length l6) i e (ruledIn l2 l3 l4 l6 q))
       (λ _ y. go (toRule (asked .source) (asked .options .flags) e) y)
   unfolding nextRule
   is-next = rw (← x .ends .is)
@@ -213,7 +213,7 @@ module _ {whole : Out Ruled} {asked : Request} {xs : List State} {k2 k3 k4 k6 : 
       held = d .goes j p (ap ruleProgress z);
       names = record {
         marked = m;
-        distinct = names-kept asked xs (sizesOf (length l2) (length l3) (length l4)) (length l6) i e (x .held) r d j p z
+        distinct = names-kept asked xs (ruleCapsOf (length l2) (length l3) (length l4)) (length l6) i e (x .held) r d j p z
             (x .names .distinct);
       };
       within = c .starts .to;
@@ -232,7 +232,7 @@ module _ {whole : Out Ruled} {asked : Request} {xs : List State} {k2 k3 k4 k6 : 
   pub rules-marked : (j : ℕ) (p : RuleCounts) → r ≡ Go j p → Marked (asked .source) (take (q .rules) (contents ruleFormat v2 (p .rules))) marks
   rules-marked j p z =
       subst (λ (ys : List Rule). Marked (asked .source) ys marks)
-      (sym (rules-kept asked xs (sizesOf (length l2) (length l3) (length l4)) (length l6) i e (x .held) r d j p z)) (x .names .marked)
+      (sym (rules-kept asked xs (ruleCapsOf (length l2) (length l3) (length l4)) (length l6) i e (x .held) r d j p z)) (x .names .marked)
 
   whole-bad : (kind at : ℕ) (p : RuleCounts) → r ≡ Bad kind at p → whole ≡ bad kind at (ruledIn v2 v3 v4 v6 p)
   whole-bad kind at p z =
@@ -264,7 +264,7 @@ module _ (asked : Request) (xs : List State) (k : Caps) (c6 i₀ : ℕ) (r₀ : 
     rules-routines z = does-bad (at-end ∙ rw (← is, z)) (x .held)
 
   module _ (pass : t ≡ true) {v2 v3 v4 v6 : List ℕ} (r : RuleProgress)
-      (d : Does (HeldRuled v2 v3 v4 v6) (line asked xs (sizesOf (length l2) (length l3) (length l4)) (length l6) (here .start) (here .end))
+      (d : Does (HeldRuled v2 v3 v4 v6) (line asked xs (ruleCapsOf (length l2) (length l3) (length l4)) (length l6) (here .start) (here .end))
       (ruledIn l2 l3 l4 l6 q) (ruledIn v2 v3 v4 v6) (ruleProgress r)) where
     pub rules-bad : (kind at : ℕ) (p : RuleCounts) → r ≡ Bad kind at p → Ended v2 v3 v4 v6 (bad kind at p)
     unfolding rulesSection

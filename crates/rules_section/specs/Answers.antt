@@ -21,8 +21,8 @@ sheetProgress (S.Bad kind at q) = bad kind at q
 sheetProgress (S.Full n) = full n
 
 -- the rules, list entries and text that areas 2, 3 and 4 hold
-abbrev pub sheetIn : List ℕ → List ℕ → List ℕ → SheetCounts → Sheet
-sheetIn l2 l3 l4 q = sheet (contents ruleFormat l2 (q .rules)) (contents entryFormat l3 (q .entries)) (contents textFormat l4 (q .text))
+abbrev pub rulesSheetIn : List ℕ → List ℕ → List ℕ → SheetCounts → Sheet
+rulesSheetIn l2 l3 l4 q = sheet (contents ruleFormat l2 (q .rules)) (contents entryFormat l3 (q .entries)) (contents textFormat l4 (q .text))
 
 -- they hold these many, and zeros behind them
 pub record HeldSheet (l2 l3 l4 : List ℕ) (q : SheetCounts) : Type 0 where
@@ -58,8 +58,8 @@ pub record HeldRuled (l2 l3 l4 l6 : List ℕ) (q : RuleCounts) : Type 0 where
 abbrev pub ruleCounts : ℕ → ℕ → ℕ → ℕ → RuleCounts
 ruleCounts r e t f = record { rules = r; entries = e; text = t; faults = f }
 
-abbrev pub sizesOf : ℕ → ℕ → ℕ → Caps
-sizesOf c2 c3 c4 = record { c2 = c2; c3 = c3; c4 = c4 }
+abbrev pub ruleCapsOf : ℕ → ℕ → ℕ → Caps
+ruleCapsOf c2 c3 c4 = record { c2 = c2; c3 = c3; c4 = c4 }
 
 -- on at e with the fault spans that p counts, or area 6 is full
 abbrev pub afterFaults : ℕ → RuleCounts → Appended → Out RuleCounts

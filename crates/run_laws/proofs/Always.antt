@@ -32,12 +32,14 @@ module _ (b : SheetBytes) (passed : sheetCheck b ≡ true) where
 
   module _ (n bytes : ℕ) where
     -- one call
-    pub call-sound : (x : Running) (i : Input) → SoundRun states n bytes x → SoundCall states n bytes (stepCall b x i)
+    pub call-sound : (x : Running) (i : Input) → SoundRun states n bytes x → SoundCall states n bytes x (stepCall b x i)
     call-sound x i h =
         let c = called b passed x (h .good) i in
         record {
           not-6 = c .not-6;
           not-9 = c .not-9;
+          unchanged = c .unchanged;
+          some-bytes = c .some-bytes;
           after = record {
             good = c .good;
             declared = current-declared states (stepCall b x i .after .run) (stepCall b x i .after .stack) (c .good);

@@ -15,15 +15,17 @@ use Rattle.run.specs.declared.Step.{Step}
 use Rattle.run.specs.declared.Step.the-variants.{BrokenSheet, BrokenRun, Skip, Token}
 use Rattle.run.specs.Run.{Running, Input, RunLeft, leaving, movesOf, goodRun, moveBy, stepCall, View, stays, view, viewFields, stepFields}
 use Rattle.run.proofs.Fitting.{run-is}
-use Rattle.run_laws.specs.Pieces.{piece, pieceOf, pieceLeft, Adjoin}
+use Rattle.run_laws.specs.Pieces.{Piece, piece, pieceOf, pieceLeft, Adjoin}
 use Rattle.run_laws.proofs.Cases.{call-cases}
 use Rattle.run_laws.proofs.Operated.{operated-good, run-good}
 
--- a call from the run x that left o: neither 6 nor 9, and the run is good again, with the same n and as many bytes of stack; its piece, if it has
--- one, stands between the two positions, and is one move
+-- a call from the run x that left o: neither 6 nor 9; it stays and changes nothing, or its piece has some bytes; and the run is good again, with the
+-- same n and as many bytes of stack; its piece, if it has one, stands between the two positions, and is one move
 pub record Called (states : ℕ) (x : Running) (o : RunLeft Step) : Type 0 where
   pub not-6 : o .answer ≡ BrokenSheet → ⊥
   pub not-9 : o .answer ≡ BrokenRun → ⊥
+  pub unchanged : (number : ℕ) → view (o .answer) ≡ stays number → o .after ≡ x
+  pub some-bytes : (y : Piece) → pieceLeft (x .run .position) o ≡ y ∷ [] → 0 < y .bytes
   pub good : goodRun states (o .after) ≡ true
   pub same-n : o .after .run .n ≡ x .run .n
   pub same-bytes : length (o .after .stack) ≡ length (x .stack)
@@ -34,6 +36,11 @@ pub record Called (states : ℕ) (x : Running) (o : RunLeft Step) : Type 0 where
 abbrev number : Step → ℕ
 number a = stepFields a .number
 
+-- the bytes of the first piece, 0 where there is none
+firstBytes : List Piece → ℕ
+firstBytes [] = 0
+firstBytes (y ∷ ys) = y .bytes
+
 stays-called : (states : ℕ) (x : Running) → goodRun states x ≡ true
     → (a : Step) (k : ℕ) → view a ≡ stays k → (k ≡ brokenSheetNumber → ⊥) → (k ≡ brokenRunNumber → ⊥) → Called states x (leaving a x)
 unfolding Adjoin view viewFields
@@ -42,6 +49,8 @@ stays-called states x good a k e p q =
     record {
       not-6 = λ r. p (is ∙ ap number r);
       not-9 = λ r. q (is ∙ ap number r);
+      unchanged = λ _ _. refl;
+      some-bytes = λ y h. absurd (omega (arith, ap length h, ap (λ (v : View). length (pieceOf (x .run .position) (x .run .position) v)) e));
       good = good;
       same-n = refl;
       same-bytes = refl;
@@ -55,7 +64,7 @@ module _ (states : ℕ) (x : Running) (good : goodRun states x ≡ true) (r : Ru
   goes-called : (a : Step)
       → ((q : ℕ) → q ≡ x .run .position + bytes → pieceOf (x .run .position) q (view a) ≡ piece (x .run .position) bytes ∷ [])
       → (a ≡ BrokenSheet → ⊥) → (a ≡ BrokenRun → ⊥) → Called states x (leaving a (moveBy x r bytes))
-  unfolding Adjoin moveBy
+  unfolding Adjoin moveBy firstBytes
   goes-called a piece-is p q =
       let g = run-is states (x .run) (x .stack) good in
       let o = operated-good states x good (omega (arith, g .inside, g .low-depth, g .long, left, some)) r target in
@@ -63,6 +72,8 @@ module _ (states : ℕ) (x : Running) (good : goodRun states x ≡ true) (r : Ru
       record {
         not-6 = p;
         not-9 = q;
+        unchanged = λ j e. absurd (omega (arith, ap length one, ap (λ (v : View). length (pieceOf (x .run .position) (moveBy x r bytes .run .position) v)) e));
+        some-bytes = λ y h. omega (arith, ap firstBytes (sym one ∙ h), some);
         good = run-good states (moveBy x r bytes)
             (record {
               small = omega (arith, g .small, o .same-n);

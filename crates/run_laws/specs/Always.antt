@@ -3,16 +3,16 @@
 use Prim.Native.Nat.{ℕ, _≤_, _<_}
 use mathlib.Core.Path.{_≡_}
 use mathlib.Core.Bool.{true, cond}
-use mathlib.Core.List.{List}
+use mathlib.Core.List.{List, [], _∷_}
 use lib.Dec.{ltb}
 use lib.ListN.{length}
 use Rattle.sheet_check.specs.SheetCheck.{SheetBytes, decoded, sheetCheck}
 use Rattle.run.specs.declared.Begun.the-variants.{Started}
 use Rattle.run.specs.declared.Step.{Step}
 use Rattle.run.specs.declared.Step.the-variants.{BrokenSheet, BrokenRun}
-use Rattle.run.specs.Run.{Running, Input, RunLeft, movesOf, current, goodRun, startCall}
+use Rattle.run.specs.Run.{Running, Input, RunLeft, movesOf, current, goodRun, startCall, stays, view}
 use Rattle.run_laws.specs.Calls.{calls, EachCall, lastRunning, lastPosition}
-use Rattle.run_laws.specs.Pieces.{pieces, Adjoin, covered}
+use Rattle.run_laws.specs.Pieces.{Piece, pieceLeft, pieces, Adjoin, covered}
 
 -- a run beside so many states, for an entry of n bytes, over a stack of so many bytes
 pub record SoundRun (states n bytes : ℕ) (x : Running) : Type 0 where
@@ -23,17 +23,20 @@ pub record SoundRun (states n bytes : ℕ) (x : Running) : Type 0 where
   pub same-n : x .run .n ≡ n
   pub same-bytes : length (x .stack) ≡ bytes
 
--- a call that left o: its answer is neither 6 nor 9, and the run is sound again
-pub record SoundCall (states n bytes : ℕ) (o : RunLeft Step) : Type 0 where
+-- a call from the run x that left o: its answer is neither 6 nor 9; if it stays it changes nothing, and otherwise its piece has at least one byte;
+-- and the run is sound again
+pub record SoundCall (states n bytes : ℕ) (x : Running) (o : RunLeft Step) : Type 0 where
   pub not-6 : o .answer ≡ BrokenSheet → ⊥
   pub not-9 : o .answer ≡ BrokenRun → ⊥
+  pub unchanged : (number : ℕ) → view (o .answer) ≡ stays number → o .after ≡ x
+  pub some-bytes : (y : Piece) → pieceLeft (x .run .position) o ≡ y ∷ [] → 0 < y .bytes
   pub after : SoundRun states n bytes (o .after)
 
 -- of step calls on the sheet b that left os, after a start call for n bytes over the stack s that left x
 pub record Always (b : SheetBytes) (n : ℕ) (s : List ℕ) (x : Running) (os : List (RunLeft Step)) : Type 0 where
   -- the run is sound at first, and after each call, whose answer is neither 6 nor 9
   pub first : SoundRun (length (decoded b .states)) n (length s) x
-  pub each : EachCall (SoundCall (length (decoded b .states)) n (length s)) os
+  pub each : EachCall (SoundCall (length (decoded b .states)) n (length s)) x os
   -- the tokens and skips cover the bytes up to the position, one behind the other
   pub cover : Adjoin 0 (pieces 0 os) (lastPosition x os)
   -- so each of these bytes is covered once, and no other

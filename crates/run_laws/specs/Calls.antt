@@ -10,10 +10,10 @@ unfoldable pub calls : SheetBytes → Running → List Input → List (RunLeft S
 calls b x [] = []
 calls b x (i ∷ is) = let o : RunLeft Step = stepCall b x i in o ∷ calls b (o .after) is
 
--- P holds of what each of them left
-unfoldable pub EachCall : (RunLeft Step → Type 0) → List (RunLeft Step) → Type 0
-EachCall P [] = Unit {0}
-EachCall P (o ∷ os) = P o × EachCall P os
+-- P holds of the run before each of them, the first from x on, and of what it left
+unfoldable pub EachCall : (Running → RunLeft Step → Type 0) → Running → List (RunLeft Step) → Type 0
+EachCall P x [] = Unit {0}
+EachCall P x (o ∷ os) = P x o × EachCall P (o .after) os
 
 -- the run that the last of them left, where it was x before
 unfoldable pub lastRunning : Running → List (RunLeft Step) → Running

@@ -18,7 +18,7 @@ use Rattle.area.specs.Records.{mostStates, mostRules, stateAt, ruleAt, entryAt,
 use Rattle.area.specs.Contents.{Format, contents, listOf, stateFormat, ruleFormat, entryFormat, textFormat, expectedFormat}
 use Rattle.area.proofs.Contents.{listOf-length}
 use Rattle.sheet_check.specs.declared.Sizes.{Sizes}
-use Rattle.sheet_check.specs.SheetCheck.{SheetBytes, count, decoded, sizesOf, longEnough, goodCounts, goodSizes, ordered, within, declared, mark, bytesAt, goodState, goodRule, goodExpected, goodRecords, sheetCheck}
+use Rattle.sheet_check.specs.SheetCheck.{SheetBytes, count, decoded, sizesOf, longEnough, goodCounts, goodSizes, ordered, within, declared, mark, textBytes, goodState, goodRule, goodExpected, goodRecords, sheetCheck}
 use Rattle.area.specs.Lists.{all}
 use Rattle.sheet_check.proofs.Judging.{Long, sizes-long, contents-count}
 
@@ -36,7 +36,7 @@ pub record GoodRule (z : Sizes) (x : Rule) : Type 0 where
   pub span-ordered : x .«span_start» ≤ x .«span_end»
   pub span-inside : x .«span_end» ≤ z .source
   pub name-inside : x .«name_from» + x .«name_length» ≤ z .source
-  pub text-inside : x .«text_from» + x .«text_length» ≤ bytesAt z (x .place)
+  pub text-inside : x .«text_from» + x .«text_length» ≤ textBytes z (x .place)
   pub list-inside : x .«list_from» + x .«list_count» ≤ z .entries
   pub operation : x .operation ≤ 3
   pub target : x .target < z .states
@@ -73,7 +73,7 @@ module _ (z : Sizes) where
       let a3 : Bool = mark (x .place) in
       let a4 : Bool = ordered (x .«span_start») (x .«span_end») (z .source) in
       let a5 : Bool = within (x .«name_from») (x .«name_length») (z .source) in
-      let a6 : Bool = within (x .«text_from») (x .«text_length») (bytesAt z (x .place)) in
+      let a6 : Bool = within (x .«text_from») (x .«text_length») (textBytes z (x .place)) in
       let a7 : Bool = within (x .«list_from») (x .«list_count») (z .entries) in
       let a8 : Bool = leb (x .operation) 3 in
       let a9 : Bool = declared (z .states) (x .target) in
@@ -93,7 +93,7 @@ module _ (z : Sizes) where
         span-ordered = o .0;
         span-inside = o .1;
         name-inside = leb-true (x .«name_from» + x .«name_length») (z .source) (t5 .1);
-        text-inside = leb-true (x .«text_from» + x .«text_length») (bytesAt z (x .place)) (t6 .1);
+        text-inside = leb-true (x .«text_from» + x .«text_length») (textBytes z (x .place)) (t6 .1);
         list-inside = leb-true (x .«list_from» + x .«list_count») (z .entries) (t7 .1);
         operation = leb-true (x .operation) 3 (t8 .1);
         target = ltb-true (x .target) (z .states) (t9 .1);

@@ -19,7 +19,7 @@ use Rattle.area.specs.Contents.{Format, contents, listOf, stateFormat, ruleForm
 use Rattle.area.proofs.Contents.{listOf-length}
 use Rattle.characters.proofs.Tests.{and-left, and-right}
 use Rattle.sheet_check.specs.declared.Sizes.{Sizes}
-use Rattle.sheet_check.specs.SheetCheck.{SheetBytes, sizesOf, longEnough, goodCounts, goodSizes, ordered, within, declared, bytesAt, goodState, goodRule, goodExpected, goodRecords, decoded, sheetCheck}
+use Rattle.sheet_check.specs.SheetCheck.{SheetBytes, sizesOf, longEnough, goodCounts, goodSizes, ordered, within, declared, textBytes, goodState, goodRule, goodExpected, goodRecords, decoded, sheetCheck}
 use Rattle.sheet_check.specs.Contracts.{AreasLong}
 use Rattle.area.specs.Lists.{all}
 
@@ -27,10 +27,10 @@ use Rattle.area.specs.Lists.{all}
 
 module _ (z : Sizes) where
   module _ (place : ℕ) where
-    pub rewritten-bytes : place ≡ 1 → z .text ≡ bytesAt z place
+    pub rewritten-bytes : place ≡ 1 → z .text ≡ textBytes z place
     rewritten-bytes e = rw (eq-eqb place 1 e)
 
-    pub source-bytes : (place ≡ 1 → ⊥) → z .source ≡ bytesAt z place
+    pub source-bytes : (place ≡ 1 → ⊥) → z .source ≡ textBytes z place
     source-bytes h = rw (ne-eqb place 1 h)
 
   pub state-judged : (x : State) (r : Bool) → r ≡ ordered (x .start) (x .end) (z .source) → r && leb (x .exclusive) 1 ≡ goodState z x
@@ -40,7 +40,7 @@ module _ (z : Sizes) where
   pub rule-judged : (x : Rule) (span name pattern list : Bool) (bytes : ℕ)
       → span ≡ ordered (x .«span_start») (x .«span_end») (z .source)
       → name ≡ within (x .«name_from») (x .«name_length») (z .source)
-      → bytes ≡ bytesAt z (x .place)
+      → bytes ≡ textBytes z (x .place)
       → pattern ≡ within (x .«text_from») (x .«text_length») bytes
       → list ≡ within (x .«list_from») (x .«list_count») (z .entries)
       → leb (x .«has_id») 1 && leb (x .named) 1 && leb (x .place) 1 && span && name && pattern && list && leb (x .operation) 3 && ltb (x .target) (z .states)

@@ -97,8 +97,8 @@ abbrev pub declared : ℕ → ℕ → Bool
 declared states id = ltb id states
 
 -- how many bytes there are at a place: 1 is the rewritten text, any other the source
-abbrev pub bytesAt : Sizes → ℕ → ℕ
-bytesAt z place = cond (eqb place 1) (z .text) (z .source)
+abbrev pub textBytes : Sizes → ℕ → ℕ
+textBytes z place = cond (eqb place 1) (z .text) (z .source)
 
 -- the records of a sheet of these sizes
 module _ (z : Sizes) where
@@ -110,7 +110,7 @@ module _ (z : Sizes) where
       mark (x .«has_id») && mark (x .named) && mark (x .place)
       && ordered (x .«span_start») (x .«span_end») (z .source)
       && within (x .«name_from») (x .«name_length») (z .source)
-      && within (x .«text_from») (x .«text_length») (bytesAt z (x .place))
+      && within (x .«text_from») (x .«text_length») (textBytes z (x .place))
       && within (x .«list_from») (x .«list_count») (z .entries)
       && leb (x .operation) 3 && declared (z .states) (x .target)
 

@@ -7,7 +7,7 @@ ghost use lib.ListN.{length};
 ghost use Rattle.area.specs.Records.{stateWidth, ruleWidth, entryWidth, expectedWidth};
 ghost use Rattle.area.specs.Contents.{contents, stateFormat, ruleFormat, entryFormat, expectedFormat};
 ghost use Rattle.area.specs.Lists.{all};
-ghost use Rattle.sheet_check.specs.SheetCheck.{sizesOf, goodCounts, goodSizes, ordered, within, declared, bytesAt, goodState, goodRule, goodExpected, goodRecords, sheetCheck};
+ghost use Rattle.sheet_check.specs.SheetCheck.{sizesOf, goodCounts, goodSizes, ordered, within, declared, textBytes, goodState, goodRule, goodExpected, goodRecords, sheetCheck};
 ghost use Rattle.sheet_check.specs.Contracts.{sheetIn, AreasLong};
 ghost use Rattle.area.specs.Contracts.{before};
 use crate::Sizes;
@@ -49,7 +49,7 @@ fn good_state(sizes: Sizes, x: State) -> bool
 
 // How many bytes there are at a rule's place.
 fn bytes_at(sizes: Sizes, place: u16) -> usize
-    ensures { λ r. ⌜ r ≡ bytesAt sizes place ⌝ }
+    ensures { λ r. ⌜ r ≡ textBytes sizes place ⌝ }
 {
     if place == 1 {
         return sizes.text as usize;

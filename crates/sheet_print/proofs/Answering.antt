@@ -1,7 +1,7 @@
 -- The lines of each answer; and that an answer, the counts and the areas tell the outcome of the file: an area determines its records, so that
 -- what is printed of the areas' bytes is what is printed of the outcome.
 use mathlib.Core.Path.{_≡_, refl, sym, ap, ap₂, subst, _∙_}
-use mathlib.Core.List.{List, [], _++_}
+use mathlib.Core.List.{List, _++_}
 use Prim.Native.Nat.{ℕ, zero, suc, _+_, _*_, _-_, _<_}
 use native.Mathlib.Nat.{le-refl}
 use native.Mathlib.Omega.{arith}

@@ -1,23 +1,19 @@
 -- Positions that are looked at together: where none of a block passes, the walk for the first that does goes on behind the block, and the walk
 -- for the last in front of it; where one may, the walk within the block answers, or it goes on as well.
-use mathlib.Core.Path.{_≡_, refl, sym, ap, _∙_}
-use mathlib.Core.Bool.{Bool, true, false, cond, not, _||_}
+use mathlib.Core.Path.{_≡_, sym, ap, _∙_}
+use mathlib.Core.Bool.{Bool, false}
 use mathlib.Core.List.{List}
 use mathlib.Core.Logic.{⊎-elim}
-use Prim.Native.Nat.{ℕ, zero, suc, _+_, _-_, _≤_, _<_}
-use native.Mathlib.Nat.{eq-or-lt-of-le, le-of-suc-le-suc, eq-zero-or-pos}
-use native.Mathlib.Numerals.{add-one}
+use Prim.Native.Nat.{ℕ, _+_, _-_, _≤_, _<_}
 use native.Mathlib.Omega.{arith}
 use borrow.Author.Needs.{needs}
-use borrow.Author.Tests.{eq-eqb, leb-false}
-use lib.Dec.{leb}
 use lib.ListN.{length}
 use Rattle.characters.specs.Class.{isBlank}
 use Rattle.characters.specs.Walk.{any, first, Between}
 use Rattle.characters.specs.Whitespace.{byte, atLineEnd}
 use Rattle.text.specs.Scan.{findLineEnd, lineEnd, lastBlank}
-use Rattle.characters.specs.Shortcuts.{RulesOut, Tells}
-use Rattle.characters.proofs.Tests.{le-or-lt, or-none, not-true}
+use Rattle.characters.specs.Shortcuts.{RulesOut}
+use Rattle.characters.proofs.Tests.{le-or-lt}
 use Rattle.characters.proofs.Spaces.{end-may-start}
 use Rattle.characters.proofs.Walks.{first-here, first-over, first-from, last-none, last-over, scanning-down}
 use Rattle.characters.proofs.Firsts.{first-passes, first-before}

@@ -11,7 +11,7 @@ use borrow.Author.Needs.{needs}
 use borrow.Author.Tests.{le-leb, lt-leb, eq-eqb, ne-eqb, eqb-true, leb-false}
 use lib.Dec.{eqb, leb}
 use lib.ListN.{length}
-use Rattle.characters.specs.Class.{isWhitespaceByte, isLineEnd, isBlank, isOtherWhitespace}
+use Rattle.characters.specs.Class.{isWhitespaceByte}
 use Rattle.characters.specs.Walk.{last, skip, Between}
 use Rattle.characters.specs.Whitespace.{byte, isNextLine, isMark, isSeparator, whitespaceOf, whitespaceLen, Width}
 use Rattle.characters.specs.Shortcuts.{RulesOut, Tells, mayBeWhitespace}

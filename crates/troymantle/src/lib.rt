@@ -4,7 +4,7 @@ ghost use Rattle.rules_section.specs.Contracts.{asked};
 ghost use Rattle.parse.specs.Parse.{parseCall, parseWord};
 ghost use Rattle.parse.specs.Contracts.{roomIn};
 ghost use Rattle.troymantle.specs.Words.{inWords};
-ghost use Rattle.troymantle.specs.Contracts.{leftIn};
+ghost use Rattle.troymantle.specs.Contracts.{wordsLeftIn};
 use answers::ACCEPTED;
 use answers::AREA_FULL;
 use answers::FAULTY_FILE;
@@ -47,7 +47,7 @@ pub extern "C" fn troymantle_parse(
     counts: &mut [u16; 6],
 ) -> u64
     ensures { λ r. ⌜
-        leftIn r counts area1 area2 area3 area4 area5 area6
+        wordsLeftIn r counts area1 area2 area3 area4 area5 area6
         ≡ inWords (parseCall (asked src flags verdicts) (roomIn area1 area2 area3 area4 area5 area6))
         ⌝ }
 {

@@ -6,7 +6,7 @@ use Rattle.area.specs.Contents.{contents, stateFormat}
 use Rattle.section.specs.Request.{request, options}
 use Rattle.names.proofs.Marking.{marked-none}
 use Rattle.rules_section.specs.RulesSection.{rules}
-use Rattle.rules_section.specs.Answers.{ruleProgress, ruledIn, sizesOf}
+use Rattle.rules_section.specs.Answers.{ruleProgress, ruledIn, ruleCapsOf}
 use Rattle.rules_section.proofs.RuleLines.{Rules, sectioning, rules-marked, rules-less, rules-next, rules-routines}
 use Rattle.rules_section.proofs.lines.parse_rules.Statement.{statement}
 use Rattle.rules_section.proofs.lines.parse_rules.Tie as tie
@@ -14,7 +14,7 @@ use Rattle.rules_section.proofs.lines.parse_rules.Tie as tie
 abbrev Inv-loop : tie.InvT-loop
 Inv-loop src flags verdicts i area1 n1 area2₀ area3₀ area4₀ area6₀ line₀ counts₀ marks₀ area2 area3 area4 area6 line counts marks =
     Rules
-    (rules (request src (options flags) verdicts) (contents stateFormat area1 n1) (sizesOf (length area2₀) (length area3₀) (length area4₀)) (length area6₀) i
+    (rules (request src (options flags) verdicts) (contents stateFormat area1 n1) (ruleCapsOf (length area2₀) (length area3₀) (length area4₀)) (length area6₀) i
     (ruledIn area2₀ area3₀ area4₀ area6₀ counts₀))
     (request src (options flags) verdicts) (contents stateFormat area1 n1) area2₀ area3₀ area4₀ area6₀ line area2 area3 area4 area6 counts marks
 
