@@ -2,12 +2,12 @@
 -- of the contents, and there are no faults.
 use Prim.Native.Nat.{ℕ, _≤_}
 use mathlib.Core.Path.{_≡_, refl, subst}
-use mathlib.Core.Bool.{true, cond}
+use mathlib.Core.Bool.{true}
 use mathlib.Core.List.{List, [], _∷_}
 use mathlib.Core.Option.{Option, none, some}
 use native.Mathlib.Omega.{arith}
-use borrow.Author.Tests.{eqb-true, ltb-false}
-use lib.Dec.{eqb, ltb}
+use borrow.Author.Tests.{eqb-true}
+use lib.Dec.{eqb}
 use lib.ListN.{length}
 use Rattle.characters.specs.Utf8.{utf8}
 use Rattle.characters.proofs.Tests.{by-test}
@@ -23,11 +23,12 @@ use Rattle.declarations.specs.Declarations.{Declared, declarations, state}
 use Rattle.rules_section.specs.RulesSection.{sheetOf, rulesSection}
 use Rattle.parse.specs.Parse.{Contents, Caps, declarationCaps, ruleCaps, Outcome, longFile, unknownFlag, invalidUtf8, areaFull, faulty, accepted, closed, ending, judge, contentsOf, noRules, rulesFrom, undeclared, withStates, opening, file, outcome}
 use Rattle.area.specs.Lists.{all}
-use Rattle.parsed_sheet.specs.Accepted.{Fits, StateHolds, ExpectedHolds, EntryHolds, RuleHolds, StatesHold, ContentsHold, isByte}
+use Rattle.parsed_sheet.specs.Accepted.{Fits, StateHolds, ExpectedHolds, EntryHolds, RuleHolds, StatesHold, ExpectedsHold, ContentsHold, isByte}
 use Rattle.fault.proofs.Yielding.{Yields, yields-next, yields-onto}
 use Rattle.parsed_sheet.proofs.Appending.{yields-append}
 use Rattle.parsed_sheet.proofs.Elements.{each-none, each-snoc}
 use Rattle.parsed_sheet.proofs.ByteLists.{utf8-bytes}
+use Rattle.parsed_sheet.proofs.Outcomes.{outcome-cases}
 use Rattle.parsed_sheet.proofs.Declaring.{DeclaredHolds, declarations-hold}
 use Rattle.parsed_sheet.proofs.Ruling.{SheetHolds, rules-hold}
 
@@ -47,7 +48,8 @@ unfolding closed
 closed-accepts P none = tt
 closed-accepts P (some fs) = tt
 
-ending-accepts : {S : Type 0} (P : Contents → Type 0) (Q : ℕ → S → Type 0) (faults : S → List Fault) (cap : ℕ) (o : Out S) (g : ℕ → S → Outcome) → Yields Q o → ((i : ℕ) (s : S) → Q i s → Accepts P (g i s)) → Accepts P (ending faults cap o g)
+ending-accepts : {S : Type 0} (P : Contents → Type 0) (Q : ℕ → S → Type 0) (faults : S → List Fault) (cap : ℕ) (o : Out S) (g : ℕ → S → Outcome)
+    → Yields Q o → ((i : ℕ) (s : S) → Q i s → Accepts P (g i s)) → Accepts P (ending faults cap o g)
 ending-accepts P Q faults cap (go i s) g h f = f i s h
 ending-accepts P Q faults cap (bad kind at s) g h f = closed-accepts P (addFault cap kind at at (faults s))
 ending-accepts P Q faults cap (full n) g h f = tt
@@ -59,7 +61,8 @@ no-elements (x ∷ xs) e = absurd (omega arith)
 judge-accepts : (P : Contents → Type 0) (c : Contents) → (c .faults ≡ [] → P c) → Accepts P (judge c)
 unfolding judge
 judge-accepts P c f =
-    by-test (Accepts P) (eqb (length (c .faults)) 0) (accepted c) (faulty (c .faults)) (λ e. f (no-elements (c .faults) (eqb-true (length (c .faults)) 0 e))) (λ _. tt)
+    by-test (Accepts P) (eqb (length (c .faults)) 0) (accepted c) (faulty (c .faults))
+    (λ e. f (no-elements (c .faults) (eqb-true (length (c .faults)) 0 e))) (λ _. tt)
 
 -- ---- a file
 
@@ -67,6 +70,13 @@ nothing-fits : {A : Type 0} (F : Format A) (cap : ℕ) → Fits F cap []
 nothing-fits F cap = record { few = omega arith; fits = omega arith }
 
 module _ (asked : Request) (k : Caps) where
+  -- what is kept of the declarations, and of the contents
+  abbrev DeclaredKept : ℕ → Declared → Type 0
+  DeclaredKept i d = DeclaredHolds (asked .source) (declarationCaps k) i d
+
+  abbrev ContentsKept : Contents → Type 0
+  ContentsKept c = ContentsHold (asked .source) k c
+
   no-rules-hold : (d : Declared) → SheetHolds (asked .source) (length (d .states)) (ruleCaps k) (sheetOf (noRules d))
   unfolding all
   no-rules-hold d = record {
@@ -79,41 +89,51 @@ module _ (asked : Request) (k : Caps) where
     text = record { bytes = refl; fits = nothing-fits textFormat (k .c4) };
   }
 
-  rules-accept : all isByte (asked .source) ≡ true → (i : ℕ) (d : Declared) → DeclaredHolds (asked .source) (declarationCaps k) i d → Accepts (ContentsHold (asked .source) k) (rulesFrom asked k i d)
+  rules-accept : all isByte (asked .source) ≡ true → (i : ℕ) (d : Declared) → DeclaredKept i d → Accepts ContentsKept (rulesFrom asked k i d)
   unfolding rulesFrom
   rules-accept source i d h =
-      ending-accepts (ContentsHold (asked .source) k) (λ _ r. SheetHolds (asked .source) (length (d .states)) (ruleCaps k) (sheetOf r)) (λ r. r .faults) (k .c6)
+      ending-accepts ContentsKept (λ _ r. SheetHolds (asked .source) (length (d .states)) (ruleCaps k) (sheetOf r)) (λ r. r .faults) (k .c6)
       (rulesSection asked (d .states) (ruleCaps k) (k .c6) i (noRules d)) (λ j r. judge (contentsOf d r))
       (rules-hold asked (d .states) (h .states .some) source (ruleCaps k) (k .c6) i (noRules d) (h .place) (no-rules-hold d))
-      (λ j r g. judge-accepts (ContentsHold (asked .source) k) (contentsOf d r)
+      (λ j r g. judge-accepts ContentsKept (contentsOf d r)
       (λ e. record { states = h .states; rules = g .rules; lists = g .lists; text = g .text; expected = h .expected; faults = e }))
 
   initial-holds : Fits stateFormat (k .c1) (state 0 0 0 ∷ []) → StatesHold (length (asked .source)) (k .c1) (state 0 0 0 ∷ [])
-  initial-holds f = record {
-    some = omega arith;
-    initial = refl;
-    each = each-snoc (StateHolds (length (asked .source))) (stateOf (λ _. 0)) [] (state 0 0 0) (each-none (StateHolds (length (asked .source))) (stateOf (λ _. 0))) (record { ordered = omega arith; inside = omega arith; exclusive = omega arith });
-    fits = f;
+  initial-holds f =
+      let n = length (asked .source) in
+      let past-end = stateOf (λ _. 0) in
+      let state-holds : StateHolds n 0 (state 0 0 0) = record { ordered = omega arith; inside = omega arith; exclusive = omega arith } in
+      record {
+        some = omega arith;
+        initial = refl;
+        each = each-snoc (StateHolds n) past-end [] (state 0 0 0) (each-none (StateHolds n) past-end) state-holds;
+        fits = f;
+      }
+
+  none-expected : ExpectedsHold (length (asked .source)) (k .c5) []
+  none-expected = record {
+    each = each-none (ExpectedHolds (length (asked .source))) (expectedOf (λ _. 0));
+    fits = nothing-fits expectedFormat (k .c5);
   }
 
   abbrev Opened : ℕ → List State → Type 0
   Opened i xs = (i ≤ length (asked .source)) × StatesHold (length (asked .source)) (k .c1) xs
 
-  opening-holds : Yields (DeclaredHolds (asked .source) (declarationCaps k)) (opening (asked .source) (asked .options) (declarationCaps k) undeclared)
+  opening-holds : Yields DeclaredKept (opening (asked .source) (asked .options) (declarationCaps k) undeclared)
   unfolding opening
   opening-holds =
       let o = written 1 0 (append stateFormat (k .c1) (state 0 0 0 ∷ []) []) in
-      yields-next (DeclaredHolds (asked .source) (declarationCaps k)) (DeclaredHolds (asked .source) (declarationCaps k)) (onto (withStates undeclared) o) (declarations (asked .source) (asked .options) (declarationCaps k))
-      (yields-onto Opened (DeclaredHolds (asked .source) (declarationCaps k)) (withStates undeclared) o
+      yields-next DeclaredKept DeclaredKept (onto (withStates undeclared) o) (declarations (asked .source) (asked .options) (declarationCaps k))
+      (yields-onto Opened DeclaredKept (withStates undeclared) o
       (yields-append Opened stateFormat (k .c1) 1 0 (state 0 0 0 ∷ []) [] (λ f. (omega arith, initial-holds f)))
-      (λ i xs h. record { place = h .0; states = h .1; expected = record { each = each-none (ExpectedHolds (length (asked .source))) (expectedOf (λ _. 0)); fits = nothing-fits expectedFormat (k .c5) } }))
+      (λ i xs h. record { place = h .0; states = h .1; expected = none-expected }))
       (λ i d h. declarations-hold (asked .source) (asked .options) (declarationCaps k) i d h)
 
-  file-accepts : all isByte (asked .source) ≡ true → Accepts (ContentsHold (asked .source) k) (file asked k)
+  file-accepts : all isByte (asked .source) ≡ true → Accepts ContentsKept (file asked k)
   unfolding file
   file-accepts source =
-      ending-accepts (ContentsHold (asked .source) k) (DeclaredHolds (asked .source) (declarationCaps k)) (λ d. d .faults) (k .c6) (opening (asked .source) (asked .options) (declarationCaps k) undeclared) (rulesFrom asked k)
-      opening-holds (rules-accept source)
+      ending-accepts ContentsKept DeclaredKept (λ d. d .faults) (k .c6)
+      (opening (asked .source) (asked .options) (declarationCaps k) undeclared) (rulesFrom asked k) opening-holds (rules-accept source)
 
   -- the tests before the file is read were passed
   record Passed (c : Contents) : Type 0 where
@@ -121,7 +141,7 @@ module _ (asked : Request) (k : Caps) where
     text : utf8 (asked .source) ≡ true
     holds : ContentsHold (asked .source) k c
 
-  passed : length (asked .source) ≤ 65535 → utf8 (asked .source) ≡ true → (o : Outcome) → Accepts (ContentsHold (asked .source) k) o → Accepts Passed o
+  passed : length (asked .source) ≤ 65535 → utf8 (asked .source) ≡ true → (o : Outcome) → Accepts ContentsKept o → Accepts Passed o
   passed l t (accepted c) h = record { short = l; text = t; holds = h }
   passed l t longFile h = tt
   passed l t unknownFlag h = tt
@@ -130,11 +150,9 @@ module _ (asked : Request) (k : Caps) where
   passed l t (faulty fs) h = tt
 
   outcome-accepts : Accepts Passed (outcome asked k)
-  unfolding outcome
   outcome-accepts =
-      by-test (Accepts Passed) (ltb 65535 (length (asked .source))) longFile (cond (ltb 3 (asked .options .flags)) unknownFlag (cond (utf8 (asked .source)) (file asked k) invalidUtf8)) (λ _. tt)
-      (λ l. by-test (Accepts Passed) (ltb 3 (asked .options .flags)) unknownFlag (cond (utf8 (asked .source)) (file asked k) invalidUtf8) (λ _. tt)
-      (λ _. by-test (Accepts Passed) (utf8 (asked .source)) (file asked k) invalidUtf8 (λ t. passed (ltb-false 65535 (length (asked .source)) l) t (file asked k) (file-accepts (utf8-bytes (asked .source) t))) (λ _. tt)))
+      outcome-cases asked k (Accepts Passed) tt tt tt
+      (λ short text. passed short text (file asked k) (file-accepts (utf8-bytes (asked .source) text)))
 
   module _ (c : Contents) (is : outcome asked k ≡ accepted c) where
     -- what holds of the contents

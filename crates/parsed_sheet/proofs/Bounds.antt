@@ -1,8 +1,9 @@
--- What bounds the outcome of a file, whatever it is. State names are declared left to right, so where the declarations go on, all names together have no more bytes
--- than stand before that place; and whatever adds to the fault list asks for room in area 6. The rest is what an accepted parse yields.
+-- What bounds the outcome of a file, whatever it is. State names are declared left to right, so where the declarations go on, all names together
+-- have no more bytes than stand before that place; and whatever adds to the fault list asks for room in area 6. The rest is what an accepted
+-- parse yields.
 use Prim.Native.Nat.{ℕ, _+_, _-_, _≤_}
 use mathlib.Core.Path.{_≡_, refl, subst}
-use mathlib.Core.Bool.{cond, not}
+use mathlib.Core.Bool.{not}
 use mathlib.Core.List.{List, [], _∷_, _++_}
 use mathlib.Core.Option.{none, some}
 use native.Mathlib.Nat.{le-refl}
@@ -13,7 +14,6 @@ use lib.ListN.{length, take, drop, length-append, length-take, length-drop}
 use Rattle.characters.specs.Whitespace.{whitespaceLen, atWhitespace, atLineEnd}
 use Rattle.text.specs.Range.{lookaheadIs}
 use Rattle.text.specs.Scan.{lineEnd, skipWhitespace, skipBlanks, findWhitespace, trimEnd, trimStart, trimEndUnescaped}
-use Rattle.characters.specs.Utf8.{utf8}
 use Rattle.characters.proofs.Tests.{by-test}
 use Rattle.characters.proofs.Walks.{first-from, first-to, repeat-keeps, skip-from}
 use Rattle.characters.proofs.Spaces.{white-inside}
@@ -43,6 +43,7 @@ use Rattle.parse.specs.Parse as P
 use Rattle.parsed_sheet.specs.Accepted.{Fits}
 use Rattle.parsed_sheet.proofs.Appending.{room-holds, yields-append}
 use Rattle.parsed_sheet.proofs.Places.{declaration-to, word-to}
+use Rattle.parsed_sheet.proofs.Outcomes.{outcome-cases}
 use Rattle.parsed_sheet.proofs.Declaring.{yields-then}
 use Rattle.parsed_sheet.proofs.Totals.{nameBytes, names-none, names-more}
 
@@ -96,16 +97,21 @@ module _ (s : List ℕ) (k : NameCaps) (t : ℕ) where
   repeat-read : (x y : State) (n : Names) → x .start ≤ x .end → Reads (x .start) n → Yields Reads (repeatState s k x y n)
   unfolding repeatState behindName
   repeat-read x y n l h =
-      yields-onto (λ j fs. Reads j (names (n .states) fs)) Reads (names (n .states)) (written 6 (behindName s x) (addRepeat (k .c6) DuplicateStartState (y .start) (y .end) (x .start) (x .end) (n .faults)))
-      (repeat-fits (λ j fs. Reads j (names (n .states) fs)) (k .c6) (behindName s x) (n .faults)
-      (λ fs f. record { before = omega (arith, h .before); within = h .within; faults = f }) DuplicateStartState (y .start) (y .end) (x .start) (x .end)) (λ _ _ g. g)
+      let WithFaults : ℕ → List Fault → Type 0 = λ j fs. Reads j (names (n .states) fs) in
+      let faults = addRepeat (k .c6) DuplicateStartState (y .start) (y .end) (x .start) (x .end) (n .faults) in
+      yields-onto WithFaults Reads (names (n .states)) (written 6 (behindName s x) faults)
+      (repeat-fits WithFaults (k .c6) (behindName s x) (n .faults)
+      (λ fs f. record { before = omega (arith, h .before); within = h .within; faults = f })
+      DuplicateStartState (y .start) (y .end) (x .start) (x .end)) (λ _ _ g. g)
 
   add-read : (x : State) (n : Names) → x .start ≤ x .end → x .end ≤ t → Reads (x .start) n → Yields Reads (addState s k x n)
   unfolding addState behindName
   add-read x n l m h =
       let z : nameBytes (n .states ++ (x ∷ [])) ≡ nameBytes (n .states) + (x .end - x .start) = names-more (n .states) x in
-      yields-onto (λ j xs. Reads j (names xs (n .faults))) Reads (λ xs. names xs (n .faults)) (written 1 (behindName s x) (append stateFormat (k .c1) (x ∷ []) (n .states)))
-      (yields-append (λ j xs. Reads j (names xs (n .faults))) stateFormat (k .c1) 1 (behindName s x) (x ∷ []) (n .states)
+      let WithStates : ℕ → List State → Type 0 = λ j xs. Reads j (names xs (n .faults)) in
+      let states = append stateFormat (k .c1) (x ∷ []) (n .states) in
+      yields-onto WithStates Reads (λ xs. names xs (n .faults)) (written 1 (behindName s x) states)
+      (yields-append WithStates stateFormat (k .c1) 1 (behindName s x) (x ∷ []) (n .states)
       (λ _. record { before = omega (arith, z, h .before); within = omega (arith, z, h .before); faults = h .faults })) (λ _ _ g. g)
 
   state-read : (x : State) (n : Names) → x .start ≤ x .end → x .end ≤ t → Reads (x .start) n → Yields Reads (declareState s k x n)
@@ -118,7 +124,9 @@ module _ (s : List ℕ) (k : NameCaps) (t : ℕ) where
   unfolding stateNames
   names-read exclusive a n h =
       yields-loop Reads (λ j. ltb j t) (λ j. declareState s k (state j (findWhitespace s j t) exclusive))
-      (λ j m e g. state-read (state j (findWhitespace s j t) exclusive) m (first-from (atWhitespace s) j t) (first-to (atWhitespace s) j t (omega (arith, ltb-true j t e))) g) (length s) a n h
+      (λ j m e g.
+      let name-ends : findWhitespace s j t ≤ t = first-to (atWhitespace s) j t (omega (arith, ltb-true j t e)) in
+      state-read (state j (findWhitespace s j t) exclusive) m (first-from (atWhitespace s) j t) name-ends g) (length s) a n h
 
 -- ---- a declaration
 
@@ -154,7 +162,8 @@ declaration-from s flags i =
     (λ k l.
     let m = skipWhitespace s k in
     let f : k ≤ m = skip-from (whitespaceLen s) (length s) (white-inside s) k in
-    by-test (λ j. i ≤ j) (isComment s flags m) (lineEnd s m) m (λ _. omega (arith, first-from (atLineEnd s) m (length s))) (λ _. omega arith)) (length s) i (le-refl i)
+    let ends-behind : m ≤ lineEnd s m = first-from (atLineEnd s) m (length s) in
+    by-test (λ j. i ≤ j) (isComment s flags m) (lineEnd s m) m (λ _. omega (arith, ends-behind)) (λ _. omega arith)) (length s) i (le-refl i)
 
 -- ---- the declarations
 
@@ -167,13 +176,21 @@ module _ (s : List ℕ) (options : Options) (k : Caps) where
   abbrev Read : ℕ → Declared → Type 0
   Read i d = DeclaredRead s (k .c6) i d
 
-  as-read : (i e : ℕ) → i ≤ e → e ≤ length s → (x : Declaration) → declarationOf s (range i e) ≡ x → (d : Declared) → Read i d → Yields Read (declareAs s k (range i e) x d)
+  as-read : (i e : ℕ) → i ≤ e → e ≤ length s → (x : Declaration) → declarationOf s (range i e) ≡ x → (d : Declared) → Read i d
+      → Yields Read (declareAs s k (range i e) x d)
   unfolding declareAs
   as-read i e a l (States exclusive b t) q d h =
       let f : (i ≤ b) × (b ≤ t) = subst (Behind i) q (line-behind s i e a) in
       let g : t ≤ e = names-within s i e (declarationOf s (range i e)) refl a exclusive b t q in
-      yields-then (NamesRead (k .c6) t) Read e (withNames d) (stateNames s (nameCaps (k .c1) (k .c6)) exclusive (range b t) (names (d .states) (d .faults)))
-      (names-read s (nameCaps (k .c1) (k .c6)) t exclusive b (names (d .states) (d .faults)) (record { before = omega (arith, f .0, h .names); within = omega (arith, f .0, f .1, h .names); faults = h .faults }))
+      let caps = nameCaps (k .c1) (k .c6) in
+      let before = names (d .states) (d .faults) in
+      let start : NamesRead (k .c6) t b before = record {
+        before = omega (arith, f .0, h .names);
+        within = omega (arith, f .0, f .1, h .names);
+        faults = h .faults;
+      } in
+      yields-then (NamesRead (k .c6) t) Read e (withNames d) (stateNames s caps exclusive (range b t) before)
+      (names-read s caps t exclusive b before start)
       (λ _ n r. record { place = l; names = omega (arith, r .within); faults = r .faults })
   as-read i e a l (Expecting w) q d h = any-read (expectedNames s (k .c5) (range i e) w (d .expected))
     where
@@ -183,13 +200,21 @@ module _ (s : List ℕ) (options : Options) (k : Caps) where
       any-read (full n) = tt
   as-read i e a l Unknown q d h = tt
 
+  -- lines that are skipped keep it
+  skip-read : (i : ℕ) (d : Declared) → Read i d → Read (toDeclaration s (options .flags) i) d
+  skip-read i d h = record {
+    place = declaration-to s (options .flags) i (h .place);
+    names = omega (arith, declaration-from s (options .flags) i, h .names);
+    faults = h .faults;
+  }
+
   declaration-read : (i : ℕ) (d : Declared) → Read i d → Yields Read (nextDeclaration s options k i d)
   unfolding nextDeclaration declaration
   declaration-read i d h =
       let e = lineEnd s i in
       yields-next Read Read (declaration s k i e d) (λ j t. go (toDeclaration s (options .flags) j) t)
       (as-read i e (first-from (atLineEnd s) i (length s)) (first-to (atLineEnd s) i (length s) (h .place)) (declarationOf s (range i e)) refl d h)
-      (λ j t g. record { place = declaration-to s (options .flags) j (g .place); names = omega (arith, declaration-from s (options .flags) j, g .names); faults = g .faults })
+      skip-read
 
   end-read : (i : ℕ) (d : Declared) → Read i d → Yields Read (endDeclarations s i d)
   unfolding endDeclarations
@@ -202,9 +227,9 @@ module _ (s : List ℕ) (options : Options) (k : Caps) where
   declarations-read : (i : ℕ) (d : Declared) → Read i d → Yields Read (declarations s options k i d)
   unfolding declarations
   declarations-read i d h =
-      yields-next Read Read (loop (length s) (inSection s) (nextDeclaration s options k) (toDeclaration s (options .flags) i) d) (endDeclarations s)
-      (yields-loop Read (inSection s) (nextDeclaration s options k) (λ j t _ g. declaration-read j t g) (length s) (toDeclaration s (options .flags) i) d
-      (record { place = declaration-to s (options .flags) i (h .place); names = omega (arith, declaration-from s (options .flags) i, h .names); faults = h .faults })) end-read
+      let start = toDeclaration s (options .flags) i in
+      yields-next Read Read (loop (length s) (inSection s) (nextDeclaration s options k) start d) (endDeclarations s)
+      (yields-loop Read (inSection s) (nextDeclaration s options k) (λ j t _ g. declaration-read j t g) (length s) start d (skip-read i d h)) end-read
 
 -- ---- the rules
 
@@ -229,15 +254,18 @@ module _ (asked : Request) (xs : List State) (k : R.Caps) (c6 : ℕ) where
   line-fits : (i e : ℕ) (r : Ruled) → FaultsFit c6 (r .faults) → Yields Ruling (line asked xs k c6 i e r)
   unfolding line rule
   line-fits i e r h =
-      by-test (Yields Ruling) (atWhitespace (asked .source) i) (onto (withFaults r) (written 6 e (addFault c6 VerbatimNotSupported i e (r .faults)))) (rule asked xs k c6 i e r)
-      (λ _. yields-onto (λ _ fs. FaultsFit c6 fs) Ruling (withFaults r) (written 6 e (addFault c6 VerbatimNotSupported i e (r .faults)))
+      let o = written 6 e (addFault c6 VerbatimNotSupported i e (r .faults)) in
+      by-test (Yields Ruling) (atWhitespace (asked .source) i) (onto (withFaults r) o) (rule asked xs k c6 i e r)
+      (λ _. yields-onto (λ _ fs. FaultsFit c6 fs) Ruling (withFaults r) o
       (fault-fits (λ _ fs. FaultsFit c6 fs) c6 e (r .faults) (λ _ f. f) VerbatimNotSupported i e) (λ _ _ f. f))
       (λ _. heading-fits i e (headingOf (asked .source) i (trimEnd (asked .source) i e) xs (r .rules)) r h)
 
   rule-fits : (i : ℕ) (r : Ruled) → FaultsFit c6 (r .faults) → Yields Ruling (nextRule asked xs k c6 i r)
   unfolding nextRule
   rule-fits i r h =
-      yields-next Ruling Ruling (line asked xs k c6 i (lineEnd (asked .source) i) r) (λ _ t. go (toRule (asked .source) (asked .options .flags) (lineEnd (asked .source) i)) t) (line-fits i (lineEnd (asked .source) i) r h) (λ _ _ f. f)
+      let e = lineEnd (asked .source) i in
+      yields-next Ruling Ruling (line asked xs k c6 i e r) (λ _ t. go (toRule (asked .source) (asked .options .flags) e) t)
+      (line-fits i e r h) (λ _ _ f. f)
 
   routines-fit : (i : ℕ) (r : Ruled) → FaultsFit c6 (r .faults) → Yields Ruling (routines (asked .source) i r)
   unfolding routines
@@ -247,7 +275,8 @@ module _ (asked : Request) (xs : List State) (k : R.Caps) (c6 : ℕ) where
   unfolding rulesSection rules
   rules-fit i r h =
       yields-next Ruling Ruling (rules asked xs k c6 i r) (routines (asked .source))
-      (yields-loop Ruling (inSection (asked .source)) (nextRule asked xs k c6) (λ j t _ f. rule-fits j t f) (length (asked .source)) (toRule (asked .source) (asked .options .flags) i) r h) routines-fit
+      (yields-loop Ruling (inSection (asked .source)) (nextRule asked xs k c6) (λ j t _ f. rule-fits j t f)
+      (length (asked .source)) (toRule (asked .source) (asked .options .flags) i) r h) routines-fit
 
 -- ---- a file
 
@@ -266,9 +295,11 @@ module _ (s : List ℕ) (c6 : ℕ) where
   unfolding closed addFault append
   closed-bounded kind at fs =
       let ys = fault (nextNumber fs) kind at at ∷ [] in
-      by-test (λ o. Bounded s c6 (closed o)) (room faultWidth mostOthers c6 (length fs) 1) (some (fs ++ ys)) none (λ q. room-holds faultFormat c6 fs ys q) (λ _. tt)
+      by-test (λ o. Bounded s c6 (closed o)) (room faultWidth mostOthers c6 (length fs) 1) (some (fs ++ ys)) none
+      (λ q. room-holds faultFormat c6 fs ys q) (λ _. tt)
 
-  ending-bounded : {S : Type 0} (Q : ℕ → S → Type 0) (faults : S → List Fault) (o : Out S) (g : ℕ → S → Outcome) → Yields Q o → ((i : ℕ) (t : S) → Q i t → Bounded s c6 (g i t)) → Bounded s c6 (ending faults c6 o g)
+  ending-bounded : {S : Type 0} (Q : ℕ → S → Type 0) (faults : S → List Fault) (o : Out S) (g : ℕ → S → Outcome) → Yields Q o
+      → ((i : ℕ) (t : S) → Q i t → Bounded s c6 (g i t)) → Bounded s c6 (ending faults c6 o g)
   ending-bounded Q faults (go i t) g h f = f i t h
   ending-bounded Q faults (bad kind at t) g h f = closed-bounded kind at (faults t)
   ending-bounded Q faults (full n) g h f = tt
@@ -278,30 +309,34 @@ module _ (s : List ℕ) (c6 : ℕ) where
   judge-bounded c f h = by-test (Bounded s c6) (eqb (length (c .faults)) 0) (accepted c) (faulty (c .faults)) (λ _. h) (λ _. f)
 
 module _ (asked : Request) (k : P.Caps) where
-  rules-bounded : (i : ℕ) (d : Declared) → DeclaredRead (asked .source) (k .c6) i d → Bounded (asked .source) (k .c6) (rulesFrom asked k i d)
+  abbrev AllRead : ℕ → Declared → Type 0
+  AllRead i d = DeclaredRead (asked .source) (k .c6) i d
+
+  rules-bounded : (i : ℕ) (d : Declared) → AllRead i d → Bounded (asked .source) (k .c6) (rulesFrom asked k i d)
   unfolding rulesFrom
   rules-bounded i d h =
-      ending-bounded (asked .source) (k .c6) (λ _ r. FaultsFit (k .c6) (r .faults)) (λ r. r .faults) (rulesSection asked (d .states) (ruleCaps k) (k .c6) i (noRules d)) (λ j r. judge (contentsOf d r))
+      ending-bounded (asked .source) (k .c6) (λ _ r. FaultsFit (k .c6) (r .faults)) (λ r. r .faults)
+      (rulesSection asked (d .states) (ruleCaps k) (k .c6) i (noRules d)) (λ j r. judge (contentsOf d r))
       (rules-fit asked (d .states) (ruleCaps k) (k .c6) i (noRules d) (h .faults))
       (λ j r f. judge-bounded (asked .source) (k .c6) (contentsOf d r) f (omega (arith, h .names, h .place)))
 
-  opening-read : Yields (DeclaredRead (asked .source) (k .c6)) (opening (asked .source) (asked .options) (declarationCaps k) undeclared)
+  opening-read : Yields AllRead (opening (asked .source) (asked .options) (declarationCaps k) undeclared)
   unfolding opening
   opening-read =
-      let Opened : ℕ → List State → Type 0 = λ i xs. DeclaredRead (asked .source) (k .c6) i (withStates undeclared xs) in
+      let Opened : ℕ → List State → Type 0 = λ i xs. AllRead i (withStates undeclared xs) in
+      let no-faults-fit : FaultsFit (k .c6) [] = record { few = omega arith; fits = omega arith } in
       let o = written 1 0 (append stateFormat (k .c1) (state 0 0 0 ∷ []) []) in
-      yields-next (DeclaredRead (asked .source) (k .c6)) (DeclaredRead (asked .source) (k .c6)) (onto (withStates undeclared) o) (declarations (asked .source) (asked .options) (declarationCaps k))
-      (yields-onto Opened (DeclaredRead (asked .source) (k .c6)) (withStates undeclared) o
+      yields-next AllRead AllRead (onto (withStates undeclared) o) (declarations (asked .source) (asked .options) (declarationCaps k))
+      (yields-onto Opened AllRead (withStates undeclared) o
       (yields-append Opened stateFormat (k .c1) 1 0 (state 0 0 0 ∷ []) []
-      (λ _. record { place = omega arith; names = omega (arith, names-none, names-more [] (state 0 0 0)); faults = record { few = omega arith; fits = omega arith } }))
+      (λ _. record { place = omega arith; names = omega (arith, names-none, names-more [] (state 0 0 0)); faults = no-faults-fit }))
       (λ i xs h. h))
       (λ i d h. declarations-read (asked .source) (asked .options) (declarationCaps k) i d h)
 
   -- whatever becomes of a file
   pub outcome-bounded : Bounded (asked .source) (k .c6) (outcome asked k)
-  unfolding outcome file
+  unfolding file
   outcome-bounded =
-      by-test (Bounded (asked .source) (k .c6)) (ltb 65535 (length (asked .source))) longFile (cond (ltb 3 (asked .options .flags)) unknownFlag (cond (utf8 (asked .source)) (file asked k) invalidUtf8)) (λ _. tt)
-      (λ _. by-test (Bounded (asked .source) (k .c6)) (ltb 3 (asked .options .flags)) unknownFlag (cond (utf8 (asked .source)) (file asked k) invalidUtf8) (λ _. tt)
-      (λ _. by-test (Bounded (asked .source) (k .c6)) (utf8 (asked .source)) (file asked k) invalidUtf8
-      (λ _. ending-bounded (asked .source) (k .c6) (DeclaredRead (asked .source) (k .c6)) (λ d. d .faults) (opening (asked .source) (asked .options) (declarationCaps k) undeclared) (rulesFrom asked k) opening-read rules-bounded) (λ _. tt)))
+      outcome-cases asked k (Bounded (asked .source) (k .c6)) tt tt tt
+      (λ _ _. ending-bounded (asked .source) (k .c6) AllRead (λ d. d .faults)
+      (opening (asked .source) (asked .options) (declarationCaps k) undeclared) (rulesFrom asked k) opening-read rules-bounded)

@@ -46,7 +46,8 @@ part-bytes s a e h = all-take isByte (e - a) (drop a s) (all-drop isByte a s h)
 -- ---- well-formed text
 
 scalar-small : (c : ℕ) → isScalar c ≡ true → c < 0x110000
-scalar-small c e = or-cases (ltb c 0xd800) (within 0xe000 0x10ffff c) e (λ h. omega (arith, ltb-true c 0xd800 h)) (λ h. omega (arith, range-of 0xe000 0x10ffff c h))
+scalar-small c e =
+    or-cases (ltb c 0xd800) (within 0xe000 0x10ffff c) e (λ h. omega (arith, ltb-true c 0xd800 h)) (λ h. omega (arith, range-of 0xe000 0x10ffff c h))
 
 byte-more : (x : ℕ) (xs : List ℕ) → x < 256 → all isByte xs ≡ true → all isByte (x ∷ xs) ≡ true
 unfolding all
@@ -73,11 +74,12 @@ encode-bytes c e =
     let one : List ℕ = (0x80 + c % 0x40) ∷ [] in
     let two : List ℕ = (0x80 + c / 0x40 % 0x40) ∷ one in
     let three : List ℕ = (0x80 + c / 0x1000 % 0x40) ∷ two in
+    let three-bytes : P three = byte-more (0x80 + c / 0x1000 % 0x40) two (inner-byte (c / 0x1000)) (inner-two (c / 0x40) c) in
     by-test P (ltb c 0x80) (c ∷ []) _ (λ h. byte-more c [] (omega (arith, ltb-true c 0x80 h)) no-bytes)
     (λ _. by-test P (ltb c 0x800) ((0xc0 + c / 0x40) ∷ one) _ (λ h. byte-more (0xc0 + c / 0x40) one (omega (arith, ltb-true c 0x800 h)) (inner-one c))
     (λ _. by-test P (ltb c 0x10000) ((0xe0 + c / 0x1000) ∷ two) ((0xf0 + c / 0x40000) ∷ three)
     (λ h. byte-more (0xe0 + c / 0x1000) two (omega (arith, ltb-true c 0x10000 h)) (inner-two (c / 0x40) c))
-    (λ _. byte-more (0xf0 + c / 0x40000) three (omega (arith, scalar-small c e)) (byte-more (0x80 + c / 0x1000 % 0x40) two (inner-byte (c / 0x1000)) (inner-two (c / 0x40) c)))))
+    (λ _. byte-more (0xf0 + c / 0x40000) three (omega (arith, scalar-small c e)) three-bytes)))
 
 encoded-bytes : (cs : List ℕ) → Scalars cs → all isByte (encodeAll cs) ≡ true
 unfolding encodeAll all

@@ -6,6 +6,7 @@ use mathlib.Core.List.{List, []}
 use mathlib.Core.Logic.{⊎-elim}
 use native.Mathlib.Omega.{arith}
 use borrow.Author.Tests.{le-leb, lt-ltb}
+use lib.Dec.{leb, ltb}
 use lib.ListN.{length}
 use Rattle.characters.proofs.Tests.{le-or-lt}
 use Rattle.area.specs.declared.State.{State}
@@ -36,7 +37,16 @@ module _ (z : Sizes) where
   rule-good : (j : ℕ) (x : Rule) → RuleHolds (z .source) (z .states) (z .entries) (z .text) j x → goodRule z x ≡ true
   unfolding goodRule
   rule-good j x h =
-      rw (h .hasId, le-leb (x .named) 1 (h .named), le-leb (x .place) 1 (h .place), le-leb (x .«span_start») (x .«span_end») (h .ordered), le-leb (x .«span_end») (z .source) (h .inside), le-leb (x .«name_from» + x .«name_length») (z .source) (h .name), le-leb (x .«text_from» + x .«text_length») (textBytes z (x .place)) (h .text), le-leb (x .«list_from» + x .«list_count») (z .entries) (h .list), le-leb (x .operation) 3 (h .operation), lt-ltb (x .target) (z .states) (h .target))
+      let named-small : leb (x .named) 1 ≡ true = le-leb _ _ (h .named) in
+      let place-small : leb (x .place) 1 ≡ true = le-leb _ _ (h .place) in
+      let span-ordered : leb (x .«span_start») (x .«span_end») ≡ true = le-leb _ _ (h .ordered) in
+      let span-inside : leb (x .«span_end») (z .source) ≡ true = le-leb _ _ (h .inside) in
+      let name-inside : leb (x .«name_from» + x .«name_length») (z .source) ≡ true = le-leb _ _ (h .name) in
+      let text-inside : leb (x .«text_from» + x .«text_length») (textBytes z (x .place)) ≡ true = le-leb _ _ (h .text) in
+      let list-inside : leb (x .«list_from» + x .«list_count») (z .entries) ≡ true = le-leb _ _ (h .list) in
+      let operation-small : leb (x .operation) 3 ≡ true = le-leb _ _ (h .operation) in
+      let target-declared : ltb (x .target) (z .states) ≡ true = lt-ltb _ _ (h .target) in
+      rw (h .hasId, named-small, place-small, span-ordered, span-inside, name-inside, text-inside, list-inside, operation-small, target-declared)
 
 -- ---- the contents
 
@@ -45,10 +55,24 @@ module _ (s : List ℕ) (k : Caps) (c : Contents) (h : ContentsHold s k c) where
   abbrev z : Sizes
   z = sizesOf (sheetLeftBy s (sheetLeft c k))
 
+  states-good : all (goodState z) (c .states) ≡ true
+  states-good = all-pass (StateHolds (z .source)) (goodState z) (stateOf (λ _. 0)) (c .states) (λ j x _. state-good z j x) (h .states .each)
+
+  rules-good : all (goodRule z) (c .rules) ≡ true
+  rules-good =
+      all-pass (RuleHolds (z .source) (z .states) (z .entries) (z .text)) (goodRule z) (ruleOf (λ _. 0)) (c .rules)
+      (λ j x _. rule-good z j x) (h .rules .each)
+
+  entries-good : all (declared (z .states)) (c .lists) ≡ true
+  entries-good = all-pass (EntryHolds (z .states)) (declared (z .states)) 0 (c .lists) (λ j id _. lt-ltb id (z .states)) (h .lists .each)
+
+  all-expected-good : all (goodExpected z) (c .expected) ≡ true
+  all-expected-good =
+      all-pass (ExpectedHolds (z .source)) (goodExpected z) (expectedOf (λ _. 0)) (c .expected) (λ j x _. expected-good z j x) (h .expected .each)
+
   records-good : goodRecords z (c .states) (c .rules) (c .lists) (c .expected) ≡ true
   unfolding goodRecords
-  records-good =
-      rw (all-pass (StateHolds (z .source)) (goodState z) (stateOf (λ _. 0)) (c .states) (λ j x _. state-good z j x) (h .states .each), all-pass (RuleHolds (z .source) (z .states) (z .entries) (z .text)) (goodRule z) (ruleOf (λ _. 0)) (c .rules) (λ j x _. rule-good z j x) (h .rules .each), all-pass (EntryHolds (z .states)) (declared (z .states)) 0 (c .lists) (λ j id _. lt-ltb id (z .states)) (h .lists .each), all-pass (ExpectedHolds (z .source)) (goodExpected z) (expectedOf (λ _. 0)) (c .expected) (λ j x _. expected-good z j x) (h .expected .each))
+  records-good = rw (states-good, rules-good, entries-good, all-expected-good)
 
   counts-good : goodCounts (z .states) (z .rules) ≡ true
   unfolding goodCounts
@@ -63,7 +87,9 @@ module _ (asked : Request) (k : Caps) (c : Contents) (is : outcome asked k ≡ a
   accepted-good = records-good (asked .source) k c (accepted-holds asked k c is)
 
   -- no two rules of an accepted parse have the same name
-  pub accepted-names-distinct : (i j : ℕ) → i < length (c .rules) → j < length (c .rules) → (i ≡ j → ⊥) → nthRule (c .rules) i .named ≡ 1 → nthRule (c .rules) j .named ≡ 1 → nameOf (asked .source) (nthRule (c .rules) i) ≡ nameOf (asked .source) (nthRule (c .rules) j) → ⊥
+  pub accepted-names-distinct : (i j : ℕ) → i < length (c .rules) → j < length (c .rules) → (i ≡ j → ⊥)
+      → nthRule (c .rules) i .named ≡ 1 → nthRule (c .rules) j .named ≡ 1
+      → nameOf (asked .source) (nthRule (c .rules) i) ≡ nameOf (asked .source) (nthRule (c .rules) j) → ⊥
   accepted-names-distinct i j hi hj d ni nj q =
       let names = accepted-holds asked k c is .rules .distinct in
       ⊎-elim (λ l. names .differ i j (omega arith) hj ni nj q) (λ l. names .differ j i l hi nj ni (sym q)) (le-or-lt i j)

@@ -54,13 +54,18 @@ module _ (s : List ℕ) (k : Caps) (c : Contents) (f : ContentsFit k c) where
   laid-decodes : c .faults ≡ [] → decoded bytes ≡ c
   unfolding decoded
   laid-decodes e =
-      λ i. contentsMade (laid-contents state-sound (f .states) i) (laid-contents rule-sound (f .rules) i) (laid-contents entry-sound (f .lists) i) (laid-contents text-sound (f .text) i)
-      (laid-contents expected-sound (f .expected) i) (sym e i)
+      λ i. contentsMade (laid-contents state-sound (f .states) i) (laid-contents rule-sound (f .rules) i)
+      (laid-contents entry-sound (f .lists) i) (laid-contents text-sound (f .text) i) (laid-contents expected-sound (f .expected) i) (sym e i)
 
   laid-enough : longEnough (sizesOf bytes) ≡ true
   unfolding longEnough
   laid-enough =
-      rw (le-leb _ _ (laid-long state-sound (f .states)), le-leb _ _ (laid-long rule-sound (f .rules)), le-leb _ _ (laid-long entry-sound (f .lists)), le-leb (length (c .text)) (length (laid textFormat (k .c4) (c .text))) (omega (arith, laid-long text-sound (f .text))), le-leb _ _ (laid-long expected-sound (f .expected)))
+      let states-long = le-leb _ _ (laid-long state-sound (f .states)) in
+      let rules-long = le-leb _ _ (laid-long rule-sound (f .rules)) in
+      let entries-long = le-leb _ _ (laid-long entry-sound (f .lists)) in
+      let text-long = le-leb (length (c .text)) (length (laid textFormat (k .c4) (c .text))) (omega (arith, laid-long text-sound (f .text))) in
+      let expected-long = le-leb _ _ (laid-long expected-sound (f .expected)) in
+      rw (states-long, rules-long, entries-long, text-long, expected-long)
 
 -- ---- the call
 

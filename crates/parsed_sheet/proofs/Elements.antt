@@ -38,5 +38,6 @@ each-all test d [] e = refl
 each-all test d (x ∷ xs) e = rw (e .at 0 (suc-le-suc zero-le)) (each-all test d xs (record { at = λ j h. e .at (suc j) (suc-le-suc h) }))
 
 -- what holds of each element by its place, and implies a test, passes the test of all
-pub all-pass : {A : Type 0} (P : ℕ → A → Type 0) (test : A → Bool) (d : A) (xs : List A) → ((j : ℕ) (x : A) → j < length xs → P j x → test x ≡ true) → Each P d xs → all test xs ≡ true
+pub all-pass : {A : Type 0} (P : ℕ → A → Type 0) (test : A → Bool) (d : A) (xs : List A)
+    → ((j : ℕ) (x : A) → j < length xs → P j x → test x ≡ true) → Each P d xs → all test xs ≡ true
 all-pass P test d xs f e = each-all test d xs (each-weaken P d xs (λ _ x. test x ≡ true) f e)

@@ -73,10 +73,14 @@ accepted-fields asked k c is =
     let a = length (c .lists) in
     let b = length (c .text) in
     let short : n ≤ 65535 = accepted-short asked k c is in
+    let states-few : m ≤ 64 = h .states .fits .few in
+    let entries-few : a ≤ 65535 = h .lists .fits .few in
+    let text-few : b ≤ 65535 = h .text .fits .few in
     record {
       states = all-pass (StateHolds n) (λ x. all isField (stateFields x)) (stateOf (λ _. 0)) (c .states) (λ j x _. state-fields n short j x) (h .states .each);
       rules = all-pass (RuleHolds n m a b) (λ x. all isField (ruleFields x)) (ruleOf (λ _. 0)) (c .rules)
-          (λ j x l. rule-fields n short m a b j (h .states .fits .few) (h .lists .fits .few) (h .text .fits .few) (omega (arith, l, h .rules .fits .few)) x) (h .rules .each);
-      lists = all-pass (EntryHolds m) isField 0 (c .lists) (λ j id _ l. lt-ltb id 65536 (omega (arith, l, h .states .fits .few))) (h .lists .each);
-      expected = all-pass (ExpectedHolds n) (λ x. all isField (expectedFields x)) (expectedOf (λ _. 0)) (c .expected) (λ j x _. expected-fields n short j x) (h .expected .each);
+          (λ j x l. rule-fields n short m a b j states-few entries-few text-few (omega (arith, l, h .rules .fits .few)) x) (h .rules .each);
+      lists = all-pass (EntryHolds m) isField 0 (c .lists) (λ j id _ l. lt-ltb id 65536 (omega (arith, l, states-few))) (h .lists .each);
+      expected = all-pass (ExpectedHolds n) (λ x. all isField (expectedFields x)) (expectedOf (λ _. 0)) (c .expected)
+          (λ j x _. expected-fields n short j x) (h .expected .each);
     }

@@ -131,7 +131,8 @@ stays-written : {S : Type 0} (n i : ℕ) → n ≤ 6 → {a b : Option S} → Gr
 stays-written n i l {a = none} h = record { kept = l }
 stays-written n i l {a = some s} h = record { kept = ap (written n i) (h .kept) }
 
-stays-loop : {S : Type 0} (test : ℕ → Bool) (f g : ℕ → S → Out S) → ((i : ℕ) (s : S) → Stays (f i s) (g i s)) → (n i : ℕ) (s : S) → Stays (loop n test f i s) (loop n test g i s)
+stays-loop : {S : Type 0} (test : ℕ → Bool) (f g : ℕ → S → Out S) → ((i : ℕ) (s : S) → Stays (f i s) (g i s))
+    → (n i : ℕ) (s : S) → Stays (loop n test f i s) (loop n test g i s)
 unfolding loop
 stays-loop test f g h zero i s = stays-go i s
 stays-loop test f g h (suc n) i s = stays-if (test i) (stays-next (h i s) (λ j t. stays-loop test f g h n j t)) (stays-go i s)
@@ -163,17 +164,22 @@ module _ (k l : Caps) (w : Wider k l) (s : List ℕ) where
   grow-state x n =
       stays-if (not (isStateName s (x .start) (x .end))) (stays-bad InvalidStartStateName (x .start) n)
       (stays-if (ltb (stateNamed s x (n .states)) (length (n .states)))
-      (stays-onto (names (n .states)) (stays-written 6 (behindName s x) (omega arith) (grown-repeat (k .c6) (l .c6) (w .w6) DuplicateStartState _ _ (x .start) (x .end) (n .faults))))
-      (stays-onto (λ xs. names xs (n .faults)) (stays-written 1 (behindName s x) (omega arith) (grown-append stateFormat (k .c1) (l .c1) (w .w1) (x ∷ []) (n .states)))))
+      (stays-onto (names (n .states)) (stays-written 6 (behindName s x) (omega arith)
+      (grown-repeat (k .c6) (l .c6) (w .w6) DuplicateStartState _ _ (x .start) (x .end) (n .faults))))
+      (stays-onto (λ xs. names xs (n .faults)) (stays-written 1 (behindName s x) (omega arith)
+      (grown-append stateFormat (k .c1) (l .c1) (w .w1) (x ∷ []) (n .states)))))
 
-  grow-names : (exclusive : ℕ) (r : Range) (n : Names) → Stays (stateNames s (nameCaps (k .c1) (k .c6)) exclusive r n) (stateNames s (nameCaps (l .c1) (l .c6)) exclusive r n)
+  grow-names : (exclusive : ℕ) (r : Range) (n : Names)
+      → Stays (stateNames s (nameCaps (k .c1) (k .c6)) exclusive r n) (stateNames s (nameCaps (l .c1) (l .c6)) exclusive r n)
   unfolding stateNames
   grow-names exclusive r n = stays-loop _ _ _ (λ j m. grow-state _ m) (length s) (r .from) n
 
   grow-quoted : (line word : Range) (xs : List Expected) → Stays (declareExpected s (k .c5) line word xs) (declareExpected s (l .c5) line word xs)
   unfolding declareExpected
   grow-quoted line word xs =
-      stays-if (isQuoted s word) (stays-written 5 _ (omega arith) (grown-append expectedFormat (k .c5) (l .c5) (w .w5) (expected (word .from + 1) (word .to - 1) ∷ []) xs)) (stays-bad InvalidName (line .from) xs)
+      let x = expected (word .from + 1) (word .to - 1) in
+      stays-if (isQuoted s word) (stays-written 5 _ (omega arith) (grown-append expectedFormat (k .c5) (l .c5) (w .w5) (x ∷ []) xs))
+      (stays-bad InvalidName (line .from) xs)
 
   grow-expected : (line : Range) (a : ℕ) (xs : List Expected) → Stays (expectedNames s (k .c5) line a xs) (expectedNames s (l .c5) line a xs)
   unfolding expectedNames
@@ -181,7 +187,8 @@ module _ (k l : Caps) (w : Wider k l) (s : List ℕ) where
 
   grow-declare : (line : Range) (x : Declaration) (d : Declared) → Stays (declareAs s (declarationCaps k) line x d) (declareAs s (declarationCaps l) line x d)
   unfolding declareAs
-  grow-declare line (States exclusive a e) d = stays-next (stays-onto (withNames d) (grow-names exclusive (range a e) (names (d .states) (d .faults)))) (λ j m. stays-go (line .to) m)
+  grow-declare line (States exclusive a e) d =
+      stays-next (stays-onto (withNames d) (grow-names exclusive (range a e) (names (d .states) (d .faults)))) (λ j m. stays-go (line .to) m)
   grow-declare line (Expecting a) d = stays-next (stays-onto (withExpected d) (grow-expected line a (d .expected))) (λ j m. stays-go (line .to) m)
   grow-declare line Unknown d = stays-bad UnknownDeclaration (line .from) d
 
@@ -189,7 +196,9 @@ module _ (k l : Caps) (w : Wider k l) (s : List ℕ) where
       → Stays (declarations s options (declarationCaps k) i d) (declarations s options (declarationCaps l) i d)
   unfolding declarations nextDeclaration declaration endDeclarations
   grow-declarations options i d =
-      stays-next (stays-loop _ _ _ (λ j m. stays-next (grow-declare _ _ m) (λ p t. stays-go (toDeclaration s (options .flags) p) t)) (length s) _ d) (λ j m. stays-if (found (lookaheadIs s percents j)) (stays-go _ m) (stays-bad _ _ m))
+      stays-next
+      (stays-loop _ _ _ (λ j m. stays-next (grow-declare _ _ m) (λ p t. stays-go (toDeclaration s (options .flags) p) t)) (length s) _ d)
+      (λ j m. stays-if (found (lookaheadIs s percents j)) (stays-go _ m) (stays-bad _ _ m))
 
   -- ---- a list of states
 
@@ -207,10 +216,12 @@ module _ (k l : Caps) (w : Wider k l) (s : List ℕ) where
 -- ---- rules
 
 module _ (k l : Caps) (w : Wider k l) (asked : Request) (xs : List State) where
-  grow-record : (i e : ℕ) (x : Rule) (rs : List Rule) → Stays (recordRule (asked .verdicts) (k .c2) i e x rs) (recordRule (asked .verdicts) (l .c2) i e x rs)
+  grow-record : (i e : ℕ) (x : Rule) (rs : List Rule)
+      → Stays (recordRule (asked .verdicts) (k .c2) i e x rs) (recordRule (asked .verdicts) (l .c2) i e x rs)
   unfolding recordRule
   grow-record i e x rs =
-      stays-if (refuses (asked .verdicts) (length rs)) (stays-bad RegexError i rs) (stays-written 2 e (omega arith) (grown-append ruleFormat (k .c2) (l .c2) (w .w2) (x ∷ []) rs))
+      stays-if (refuses (asked .verdicts) (length rs)) (stays-bad RegexError i rs)
+      (stays-written 2 e (omega arith) (grown-append ruleFormat (k .c2) (l .c2) (w .w2) (x ∷ []) rs))
 
   module _ (i e : ℕ) (h : Head) (c : ℕ) where
     grow-with : (t : Text) (list : StateList) (v : Sheet)
@@ -220,12 +231,17 @@ module _ (k l : Caps) (w : Wider k l) (asked : Request) (xs : List State) where
 
     grow-listed : (g : ℕ) (v : Sheet) → Stays (listedRule asked (ruleCaps k) i e h c xs g v) (listedRule asked (ruleCaps l) i e h c xs g v)
     unfolding listedRule
-    grow-listed g v = stays-next (stays-onto (λ ids. sheet (v .rules) ids (v .text)) (grow-entries k l w (asked .source) xs i g (v .lists))) (λ _ u. grow-with _ _ u)
+    grow-listed g v =
+        stays-next (stays-onto (λ ids. sheet (v .rules) ids (v .text)) (grow-entries k l w (asked .source) xs i g (v .lists)))
+        (λ _ u. grow-with _ _ u)
 
     grow-rewritten : (v : Sheet) → Stays (rewrittenRule asked (ruleCaps k) i e h c v) (rewrittenRule asked (ruleCaps l) i e h c v)
     unfolding rewrittenRule
     grow-rewritten v =
-        stays-next (stays-onto (λ t. sheet (v .rules) (v .lists) t) (stays-written 4 e (omega arith) (grown-append textFormat (k .c4) (l .c4) (w .w4) (unescaped (asked .source) (asked .options .flags) i c) (v .text))))
+        let text = unescaped (asked .source) (asked .options .flags) i c in
+        stays-next
+        (stays-onto (λ t. sheet (v .rules) (v .lists) t)
+        (stays-written 4 e (omega arith) (grown-append textFormat (k .c4) (l .c4) (w .w4) text (v .text))))
         (λ _ u. grow-with _ _ u)
 
     grow-pattern : (v : Sheet) → Stays (pattern asked (ruleCaps k) i e h c xs v) (pattern asked (ruleCaps l) i e h c xs v)
@@ -234,27 +250,44 @@ module _ (k l : Caps) (w : Wider k l) (asked : Request) (xs : List State) where
         both : {o p x y : Out Sheet} → o ≡ x → p ≡ y → Stays x y → Stays o p
         both {p = p} {x = x} e f q = subst⁻¹ (λ (z : Out Sheet). Stays z p) e (subst⁻¹ (Stays x) f q)
 
-        by : (b : Body) → bodyOf (asked .source) i c ≡ b → Stays (pattern asked (ruleCaps k) i e h c xs v) (pattern asked (ruleCaps l) i e h c xs v)
-        by Unclosed q = both (pattern-is-unclosed asked (ruleCaps k) i e h c xs v q) (pattern-is-unclosed asked (ruleCaps l) i e h c xs v q) (stays-bad InvalidStartState i v)
-        by (Listed g) q = both (pattern-is-listed asked (ruleCaps k) i e h c xs v g q) (pattern-is-listed asked (ruleCaps l) i e h c xs v g q) (grow-listed g v)
-        by Rewritten q = both (pattern-is-rewritten asked (ruleCaps k) i e h c xs v q) (pattern-is-rewritten asked (ruleCaps l) i e h c xs v q) (grow-rewritten v)
-        by Plain q = both (pattern-is-plain asked (ruleCaps k) i e h c xs v q) (pattern-is-plain asked (ruleCaps l) i e h c xs v q) (grow-with _ _ v)
+        by : (b : Body) → bodyOf (asked .source) i c ≡ b
+            → Stays (pattern asked (ruleCaps k) i e h c xs v) (pattern asked (ruleCaps l) i e h c xs v)
+        by Unclosed q =
+            both (pattern-is-unclosed asked (ruleCaps k) i e h c xs v q) (pattern-is-unclosed asked (ruleCaps l) i e h c xs v q)
+            (stays-bad InvalidStartState i v)
+        by (Listed g) q =
+            both (pattern-is-listed asked (ruleCaps k) i e h c xs v g q) (pattern-is-listed asked (ruleCaps l) i e h c xs v g q)
+            (grow-listed g v)
+        by Rewritten q =
+            both (pattern-is-rewritten asked (ruleCaps k) i e h c xs v q) (pattern-is-rewritten asked (ruleCaps l) i e h c xs v q)
+            (grow-rewritten v)
+        by Plain q =
+            both (pattern-is-plain asked (ruleCaps k) i e h c xs v q) (pattern-is-plain asked (ruleCaps l) i e h c xs v q)
+            (grow-with _ _ v)
 
   grow-rule : (i e : ℕ) (x : Heading) (r : Ruled) → Stays (ruleAs asked xs (ruleCaps k) (k .c6) i e x r) (ruleAs asked xs (ruleCaps l) (l .c6) i e x r)
   unfolding ruleAs
   grow-rule i e (Faulty kind at) r = stays-bad kind at r
-  grow-rule i e (Repeated x y a z) r = stays-onto (withFaults r) (stays-written 6 e (omega arith) (grown-repeat (k .c6) (l .c6) (w .w6) DuplicateName x y a z (r .faults)))
+  grow-rule i e (Repeated x y a z) r =
+      stays-onto (withFaults r) (stays-written 6 e (omega arith) (grown-repeat (k .c6) (l .c6) (w .w6) DuplicateName x y a z (r .faults)))
   grow-rule i e (Fresh b h) r = stays-onto (withSheet r) (grow-pattern i e h _ (sheetOf r))
 
   grow-line : (i e : ℕ) (r : Ruled) → Stays (line asked xs (ruleCaps k) (k .c6) i e r) (line asked xs (ruleCaps l) (l .c6) i e r)
   unfolding line rule
   grow-line i e r =
-      stays-if (atWhitespace (asked .source) i) (stays-onto (withFaults r) (stays-written 6 e (omega arith) (grown-fault (k .c6) (l .c6) (w .w6) VerbatimNotSupported i e (r .faults)))) (grow-rule i e _ r)
+      stays-if (atWhitespace (asked .source) i)
+      (stays-onto (withFaults r) (stays-written 6 e (omega arith) (grown-fault (k .c6) (l .c6) (w .w6) VerbatimNotSupported i e (r .faults))))
+      (grow-rule i e _ r)
 
   grow-rules : (i : ℕ) (r : Ruled) → Stays (rulesSection asked xs (ruleCaps k) (k .c6) i r) (rulesSection asked xs (ruleCaps l) (l .c6) i r)
   unfolding rulesSection rules nextRule routines
   grow-rules i r =
-      stays-next (stays-loop _ _ _ (λ j t. stays-next (grow-line j (lineEnd (asked .source) j) t) (λ p q. stays-go (toRule (asked .source) (asked .options .flags) (lineEnd (asked .source) j)) q)) (length (asked .source)) _ r) (λ j t. stays-if (hasRoutines (asked .source) j) (stays-bad _ _ t) (stays-go _ t))
+      stays-next
+      (stays-loop _ _ _
+      (λ j t.
+      let e = lineEnd (asked .source) j in
+      stays-next (grow-line j e t) (λ p q. stays-go (toRule (asked .source) (asked .options .flags) e) q)) (length (asked .source)) _ r)
+      (λ j t. stays-if (hasRoutines (asked .source) j) (stays-bad _ _ t) (stays-go _ t))
 
 -- ---- the file
 
@@ -290,17 +323,23 @@ settled-ending faults c d w {o = bad kind at s} h k = rw (h .kept) (settled-clos
 settled-ending faults c d w {o = full n} h k = record { kept = h .kept }
 
 module _ (k l : Caps) (w : Wider k l) (asked : Request) where
-  grow-opening : Stays (opening (asked .source) (asked .options) (declarationCaps k) undeclared) (opening (asked .source) (asked .options) (declarationCaps l) undeclared)
+  abbrev opened : Caps → Out Declared
+  opened caps = opening (asked .source) (asked .options) (declarationCaps caps) undeclared
+
+  grow-opening : Stays (opened k) (opened l)
   unfolding opening
   grow-opening =
-      stays-next (stays-onto (withStates undeclared) (stays-written 1 0 (omega arith) (grown-append stateFormat (k .c1) (l .c1) (w .w1) (state 0 0 0 ∷ []) (undeclared .states))))
+      stays-next
+      (stays-onto (withStates undeclared)
+      (stays-written 1 0 (omega arith) (grown-append stateFormat (k .c1) (l .c1) (w .w1) (state 0 0 0 ∷ []) (undeclared .states))))
       (λ i d. grow-declarations k l w (asked .source) (asked .options) i d)
 
   grow-file : Settled (file asked k) (file asked l)
   unfolding file rulesFrom
   grow-file =
       settled-ending (λ d. d .faults) (k .c6) (l .c6) (w .w6) grow-opening
-      (λ i d. settled-ending (λ r. r .faults) (k .c6) (l .c6) (w .w6) (grow-rules k l w asked (d .states) i (noRules d)) (λ j r. settled-judge (contentsOf d r)))
+      (λ i d. settled-ending (λ r. r .faults) (k .c6) (l .c6) (w .w6) (grow-rules k l w asked (d .states) i (noRules d))
+      (λ j r. settled-judge (contentsOf d r)))
 
   -- an outcome without a full area is the same in larger areas
   pub larger : Settled (outcome asked k) (outcome asked l)

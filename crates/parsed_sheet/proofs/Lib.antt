@@ -5,6 +5,7 @@ pub mod ByteLists
 pub mod Declaring
 pub mod Headings
 pub mod Ruling
+pub mod Outcomes
 pub mod Accepting
 pub mod Checking
 pub mod Fields

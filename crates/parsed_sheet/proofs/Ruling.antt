@@ -46,7 +46,8 @@ use Rattle.parsed_sheet.proofs.Headings.{HeadHolds, heading-holds}
 -- ---- a rule more, and more entries and text behind the rules
 
 module _ (s : List ℕ) (m a b cap : ℕ) (rs : List Rule) where
-  rules-more : (x : Rule) → RulesHold s m a b cap rs → RuleHolds (length s) m a b (length rs) x → Unused s rs (x .named) (x .«name_from») (x .«name_length») → Fits ruleFormat cap (rs ++ (x ∷ [])) → RulesHold s m a b cap (rs ++ (x ∷ []))
+  rules-more : (x : Rule) → RulesHold s m a b cap rs → RuleHolds (length s) m a b (length rs) x
+      → Unused s rs (x .named) (x .«name_from») (x .«name_length») → Fits ruleFormat cap (rs ++ (x ∷ [])) → RulesHold s m a b cap (rs ++ (x ∷ []))
   rules-more x h g u f = record {
     each = each-snoc (RuleHolds (length s) m a b) (ruleOf (λ _. 0)) rs x (h .each) g;
     distinct = distinct-more s rs x (h .distinct) u;
@@ -120,11 +121,13 @@ module _ (s : List ℕ) (m a b : ℕ) where
       → Unused s rs (x .named) (x .«name_from») (x .«name_length») → Yields (λ _ ys. RulesHold s m a b c2 ys) (recordRule verdicts c2 i e x rs)
   unfolding recordRule
   record-kept verdicts c2 i e x rs h g u =
-      by-test (Yields (λ _ ys. RulesHold s m a b c2 ys)) (refuses verdicts (length rs)) (bad RegexError i rs) (written 2 e (append ruleFormat c2 (x ∷ []) rs)) (λ _. tt)
-      (λ _. yields-append (λ _ ys. RulesHold s m a b c2 ys) ruleFormat c2 2 e (x ∷ []) rs (rules-more s m a b c2 rs x h g u))
+      let AllRules : ℕ → List Rule → Type 0 = λ _ ys. RulesHold s m a b c2 ys in
+      by-test (Yields AllRules) (refuses verdicts (length rs)) (bad RegexError i rs) (written 2 e (append ruleFormat c2 (x ∷ []) rs)) (λ _. tt)
+      (λ _. yields-append AllRules ruleFormat c2 2 e (x ∷ []) rs (rules-more s m a b c2 rs x h g u))
 
   -- the record of a heading, with its text and its list
-  rule-of : (rs : List Rule) (h : Head) → HeadHolds s m h → (x : Text) (y : StateList) → x .place ≤ 1 → x .from + x .length ≤ cond (eqb (x .place) 1) b (length s) → y .from + y .count ≤ a
+  rule-of : (rs : List Rule) (h : Head) → HeadHolds s m h → (x : Text) (y : StateList) → x .place ≤ 1
+      → x .from + x .length ≤ cond (eqb (x .place) 1) b (length s) → y .from + y .count ≤ a
       → RuleHolds (length s) m a b (length rs) (R.ruleOf h (length rs) x y)
   rule-of rs h g x y p t l = record {
     hasId = refl;
@@ -146,51 +149,67 @@ module _ (asked : Request) (xs : List State) (k : Caps) (i e : ℕ) where
 
   module _ (w : Sheet) (holds : SheetHolds (asked .source) (length xs) k w) (h : Head) (head : HeadHolds (asked .source) (length xs) h)
       (unused : Unused (asked .source) (w .rules) (h .named) (h .«name_from») (h .«name_length»)) (c : ℕ) (cl : c ≤ length (asked .source)) where
-    -- the rule of a text and a list, behind list entries and text that hold and are no fewer
-    with-kept : (x : Text) (y : StateList) (ids t : List ℕ) → x .place ≤ 1 → x .from + x .length ≤ cond (eqb (x .place) 1) (length t) (length (asked .source)) → y .from + y .count ≤ length ids
-        → EntriesFrom (length (w .lists)) (length xs) (k .c3) ids → length (w .text) ≤ length t → TextHolds (k .c4) t
-        → Yields Sheets (withRule asked k i e h x y (sheet (w .rules) ids t))
+    -- list entries and text that hold and are no fewer
+    abbrev MoreEntries : ℕ → List ℕ → Type 0
+    MoreEntries j ids = EntriesFrom (length (w .lists)) (length xs) (k .c3) ids
+
+    abbrev MoreText : ℕ → List ℕ → Type 0
+    MoreText j t = (length (w .text) ≤ length t) × TextHolds (k .c4) t
+
+    -- the rule of a text and a list, behind such entries and text
+    with-kept : (x : Text) (y : StateList) (ids t : List ℕ) → x .place ≤ 1
+        → x .from + x .length ≤ cond (eqb (x .place) 1) (length t) (length (asked .source)) → y .from + y .count ≤ length ids
+        → MoreEntries e ids → MoreText e t → Yields Sheets (withRule asked k i e h x y (sheet (w .rules) ids t))
     unfolding withRule
-    with-kept x y ids t px tx ly g longer holds-text =
+    with-kept x y ids t px tx ly g u =
         let a = length ids in
         let b = length t in
         let z = R.ruleOf h (length (w .rules)) x y in
-        yields-onto (λ _ rs. RulesHold (asked .source) (length xs) a b (k .c2) rs) Sheets (λ rs. sheet rs ids t) (recordRule (asked .verdicts) (k .c2) i e z (w .rules))
+        let AllRules : ℕ → List Rule → Type 0 = λ _ rs. RulesHold (asked .source) (length xs) a b (k .c2) rs in
+        yields-onto AllRules Sheets (λ rs. sheet rs ids t) (recordRule (asked .verdicts) (k .c2) i e z (w .rules))
         (record-kept (asked .source) (length xs) a b (asked .verdicts) (k .c2) i e z (w .rules)
-        (rules-weaken (asked .source) (length xs) (length (w .lists)) (length (w .text)) (k .c2) (w .rules) a b (g .longer) longer (holds .rules))
+        (rules-weaken (asked .source) (length xs) (length (w .lists)) (length (w .text)) (k .c2) (w .rules) a b (g .longer) (u .0) (holds .rules))
         (rule-of (asked .source) (length xs) a b (w .rules) h head x y px tx ly) unused)
-        (λ _ rs r. record { rules = r; lists = g .hold; text = holds-text })
+        (λ _ rs r. record { rules = r; lists = g .hold; text = u .1 })
 
-    same-entries : EntriesFrom (length (w .lists)) (length xs) (k .c3) (w .lists)
+    same-entries : MoreEntries e (w .lists)
     same-entries = record { longer = le-refl (length (w .lists)); hold = holds .lists }
 
+    same-text : MoreText e (w .text)
+    same-text = (le-refl (length (w .text)), holds .text)
+
     -- the rule follows a step that writes list entries, or text
-    then-kept : (P : ℕ → List ℕ → Type 0) (f : List ℕ → Sheet) (o : Out (List ℕ)) (g : ℕ → Sheet → Out Sheet) → Yields P o → ((j : ℕ) (ys : List ℕ) → P j ys → Yields Sheets (g j (f ys)))
-        → Yields Sheets (next (onto f o) g)
+    then-kept : (P : ℕ → List ℕ → Type 0) (f : List ℕ → Sheet) (o : Out (List ℕ)) (g : ℕ → Sheet → Out Sheet) → Yields P o
+        → ((j : ℕ) (ys : List ℕ) → P j ys → Yields Sheets (g j (f ys))) → Yields Sheets (next (onto f o) g)
     then-kept P f o g h then =
         yields-next (λ j v. Yields Sheets (g j v)) Sheets (onto f o) g (yields-onto P (λ j v. Yields Sheets (g j v)) f o h then) (λ _ _ y. y)
 
     listed-kept : (g : ℕ) → g < c → Yields Sheets (listedRule asked k i e h c xs g w)
     unfolding listedRule
     listed-kept g gc =
-        then-kept (λ _ ids. EntriesFrom (length (w .lists)) (length xs) (k .c3) ids) (λ ids. sheet (w .rules) ids (w .text)) (entries (asked .source) (k .c3) xs i g (w .lists))
-        (λ _ v. withRule asked k i e h (sourceText (g + 1) c) (listSince w v) v) (entries-kept (asked .source) (k .c3) (length (w .lists)) xs i g (w .lists) same-entries)
-        (λ _ ids f. with-kept (sourceText (g + 1) c) (listSince w (sheet (w .rules) ids (w .text))) ids (w .text) (omega arith) (omega arith) (omega (arith, f .longer)) f (le-refl (length (w .text))) (holds .text))
+        let listed : List ℕ → Sheet = λ ids. sheet (w .rules) ids (w .text) in
+        let text = sourceText (g + 1) c in
+        then-kept MoreEntries listed (entries (asked .source) (k .c3) xs i g (w .lists)) (λ _ v. withRule asked k i e h text (listSince w v) v)
+        (entries-kept (asked .source) (k .c3) (length (w .lists)) xs i g (w .lists) same-entries)
+        (λ _ ids f. with-kept text (listSince w (listed ids)) ids (w .text) (omega arith) (omega arith) (omega (arith, f .longer)) f same-text)
 
     rewritten-kept : all isByte (asked .source) ≡ true → Yields Sheets (rewrittenRule asked k i e h c w)
     unfolding rewrittenRule
     rewritten-kept source =
         let u = unescaped (asked .source) (asked .options .flags) i c in
-        then-kept (λ _ t. (length (w .text) ≤ length t) × TextHolds (k .c4) t) (λ t. sheet (w .rules) (w .lists) t) (written 4 e (append textFormat (k .c4) u (w .text)))
+        let rewritten : List ℕ → Sheet = λ t. sheet (w .rules) (w .lists) t in
+        let its-bytes : all isByte u ≡ true = unescaped-bytes (asked .source) (asked .options .flags) c source i in
+        let all-bytes : all isByte (w .text ++ u) ≡ true = all-append isByte (w .text) u (holds .text .bytes) its-bytes in
+        then-kept MoreText rewritten (written 4 e (append textFormat (k .c4) u (w .text)))
         (λ _ v. withRule asked k i e h (textSince w v) (noList w) v)
-        (yields-append (λ _ t. (length (w .text) ≤ length t) × TextHolds (k .c4) t) textFormat (k .c4) 4 e u (w .text)
-        (λ f. (omega (arith, length-append (w .text) u), record { bytes = all-append isByte (w .text) u (holds .text .bytes) (unescaped-bytes (asked .source) (asked .options .flags) c source i); fits = f })))
-        (λ _ t f. with-kept (textSince w (sheet (w .rules) (w .lists) t)) (noList w) (w .lists) t (omega arith) (omega (arith, f .0)) (omega arith) same-entries (f .0) (f .1))
+        (yields-append MoreText textFormat (k .c4) 4 e u (w .text)
+        (λ f. (omega (arith, length-append (w .text) u), record { bytes = all-bytes; fits = f })))
+        (λ _ t f. with-kept (textSince w (rewritten t)) (noList w) (w .lists) t (omega arith) (omega (arith, f .0)) (omega arith) same-entries f)
 
     pattern-kept : all isByte (asked .source) ≡ true → i ≤ length (asked .source) → Yields Sheets (pattern asked k i e h c xs w)
     pattern-kept source il =
         pattern-cases asked k i e h c xs w (Yields Sheets) tt (λ g _ gc. listed-kept g gc) (rewritten-kept source)
-        (with-kept (sourceText i c) (noList w) (w .lists) (w .text) (omega arith) (omega arith) (omega arith) same-entries (le-refl (length (w .text))) (holds .text))
+        (with-kept (sourceText i c) (noList w) (w .lists) (w .text) (omega arith) (omega arith) (omega arith) same-entries same-text)
 
 -- ---- a line, and the section
 
@@ -203,7 +222,8 @@ module _ (asked : Request) (xs : List State) (stated : 0 < length xs) (source : 
   faults-kept e r none h = tt
   faults-kept e r (some fs) h = h
 
-  as-kept : (i e : ℕ) → i ≤ e → e ≤ length (asked .source) → (r : Ruled) → Lined i r → (x : Heading) → headingOf (asked .source) i (trimEnd (asked .source) i e) xs (r .rules) ≡ x → Yields Lined (ruleAs asked xs k c6 i e x r)
+  as-kept : (i e : ℕ) → i ≤ e → e ≤ length (asked .source) → (r : Ruled) → Lined i r → (x : Heading)
+      → headingOf (asked .source) i (trimEnd (asked .source) i e) xs (r .rules) ≡ x → Yields Lined (ruleAs asked xs k c6 i e x r)
   unfolding ruleAs trimEnd
   as-kept i e a l r h (Faulty kind at) q = tt
   as-kept i e a l r h (Repeated c d b z) q = faults-kept e r (addRepeat c6 DuplicateName c d b z (r .faults)) h
@@ -221,8 +241,9 @@ module _ (asked : Request) (xs : List State) (stated : 0 < length xs) (source : 
   line-kept : (i e : ℕ) → i ≤ e → e ≤ length (asked .source) → (r : Ruled) → Lined i r → Yields Lined (line asked xs k c6 i e r)
   unfolding line rule
   line-kept i e a l r h =
-      by-test (Yields Lined) (atWhitespace (asked .source) i) (onto (withFaults r) (written 6 e (addFault c6 VerbatimNotSupported i e (r .faults)))) (rule asked xs k c6 i e r)
-      (λ _. faults-kept e r (addFault c6 VerbatimNotSupported i e (r .faults)) h)
+      let faults = addFault c6 VerbatimNotSupported i e (r .faults) in
+      by-test (Yields Lined) (atWhitespace (asked .source) i) (onto (withFaults r) (written 6 e faults)) (rule asked xs k c6 i e r)
+      (λ _. faults-kept e r faults h)
       (λ _. as-kept i e a l r h (headingOf (asked .source) i (trimEnd (asked .source) i e) xs (r .rules)) refl)
 
   -- between two lines, and at the section's end, the place is within the source
@@ -234,7 +255,9 @@ module _ (asked : Request) (xs : List State) (stated : 0 < length xs) (source : 
   rule-kept i r h =
       let e = lineEnd (asked .source) i in
       let l : e ≤ length (asked .source) = first-to (atLineEnd (asked .source)) i (length (asked .source)) (h .0) in
-      yields-next Lined Placed (line asked xs k c6 i e r) (λ _ t. go (toRule (asked .source) (asked .options .flags) e) t) (line-kept i e (first-from (atLineEnd (asked .source)) i (length (asked .source))) l r (h .1))
+      let forward : i ≤ e = first-from (atLineEnd (asked .source)) i (length (asked .source)) in
+      yields-next Lined Placed (line asked xs k c6 i e r) (λ _ t. go (toRule (asked .source) (asked .options .flags) e) t)
+      (line-kept i e forward l r (h .1))
       (λ _ t g. (rule-to (asked .source) (asked .options .flags) e l, g))
 
   routines-kept : (i : ℕ) (r : Ruled) → Placed i r → Yields Lined (routines (asked .source) i r)
@@ -242,9 +265,12 @@ module _ (asked : Request) (xs : List State) (stated : 0 < length xs) (source : 
   routines-kept i r h = by-test (Yields Lined) (hasRoutines (asked .source) i) (bad RoutinesNotSupported i r) (go i r) (λ _. tt) (λ _. h .1)
 
   -- the section keeps what holds at its start
-  pub rules-hold : (i : ℕ) (r : Ruled) → i ≤ length (asked .source) → SheetHolds (asked .source) (length xs) k (sheetOf r) → Yields (λ _ t. SheetHolds (asked .source) (length xs) k (sheetOf t)) (rulesSection asked xs k c6 i r)
+  pub rules-hold : (i : ℕ) (r : Ruled) → i ≤ length (asked .source) → SheetHolds (asked .source) (length xs) k (sheetOf r)
+      → Yields (λ _ t. SheetHolds (asked .source) (length xs) k (sheetOf t)) (rulesSection asked xs k c6 i r)
   unfolding rulesSection rules
   rules-hold i r l h =
+      let start = toRule (asked .source) (asked .options .flags) i in
       yields-next Placed Lined (rules asked xs k c6 i r) (routines (asked .source))
-      (yields-loop Placed (inSection (asked .source)) (nextRule asked xs k c6) (λ j t _ g. rule-kept j t g) (length (asked .source)) (toRule (asked .source) (asked .options .flags) i) r (rule-to (asked .source) (asked .options .flags) i l, h))
+      (yields-loop Placed (inSection (asked .source)) (nextRule asked xs k c6) (λ j t _ g. rule-kept j t g) (length (asked .source)) start r
+      (rule-to (asked .source) (asked .options .flags) i l, h))
       routines-kept

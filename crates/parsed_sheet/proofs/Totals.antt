@@ -45,6 +45,9 @@ unfolding nameBytes total
 names-more xs x =
     let d = stateOf (λ _. 0) in
     let f : ℕ → ℕ = λ k. nameLength (nthState (xs ++ (x ∷ [])) k) in
+    let g : ℕ → ℕ = λ k. nameLength (nthState xs k) in
+    let same : (k : ℕ) → k < length xs → f k ≡ g k = λ k h. ap nameLength (List·getD-append xs (x ∷ []) d k h) in
+    let before : total f (length xs) ≡ total g (length xs) = total-same f g (length xs) same in
+    let last : f (length xs) ≡ nameLength x = ap nameLength (getD-append-seam xs x [] d) in
     let z : length (xs ++ (x ∷ [])) ≡ suc (length xs) = length-append xs (x ∷ []) ∙ add-one (length xs) in
-    ap (total f) z
-    ∙ ap₂ (λ (a b : ℕ). a + b) (total-same f (λ k. nameLength (nthState xs k)) (length xs) (λ k h. ap nameLength (List·getD-append xs (x ∷ []) d k h))) (ap nameLength (getD-append-seam xs x [] d))
+    ap (total f) z ∙ ap₂ (λ (a b : ℕ). a + b) before last
