@@ -1,4 +1,4 @@
--- Short words for contracts: what a call that appends does.
+-- A short word for contracts: what a call that appends does.
 use Prim.Native.Nat.{ℕ}
 use mathlib.Core.List.{List}
 use Rattle.area.specs.Contracts.{Bytes, before, after}

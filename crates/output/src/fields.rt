@@ -2,8 +2,8 @@
 ghost use mathlib.Core.Path.{_≡_};
 ghost use Prim.Native.Nat.{_≤_};
 ghost use Rattle.area.specs.Bytes.{fieldAt};
-ghost use Rattle.output.specs.Contracts.{Puts};
 ghost use Rattle.area.specs.Contracts.{before};
+ghost use Rattle.output.specs.Contracts.{Puts};
 ghost use Rattle.output.specs.Output.{printedFieldsAt};
 use crate::put_field;
 use characters::whitespace::byte_at;

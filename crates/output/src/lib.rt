@@ -4,8 +4,8 @@ pub mod fields;
 ghost use mathlib.Core.List.{_∷_, []};
 ghost use Prim.Native.Nat.{_<_};
 ghost use Rattle.text.specs.Range.{part};
-ghost use Rattle.output.specs.Contracts.{Puts};
 ghost use Rattle.area.specs.Contracts.{before};
+ghost use Rattle.output.specs.Contracts.{Puts};
 ghost use Rattle.output.specs.Output.{newline, digitAt, tens, printedField};
 
 const BLANK: u8 = 32;

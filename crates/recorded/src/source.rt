@@ -2,8 +2,8 @@
 ghost use Prim.Native.Nat.{_≤_};
 ghost use lib.ListN.{length};
 ghost use Rattle.text.specs.Range.{part};
-ghost use Rattle.output.specs.Contracts.{Puts};
 ghost use Rattle.area.specs.Contracts.{before, after};
+ghost use Rattle.output.specs.Contracts.{Puts};
 ghost use Rattle.recorded.specs.Records.{repeated, SourceRead};
 use crate::reader::bytes_end;
 use crate::reader::number;

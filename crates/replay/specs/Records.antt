@@ -43,6 +43,10 @@ pub record Called (asked : Request) (l : List ℕ) (lengths word : ℕ) (counts 
 abbrev pub lengthsAt : List ℕ → ℕ → ℕ
 lengthsAt l at = bytesEnd l (skipTo l at 8)
 
+-- what is asked of the source src: the flags and the verdicts that stand behind it
+abbrev pub recordedRequest : List ℕ → List ℕ → ℕ → Request
+recordedRequest src l at = request src (options (longAt l at)) (bytesAt l (skipTo l at 8))
+
 -- the six counts
 abbrev pub countsAt : List ℕ → ℕ → List ℕ
 countsAt l lengths = listOf (λ i. fieldAt l (skipTo l (countsFrom l lengths) (2 * i))) 6
@@ -65,7 +69,7 @@ recorded l lengths m =
 -- what is recorded behind the source src is what the parse call leaves
 pub record Agrees (src l : List ℕ) (at : ℕ) (m : Caps) : Type 0 where
   pub is : recorded l (lengthsAt l at) m
-      ≡ inWords (parseCall (request src (options (longAt l at)) (bytesAt l (skipTo l at 8))) (recordedCaps l (lengthsAt l at) m))
+      ≡ inWords (parseCall (recordedRequest src l at) (recordedCaps l (lengthsAt l at) m))
 
 -- where the next record stands
 abbrev pub recordEnd : List ℕ → ℕ → ℕ

@@ -1,11 +1,12 @@
 // A record replayed: its file is parsed anew, and what the call left is compared with what was recorded.
 ghost use Prim.Native.Nat.{_+_, _≤_, _<_};
 ghost use lib.ListN.{length, take};
-ghost use Rattle.section.specs.Request.{request, options};
 ghost use Rattle.area.specs.Contracts.{before, after};
+ghost use Rattle.section.specs.Request.{request, options};
+ghost use Rattle.parse.specs.Contracts.{roomIn};
 ghost use Rattle.recorded.specs.Comparison.{Compares};
 ghost use Rattle.recorded.specs.Records.{sourceAt, sourceEnd};
-ghost use Rattle.replay.specs.Records.{sizes, buffers, Called, Agrees, recordEnd};
+ghost use Rattle.replay.specs.Records.{buffers, Called, Agrees, recordEnd};
 use libc::STDOUT_FILENO;
 use recorded::compared::Compared;
 use recorded::compared::compare;
@@ -71,9 +72,7 @@ fn replay_in(
 ) -> Compared
     requires { ⌜ at ≤ length (now answers) ⌝ }
     ensures { λ r. ⌜
-        Compares
-        (Agrees (before src) (before answers) at
-        (sizes (before area1) (before area2) (before area3) (before area4) (before area5) (before area6)))
+        Compares (Agrees (before src) (before answers) at (roomIn area1 area2 area3 area4 area5 area6))
         (before answers) at (recordEnd (before answers) at) r
         ⌝ }
 {

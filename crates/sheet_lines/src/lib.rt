@@ -1,9 +1,10 @@
 // Lines of text: a word, then numbers, with a blank before each. The records of a sheet's areas, and refusals.
 ghost use mathlib.Core.Path.{_≡_};
 ghost use Rattle.area.specs.Records.{stateAt, ruleAt, faultAt};
-ghost use Rattle.output.specs.Contracts.{Puts};
 ghost use Rattle.area.specs.Contracts.{before};
-ghost use Rattle.sheet_lines.specs.Lines.{stateName, stateHead, stateLine, ruleLine, faultLine, refusedLine, fullLine, stateLines, ruleLines, faultLines, sheetLines};
+ghost use Rattle.output.specs.Contracts.{Puts};
+ghost use Rattle.sheet_lines.specs.Lines.{stateName, stateHead, stateLine, ruleLine, faultLine, refusedLine, fullLine};
+ghost use Rattle.sheet_lines.specs.Lines.{stateLines, ruleLines, faultLines, sheetLines};
 use answers::AREA_FULL;
 use area::FAULT_WIDTH;
 use area::RULE_WIDTH;

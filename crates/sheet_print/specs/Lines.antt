@@ -23,16 +23,16 @@ textOf s (accepted b) =
     ++ joined (λ k. ruleLine k (nthRule (b .rules) k)) (length (b .rules))
 
 -- how many bytes the program lends for each area
-unfoldable pub lent : Caps
-lent = caps 384 57344 32768 32768 32768 32768
+unfoldable pub sheetCaps : Caps
+sheetCaps = caps 384 57344 32768 32768 32768 32768
 
 -- what `sheet` asks of the file s: flags 0, no verdicts
 abbrev pub sheetRequest : List ℕ → Request
 sheetRequest s = request s (options 0) []
 
--- what it prints
+-- what it prints of it
 unfoldable pub sheetText : List ℕ → List ℕ
-sheetText s = textOf s (outcome (sheetRequest s) lent)
+sheetText s = textOf s (outcome (sheetRequest s) sheetCaps)
 
 -- as many bytes as no sheet's text passes: 64 lines of a state without its name, with INITIAL counted in each; the names, which do not overlap
 -- in a file of at most 65,535 bytes; and 2,048 lines of a rule (01, Areas, the limits)
