@@ -1,12 +1,14 @@
 -- Records that were written are read back: an area determines the list of its records. So what a write does to an area can be said of
 -- the list that is read, once for every kind of record.
 use mathlib.Core.Path.{_≡_, refl, sym, ap, _∙_}
-use mathlib.Core.Bool.{true, cond}
+use mathlib.Core.Bool.{Bool, true, false, cond}
 use mathlib.Core.List.{List, [], _∷_, _++_}
 use Prim.Native.Nat.{ℕ, zero, suc, _+_, _*_, _≤_, _<_}
 use native.Mathlib.Omega.{arith}
-use lib.ListN.{length, getD, take, length-append}
-use lib.Seq.{take-suc, take-length}
+use borrow.Author.Tests.{leb-true, leb-false}
+use lib.Dec.{leb}
+use lib.ListN.{length, getD, take, length-append, List·getD-append}
+use lib.Seq.{take-suc, take-length, getD-at}
 use Rattle.area.specs.declared.Appended.{Appended}
 use Rattle.area.specs.declared.Appended.the-variants.{Next, Full}
 use Rattle.area.specs.Areas.{Area, Pushed, room, insertAt, inserted}
@@ -32,6 +34,35 @@ listOf-take f d xs (suc n) h e =
 
 pub listOf-is : {A : Type 0} (f : ℕ → A) (d : A) (xs : List A) (n : ℕ) → n ≡ length xs → ((k : ℕ) → k < n → f k ≡ getD xs k d) → listOf f n ≡ xs
 listOf-is f d xs n q e = listOf-take f d xs n (omega arith) e ∙ ap (λ (m : ℕ). take m xs) q ∙ take-length xs
+
+-- an area read back has as many records as it counts
+pub contents-count : {A : Type 0} (F : Format A) (l : List ℕ) (n : ℕ) → length (contents F l n) ≡ n
+unfolding contents
+contents-count F l n = listOf-length (F .read l) n
+
+-- the elements of a list that grows at its end
+grown-at : {A : Type 0} (f : ℕ → A) (d : A) (n k : ℕ) (xs : List A) → length xs ≡ n → k < suc n → (k < n → getD xs k d ≡ f k)
+    → getD (xs ++ (f n ∷ [])) k d ≡ f k
+grown-at f d n k xs e h earlier = by (leb n k) refl
+  where
+    by : (b : Bool) → leb n k ≡ b → getD (xs ++ (f n ∷ [])) k d ≡ f k
+    by true t =
+        let l : n ≤ k = leb-true n k t in
+        let q : n ≡ k = omega arith in
+        getD-at xs (f n) [] d k (e ∙ q) ∙ ap f q
+    by false t =
+        let l : k < n = leb-false n k t in
+        List·getD-append xs (f n ∷ []) d k (omega arith) ∙ earlier l
+
+listOf-at : {A : Type 0} (f : ℕ → A) (d : A) (n k : ℕ) → k < n → getD (listOf f n) k d ≡ f k
+unfolding listOf
+listOf-at f d zero k h = absurd (omega (arith, h))
+listOf-at f d (suc n) k h = grown-at f d n k (listOf f n) (listOf-length f n) h (λ g. listOf-at f d n k g)
+
+-- record k of the list is record k of the bytes
+pub contents-read : {A : Type 0} (F : Format A) (l : List ℕ) (n k : ℕ) → k < n → getD (contents F l n) k (F .blank) ≡ F .read l k
+unfolding contents
+contents-read F l n k h = listOf-at (F .read l) (F .blank) n k h
 
 -- ---- formats that read what they write
 

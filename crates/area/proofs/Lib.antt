@@ -5,3 +5,6 @@ pub mod Lists
 pub mod Records
 pub mod Rooms
 pub mod Contents
+pub mod All
+pub mod Numbers
+pub mod Relaid

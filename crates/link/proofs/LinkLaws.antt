@@ -2,14 +2,13 @@
 -- is in the map has the map's id. Each is a law of one rule, carried over the list and then to the bytes.
 use mathlib.Core.Path.{_≡_, refl, sym, ap, _∙_}
 use mathlib.Core.Bool.{Bool, true, false, cond, _&&_}
-use mathlib.Core.List.{List, [], _∷_, map}
+use mathlib.Core.List.{List, []}
 use mathlib.Core.Option.{Option, none, some}
 use Prim.Native.Nat.{ℕ, _*_, _≤_, _<_}
 use native.Mathlib.Omega.{arith}
 use borrow.Author.Tests.{le-leb, lt-ltb}
 use lib.Dec.{leb}
 use lib.ListN.{length, drop, length-append, length-drop}
-use Rattle.characters.proofs.Tests.{and-left, and-right}
 use Rattle.area.specs.declared.State.{State}
 use Rattle.area.specs.declared.Rule.{Rule}
 use Rattle.area.specs.declared.Expected.{Expected}
@@ -21,7 +20,7 @@ use Rattle.area.proofs.Contents.{rule-sound}
 use Rattle.parse.specs.Parse.{Contents}
 use Rattle.sheet_check.specs.declared.Sizes.{Sizes}
 use Rattle.sheet_check.specs.SheetCheck.{SheetBytes, sheetBytes, nameIn, count, decoded, sizesOf, mark, ordered, within, declared, textBytes, goodRule, goodRecords, sheetCheck}
-use Rattle.area.specs.Lists.{all}
+use Rattle.area.proofs.All.{all-map}
 use Rattle.sheet_check.proofs.Checked.{GoodRecords, good-rule, checked-sizes, checked-long, checked-records, rules-count}
 use Rattle.link.specs.declared.LinkAnswer.the-variants.{Linked, BrokenSheet, BrokenMap, AreaFull}
 use Rattle.link.specs.Map.{Entry, entriesOf, nth, idAt, idOf, distinct, mapCheck}
@@ -89,11 +88,6 @@ mark-good z has i x m e = ap rest m ∙ ap rest (sym (le-leb (x .«has_id») 1 (
         && within (x .«text_from») (x .«text_length») (textBytes z (x .place))
         && within (x .«list_from») (x .«list_count») (z .entries)
         && leb (x .operation) 3 && declared (z .states) (x .target)
-
-all-map : {A : Type 0} (test : A → Bool) (g : A → A) → ((x : A) → test x ≡ true → test (g x) ≡ true) → (xs : List A) → all test xs ≡ true → all test (map g xs) ≡ true
-unfolding all
-all-map test g f [] e = refl
-all-map test g f (x ∷ xs) e = rw (f x (and-left (test x) (all test xs) e)) (all-map test g f xs (and-right (test x) (all test xs) e))
 
 module _ (name : Rule → List ℕ) (es : List Entry) where
   pub link-good : (z : Sizes) (x : Rule) → goodRule z x ≡ true → goodRule z (linkRule name es x) ≡ true

@@ -1,12 +1,11 @@
 -- A map read from its bytes: entry j of the list is what entry j of the bytes says. A search keeps that the first entry of the name is the same
 -- from where it stands, and a check that the tests so far are those of the entries so far.
-use mathlib.Core.Path.{_≡_, refl, sym, ap, ap₂, subst, _∙_}
+use mathlib.Core.Path.{_≡_, refl, sym, ap, _∙_}
 use mathlib.Core.Bool.{Bool, true, false, not, _&&_, true≢false}
 use mathlib.Core.List.{List, []}
 use mathlib.Core.Logic.{_⊎_, inl, inr}
 use Prim.Native.Nat.{ℕ, zero, suc, _+_, _*_, _%_, _≤_, _<_}
 use native.Mathlib.Nat.{add-zero, eq-or-lt-of-le}
-use native.Mathlib.Numerals.{add-one}
 use native.Mathlib.Omega.{arith}
 use borrow.Author.Needs.{needs}
 use borrow.Author.Tests.{eqb-true, eq-eqb, ne-eqb, le-leb, lt-leb}
@@ -14,15 +13,15 @@ use lib.Dec.{eqb, leb}
 use lib.ListN.{length, length-map, List·getD-map}
 use Rattle.characters.specs.Walk.{first}
 use Rattle.text.specs.Range.{part, sameBytes, sameRange}
-use Rattle.characters.proofs.Tests.{answer, and-left, and-right, le-or-lt}
+use Rattle.characters.proofs.Tests.{answer, le-or-lt}
 use Rattle.characters.proofs.Walks.{first-found, first-again, first-ended}
 use Rattle.text.proofs.Ranges.{same-self}
 use Rattle.characters.proofs.Firsts.{first-passes, first-low}
 use Rattle.area.specs.Bytes.{fieldAt, fieldFrom}
 use Rattle.area.specs.Contents.{contents}
 use Rattle.area.specs.Lists.{all, allBelow}
-use Rattle.sheet_check.proofs.Judging.{contents-count, all-none, all-next, all-read}
-use Rattle.sheet_check.proofs.Checked.{contents-read}
+use Rattle.area.proofs.All.{below-at, below-same}
+use Rattle.area.proofs.Contents.{contents-count, contents-read}
 use Rattle.link.specs.declared.MapEntry.{MapEntry}
 use Rattle.link.specs.Map.{mapWidth, mostEntries, mapEntryOf, mapEntryAt, mapFormat, entryCount, Entry, entry, entryOf, entriesOf, nth, findEntry, distinct, nameInside, mapCheck}
 
@@ -86,17 +85,6 @@ pub ruleset finding-entries = (needs, answer, first-again, entry-found, entry-mi
 
 -- ---- the map check
 
-pub ruleset reading-names = (needs, all-none, all-next, all-read)
-
-module _ (test : ℕ → Bool) where
-  pub below-none : true ≡ allBelow test 0
-  unfolding allBelow
-  below-none = refl
-
-  pub below-next : (k : ℕ) (good t : Bool) → good ≡ allBelow test k → t ≡ test k → good && t ≡ allBelow test (k + 1)
-  unfolding allBelow
-  below-next k good t g q = ap₂ (λ (a b : Bool). a && b) g q ∙ sym (ap (allBelow test) (add-one k))
-
 -- none of the first k positions passes exactly if the first that passes is not before k
 below-first : (test : ℕ → Bool) (n k : ℕ) → k ≤ n → allBelow (λ i. not (test i)) k ≡ leb k (first test 0 n)
 unfolding allBelow
@@ -129,11 +117,6 @@ first-of-name es j h =
         by : (b ≡ a) ⊎ (b < a) → leb a b ≡ eqb b a
         by (inl q) = le-leb a b (omega (arith, q)) ∙ sym (eq-eqb b a q)
         by (inr q) = lt-leb a b q ∙ sym (ne-eqb b a (λ r. omega (arith, q, r)))
-
-below-same : (f g : ℕ → Bool) (n : ℕ) → ((k : ℕ) → k < n → f k ≡ g k) → allBelow f n ≡ allBelow g n
-unfolding allBelow
-below-same f g zero h = refl
-below-same f g (suc n) h = ap₂ (λ (a b : Bool). a && b) (below-same f g n (λ k l. h k (omega arith))) (h n (omega arith))
 
 -- so the names are distinct exactly if each entry is the first of its name
 pub distinct-firsts : (es : List Entry) → distinct es ≡ allBelow (λ j. eqb (findEntry es (nth es j .name)) j) (length es)
@@ -168,17 +151,6 @@ module _ (names entries : List ℕ) where
       map-inside r q z = rw (eq-eqb (length entries % mapWidth) 0 h, le-leb (entryCount entries) mostEntries g, ← is, q) z
 
 -- ---- names that are distinct
-
-below-at : (test : ℕ → Bool) (n k : ℕ) → allBelow test n ≡ true → k < n → test k ≡ true
-unfolding allBelow
-below-at test zero k e h = absurd (omega (arith, h))
-below-at test (suc n) k e h = by (le-or-lt n k) (λ g. below-at test n k (and-left (allBelow test n) (test n) e) g)
-  where
-    by : (n ≤ k) ⊎ (k < n) → (k < n → test k ≡ true) → test k ≡ true
-    by (inl g) earlier =
-        let q : n ≡ k = omega arith in
-        subst (λ (m : ℕ). test m ≡ true) q (and-right (allBelow test n) (test n) e)
-    by (inr g) earlier = earlier g
 
 -- each entry is the first of its name
 pub entry-first : (es : List Entry) → distinct es ≡ true → (j : ℕ) → j < length es → findEntry es (nth es j .name) ≡ j

@@ -1,57 +1,31 @@
 -- The area of the linked rules is read back as the linked rules, so those without an id are the unmapped ones; then a law for each way out
 -- of the call.
-use mathlib.Core.Path.{_≡_, refl, sym, ap, ap₂, _∙_}
+use mathlib.Core.Path.{_≡_, refl, sym, ap, _∙_}
 use mathlib.Core.Bool.{Bool, true, false, cond, not, _&&_}
-use mathlib.Core.List.{List, [], _∷_, _++_, map}
+use mathlib.Core.List.{List, map}
 use mathlib.Core.Option.{Option, none, some}
-use Prim.Native.Nat.{ℕ, zero, suc, _+_, _*_, _-_, _%_, _≤_, _<_}
-use native.Mathlib.Nat.{le-refl}
+use Prim.Native.Nat.{ℕ, _*_, _-_, _%_, _≤_, _<_}
 use native.Mathlib.Omega.{arith}
 use borrow.Author.Tests.{le-leb, lt-leb, leb-true, not-true, not-false}
 use lib.Dec.{eqb, leb}
-use lib.ListN.{length, getD, drop, length-map, length-replicate, List·getD-map}
+use lib.ListN.{length, getD, length-map, length-replicate, List·getD-map}
 use Rattle.characters.proofs.Tests.{and-left, and-right}
 use Rattle.area.specs.declared.Rule.{Rule}
-use Rattle.area.specs.Bytes.{bytes, pad, zeros}
+use Rattle.area.specs.Bytes.{zeros}
 use Rattle.area.specs.Records.{ruleWidth, entryWidth, mostRules, ruleOf, nthRule}
-use Rattle.area.specs.Areas.{Area}
-use Rattle.area.specs.Contents.{Format, contents, ruleFormat, entryFormat, relaid, laid}
-use Rattle.area.proofs.Fields.{bytes-at}
-use Rattle.area.proofs.Contents.{Sound, listOf-is, rule-sound}
+use Rattle.area.specs.Contents.{contents, ruleFormat, entryFormat, relaid, laid}
+use Rattle.area.proofs.Contents.{rule-sound, contents-count}
 use Rattle.sheet_check.specs.SheetCheck.{SheetBytes, nameIn, count, decoded, sheetCheck}
 use Rattle.area.specs.Lists.{all, numbers}
-use Rattle.sheet_check.proofs.Judging.{contents-count}
+use Rattle.area.proofs.Relaid.{rule-local, relaid-contents}
+use Rattle.area.proofs.Numbers.{numbers-same}
 use Rattle.sheet_check.proofs.Checked.{checked-long, checked-counts}
 use Rattle.link.specs.declared.LinkAnswer.{LinkAnswer}
 use Rattle.link.specs.declared.LinkAnswer.the-variants.{Linked, BrokenSheet, BrokenMap, AreaFull}
 use Rattle.link.specs.Map.{mapWidth, mostEntries, mapFormat, entryCount, Entry, entriesOf, idOf, nameInside, distinct, mapCheck}
-use Rattle.link.specs.Link.{isNamed, withId, withFound, linkRule, linkRules, isNone, isUnmapped, isUnlinked, unmapped, unlinked, unused, LinkLeft, linkLeft, fits, linkAll, linkChecked, linkCall}
-use Rattle.link.proofs.LinkedRules.{Local, rule-local}
-
--- ---- records laid over the front of an area are read back
-
-module _ {A : Type 0} {F : Format A} (sound : Sound F) (near : Local F) where
-  laid-read : (ys : List A) (t : List ℕ) (k : ℕ) → k < length ys → F .read (bytes (F .write) ys ++ t) k ≡ getD ys k (F .blank)
-  unfolding pad
-  laid-read ys t k h =
-      let cap : ℕ = length ys * F .width in
-      let z : List ℕ = zeros (cap - length (bytes (F .write) ys)) in
-      let area : Area (F .write) (F .width) (length ys) cap (pad cap (bytes (F .write) ys)) (length ys) ys =
-      record { count = refl; is = refl; few = le-refl (length ys); fits = le-refl cap } in
-      near .same (bytes (F .write) ys ++ t) (bytes (F .write) ys ++ z) k (λ i g.
-      bytes-at (F .write) (F .width) (sound .wide) (F .blank) ys t k i h g ∙ sym (bytes-at (F .write) (F .width) (sound .wide) (F .blank) ys z k i h g))
-      ∙ sound .back k area h
-
-  pub relaid-contents : (l : List ℕ) (ys : List A) (n : ℕ) → n ≡ length ys → contents F (relaid F l ys) n ≡ ys
-  unfolding contents relaid
-  relaid-contents l ys n q = listOf-is (F .read (relaid F l ys)) (F .blank) ys n q (λ k h. laid-read ys (drop (length ys * F .width) l) k (omega (arith, h, q)))
+use Rattle.link.specs.Link.{isNamed, withId, withFound, linkRule, linkRules, isNone, isUnmapped, isUnlinked, unmapped, unlinked, unused, linkLeft, fits, linkAll, linkChecked, linkCall}
 
 -- ---- linked rules
-
-numbers-same : (f g : ℕ → Bool) → ((k : ℕ) → f k ≡ g k) → (n : ℕ) → numbers f n ≡ numbers g n
-unfolding numbers
-numbers-same f g e zero = refl
-numbers-same f g e (suc n) = ap₂ (λ (ns : List ℕ) (b : Bool). ns ++ cond b (n ∷ []) []) (numbers-same f g e n) (e n)
 
 unnamed-linked : (x : Rule) → isNamed x ≡ false → isUnlinked x ≡ false
 unfolding isUnlinked

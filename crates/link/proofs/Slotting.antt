@@ -2,7 +2,7 @@
 -- spared would have found nothing.
 use mathlib.Core.Path.{_≡_, refl, sym, ap, subst, _∙_}
 use mathlib.Core.Bool.{Bool, true, false, not, _&&_, true≢false, false≢true}
-use mathlib.Core.List.{List, [], _∷_}
+use mathlib.Core.List.{List, _∷_}
 use mathlib.Core.Logic.{_⊎_, ⊎-elim}
 use Prim.Native.Nat.{ℕ, suc, _+_, _*_, _-_, _%_, _≤_, _<_, min}
 use native.Mathlib.Numerals.{add-one}
@@ -21,9 +21,9 @@ use Rattle.characters.proofs.Walks.{first-here, first-over}
 use Rattle.area.specs.declared.Rule.{Rule}
 use Rattle.area.specs.Records.{nthRule, ruleAt}
 use Rattle.area.specs.Contents.{contents, ruleFormat}
-use Rattle.area.specs.Lists.{all, allBelow}
-use Rattle.sheet_check.proofs.Judging.{contents-count}
-use Rattle.sheet_check.proofs.Checked.{contents-read}
+use Rattle.area.specs.Lists.{allBelow}
+use Rattle.area.proofs.Contents.{contents-count, contents-read}
+use Rattle.area.proofs.All.{all-from}
 use Rattle.link.specs.declared.MapEntry.{MapEntry}
 use Rattle.link.specs.Map.{mapEntryAt, entryCount, Entry, entriesOf, nth, findEntry, distinct, mapCheck}
 use Rattle.link.specs.Link.{isNamed, hasThatName, isUnused}
@@ -185,11 +185,6 @@ module _ (names entries l : List ℕ) where
     }
 
 -- ---- rules by their slots
-
-all-from : {A : Type 0} (test : A → Bool) (xs : List A) (d : A) → ((k : ℕ) → k < length xs → test (getD xs k d) ≡ true) → all test xs ≡ true
-unfolding all
-all-from test [] d f = refl
-all-from test (x ∷ xs) d f = rw (f 0 (omega arith)) (all-from test xs d (λ k h. f (suc k) (omega arith)))
 
 module _ (name : Rule → List ℕ) (l : List ℕ) (count : ℕ) (slots bytes : List ℕ) (I : RuleIndex name l count slots) (r : ℕ) (q : Slot bytes r) where
   none-named : getD slots r 0 ≡ 0 → (k : ℕ) → k < count → hasThatName name bytes (nthRule (contents ruleFormat l count) k) ≡ false

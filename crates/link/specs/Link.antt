@@ -1,21 +1,21 @@
 -- Linking: the ids of named rules by a map; the numbers of rules and of entries that find no partner; and the link call (01, Linking).
 use Prim.Native.Nat.{ℕ, _*_}
 use mathlib.Core.Bool.{Bool, true, false, cond, not, _&&_}
-use mathlib.Core.List.{List, map}
+use mathlib.Core.List.{List, [], map}
 use mathlib.Core.Option.{Option, none, some}
 use lib.Dec.{eqb, leb}
 use lib.ListN.{length}
 use Rattle.text.specs.Range.{sameBytes}
 use Rattle.area.specs.declared.Rule.{Rule}
-use Rattle.area.specs.Records.{entryWidth, nthRule}
+use Rattle.area.specs.Records.{entryWidth}
 use Rattle.area.specs.Contents.{ruleFormat, entryFormat, laid, relaid}
-use Rattle.area.specs.Lists.{all, numbers}
+use Rattle.area.specs.Lists.{all, numbersOf}
 use Rattle.answers.specs.Numbers.{acceptedNumber, areaFullNumber, brokenSheetNumber, brokenMapNumber}
 use Rattle.answers.specs.Words.{Fields, fields, word}
 use Rattle.sheet_check.specs.SheetCheck.{SheetBytes, nameIn, decoded, sheetCheck}
 use Rattle.link.specs.declared.LinkAnswer.{LinkAnswer}
 use Rattle.link.specs.declared.LinkAnswer.the-variants.{Linked, BrokenSheet, BrokenMap, AreaFull}
-use Rattle.link.specs.Map.{Entry, entriesOf, nth, idOf, mapCheck}
+use Rattle.link.specs.Map.{Entry, entry, entriesOf, idOf, mapCheck}
 
 -- ---- a rule
 
@@ -58,7 +58,7 @@ isUnlinked x = isNamed x && eqb (x .«has_id») 0
 
 -- numbers of named rules without an id: after linking, the unmapped ones
 unfoldable pub unlinked : List Rule → List ℕ
-unlinked xs = numbers (λ k. isUnlinked (nthRule xs k)) (length xs)
+unlinked xs = numbersOf isUnlinked (ruleFormat .blank) xs
 
 -- where the bytes of a rule's name stand is for the sheet to say, so what follows is given the name of each rule
 module _ (name : Rule → List ℕ) where
@@ -83,11 +83,11 @@ module _ (name : Rule → List ℕ) where
 
   -- numbers of unmapped named rules, by position: area 7
   unfoldable pub unmapped : List Entry → List Rule → List ℕ
-  unmapped es xs = numbers (λ k. isUnmapped es (nthRule xs k)) (length xs)
+  unmapped es xs = numbersOf (isUnmapped es) (ruleFormat .blank) xs
 
   -- numbers of entries that no rule names, in map order: area 8
   unfoldable pub unused : List Entry → List Rule → List ℕ
-  unused es xs = numbers (λ j. isUnused xs (nth es j .name)) (length es)
+  unused es xs = numbersOf (λ e. isUnused xs (e .name)) (entry [] 0) es
 
 -- ---- the call
 

@@ -1,14 +1,14 @@
 -- On areas and rows of bytes the values of the answers have two bytes, so that their words tell them apart. Of the parse call crate parsed_sheet has
 -- it. The laws stand here, and not beside the words, so that a wrong edit of a call is refused by the call's own contract.
 use mathlib.Core.Path.{_≡_, subst⁻¹}
-use mathlib.Core.Bool.{Bool, true, false, cond, _&&_}
-use mathlib.Core.List.{List, [], _∷_}
+use mathlib.Core.Bool.{Bool, true, _&&_}
+use mathlib.Core.List.{List}
 use mathlib.Core.Logic.{⊎-elim}
-use Prim.Native.Nat.{ℕ, zero, suc, _*_, _-_, _%_, _≤_, _<_}
+use Prim.Native.Nat.{ℕ, _*_, _-_, _%_, _≤_, _<_}
 use native.Mathlib.Omega.{arith}
 use borrow.Author.Tests.{leb-true}
 use lib.Dec.{eqb, leb}
-use lib.ListN.{length, getD, length-append, List·getD-eq-default}
+use lib.ListN.{length, getD, List·getD-eq-default}
 use Rattle.characters.proofs.Tests.{le-or-lt, by-test, and-left, and-right}
 use Rattle.area.specs.declared.Rule.{Rule}
 use Rattle.area.specs.Records.{ruleWidth, entryWidth, ruleOf, ruleAt, entryAt, nthRule}
@@ -23,8 +23,9 @@ use Rattle.sheet_check.specs.declared.Located.the-variants as C
 use Rattle.sheet_check.specs.SheetCheck.{SheetBytes, nameIn, decoded, sheetCheck}
 use Rattle.area.specs.Lists.{all, numbers}
 use Rattle.sheet_check.specs.Pattern.{hasRule, partOf, patternPart, patternFields}
-use Rattle.sheet_check.proofs.Judging.{contents-count}
-use Rattle.sheet_check.proofs.Checked.{contents-read, rules-count, checked-counts}
+use Rattle.area.proofs.Contents.{contents-count, contents-read}
+use Rattle.area.proofs.Numbers.{numbers-few}
+use Rattle.sheet_check.proofs.Checked.{rules-count, checked-counts}
 use Rattle.link.specs.Map.{Entry, nth, mapWidth, mostEntries, mapFormat, entryCount, entriesOf, nameInside, distinct, mapCheck}
 use Rattle.link.specs.Link as L
 use Rattle.link.specs.Link.{isUnmapped, isUnused, unmapped, unused, LinkLeft, linkAll, linkChecked, linkCall, linkFields}
@@ -79,15 +80,6 @@ pattern-small b k h =
     (λ _. no-values 6 (omega arith))
 
 -- ---- the link call
-
-numbers-few : (test : ℕ → Bool) (n : ℕ) → length (numbers test n) ≤ n
-unfolding numbers
-numbers-few test zero = omega arith
-numbers-few test (suc n) = omega (arith, length-append (numbers test n) (cond (test n) (n ∷ []) []), one (test n), numbers-few test n)
-  where
-    one : (t : Bool) → length (cond t (n ∷ []) []) ≤ 1
-    one true = omega arith
-    one false = omega arith
 
 abbrev LinkSmall : LinkLeft → Type 0
 LinkSmall x = TwoBytes (linkFields (x .answer))

@@ -13,7 +13,7 @@ use Rattle.text.specs.Range.{sameBytes}
 use Rattle.characters.proofs.Tests.{by-test, and-left, and-right, or-true, or-cases}
 use Rattle.text.proofs.Ranges.{same-equal, same-self}
 use Rattle.area.specs.Lists.{all}
-use Rattle.sheet_check.proofs.Checked.{all-at}
+use Rattle.area.proofs.All.{all-at}
 use Rattle.link.specs.Map.{Entry}
 use Rattle.run.specs.declared.Step.the-variants.{RowMismatch, Done, Stopped}
 use Rattle.run.specs.Run.{Input}

@@ -1,43 +1,26 @@
 -- Well-formed text consists of bytes, since each byte of an encoded code point is below 256; and so does rewritten text, which is made of parts of the
 -- source and of the texts for `\b`.
-use Prim.Native.Nat.{ℕ, zero, suc, _+_, _-_, _/_, _%_, _<_}
+use Prim.Native.Nat.{ℕ, _+_, _-_, _/_, _%_, _<_}
 use mathlib.Core.Path.{_≡_, refl, subst}
-use mathlib.Core.Bool.{Bool, true}
+use mathlib.Core.Bool.{true}
 use mathlib.Core.List.{List, [], _∷_, _++_}
 use native.Mathlib.Omega.{arith}
 use borrow.Author.Tests.{lt-ltb, ltb-true}
 use lib.Dec.{eqb, ltb}
-use lib.ListN.{take, drop}
+use lib.ListN.{drop}
 use Rattle.characters.specs.Class.{within}
 use Rattle.characters.specs.Whitespace.{byte}
 use Rattle.text.specs.Range.{part}
 use Rattle.characters.specs.Unicode.{isScalar, encode, encodeAll, Scalars}
 use Rattle.characters.specs.Utf8.{utf8}
-use Rattle.characters.proofs.Tests.{by-test, and-left, and-right, or-cases, range-of}
+use Rattle.characters.proofs.Tests.{by-test, or-cases, range-of}
 use Rattle.characters.proofs.Decoding.{utf8-judges}
 use Rattle.escape.specs.Escape.{Escape, escapes, posixEscapes, backspace, escapeFrom, escaped, rewrittenEnd, replaced, unescaped}
 use Rattle.area.specs.Lists.{all}
+use Rattle.area.proofs.All.{all-append, all-take, all-drop}
 use Rattle.parsed_sheet.specs.Accepted.{isByte}
 
--- ---- a test of all elements, of lists that are joined or cut
-
-module _ {A : Type 0} (test : A → Bool) where
-  pub all-append : (xs ys : List A) → all test xs ≡ true → all test ys ≡ true → all test (xs ++ ys) ≡ true
-  unfolding all
-  all-append [] ys h g = g
-  all-append (x ∷ xs) ys h g = rw (and-left (test x) (all test xs) h) (all-append xs ys (and-right (test x) (all test xs) h) g)
-
-  all-take : (n : ℕ) (xs : List A) → all test xs ≡ true → all test (take n xs) ≡ true
-  unfolding all
-  all-take zero xs h = refl
-  all-take (suc n) [] h = refl
-  all-take (suc n) (x ∷ xs) h = rw (and-left (test x) (all test xs) h) (all-take n xs (and-right (test x) (all test xs) h))
-
-  all-drop : (n : ℕ) (xs : List A) → all test xs ≡ true → all test (drop n xs) ≡ true
-  unfolding all
-  all-drop zero xs h = h
-  all-drop (suc n) [] h = refl
-  all-drop (suc n) (x ∷ xs) h = all-drop n xs (and-right (test x) (all test xs) h)
+-- ---- parts
 
 part-bytes : (s : List ℕ) (a e : ℕ) → all isByte s ≡ true → all isByte (part s a e) ≡ true
 unfolding part

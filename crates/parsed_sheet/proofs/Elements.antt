@@ -1,6 +1,6 @@
 -- What holds of each element of a list, by its place: kept by one element more at the end, and the test of all elements that follows.
-use Prim.Native.Nat.{ℕ, suc, _≤_, _<_, zero-le, suc-le-suc}
-use mathlib.Core.Path.{_≡_, refl, sym, subst}
+use Prim.Native.Nat.{ℕ, _≤_, _<_}
+use mathlib.Core.Path.{_≡_, sym, subst}
 use mathlib.Core.Bool.{Bool, true}
 use mathlib.Core.List.{List, [], _∷_, _++_}
 use mathlib.Core.Logic.{⊎-elim}
@@ -9,6 +9,7 @@ use native.Mathlib.Omega.{arith}
 use lib.ListN.{length, getD, length-append, List·getD-append}
 use lib.Seq.{getD-append-seam}
 use Rattle.area.specs.Lists.{all}
+use Rattle.area.proofs.All.{all-from}
 use Rattle.parsed_sheet.specs.Accepted.{Each}
 
 -- a place in a list with one element more is one of the list, or the last
@@ -31,13 +32,7 @@ module _ {A : Type 0} (P : ℕ → A → Type 0) (d : A) (xs : List A) where
   pub each-weaken : (Q : ℕ → A → Type 0) → ((j : ℕ) (x : A) → j < length xs → P j x → Q j x) → Each P d xs → Each Q d xs
   each-weaken Q f e = record { at = λ j h. f j (getD xs j d) h (e .at j h) }
 
--- a test that each element passes passes all of them
-pub each-all : {A : Type 0} (test : A → Bool) (d : A) (xs : List A) → Each (λ _ x. test x ≡ true) d xs → all test xs ≡ true
-unfolding all
-each-all test d [] e = refl
-each-all test d (x ∷ xs) e = rw (e .at 0 (suc-le-suc zero-le)) (each-all test d xs (record { at = λ j h. e .at (suc j) (suc-le-suc h) }))
-
 -- what holds of each element by its place, and implies a test, passes the test of all
 pub all-pass : {A : Type 0} (P : ℕ → A → Type 0) (test : A → Bool) (d : A) (xs : List A)
     → ((j : ℕ) (x : A) → j < length xs → P j x → test x ≡ true) → Each P d xs → all test xs ≡ true
-all-pass P test d xs f e = each-all test d xs (each-weaken P d xs (λ _ x. test x ≡ true) f e)
+all-pass P test d xs f e = all-from test xs d (λ j h. f j (getD xs j d) h (e .at j h))

@@ -13,8 +13,8 @@ use Rattle.area.specs.Records.{entryAt, entryWidth}
 use Rattle.area.specs.Contents.{contents, entryFormat}
 use Rattle.sheet_check.specs.SheetCheck.{declared}
 use Rattle.area.specs.Lists.{all}
-use Rattle.sheet_check.proofs.Judging.{contents-count}
-use Rattle.sheet_check.proofs.Checked.{contents-read, all-at}
+use Rattle.area.proofs.Contents.{contents-count, contents-read}
+use Rattle.area.proofs.All.{all-at}
 use Rattle.run.specs.declared.Run.{Run}
 use Rattle.run.specs.Run.{running, movesOf, mostBytes, stackBytes, current, goodNumbers, goodRun, goodRow}
 

@@ -14,8 +14,8 @@ use Rattle.area.specs.declared.Rule.{Rule}
 use Rattle.area.specs.Records.{ruleAt, entryAt, nthRule}
 use Rattle.area.specs.Contents.{contents, stateFormat, ruleFormat}
 use Rattle.sheet_check.specs.SheetCheck.{SheetBytes, count, decoded, sheetCheck}
-use Rattle.sheet_check.proofs.Judging.{contents-count}
-use Rattle.sheet_check.proofs.Checked.{contents-read, checked-long, checked-rule}
+use Rattle.area.proofs.Contents.{contents-count, contents-read}
+use Rattle.sheet_check.proofs.Checked.{checked-long, checked-rule}
 use Rattle.run.specs.declared.Run.{Run}
 use Rattle.run.specs.declared.Best.{Best}
 use Rattle.run.specs.declared.Begun.the-variants.{Started, StartRefused}

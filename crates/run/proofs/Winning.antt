@@ -18,7 +18,7 @@ use Rattle.area.specs.declared.State.{State}
 use Rattle.area.specs.declared.Rule.{Rule}
 use Rattle.area.specs.Records.{stateAt, ruleAt, entryAt, nthState, nthRule, nthEntry}
 use Rattle.area.specs.Contents.{contents, stateFormat, ruleFormat, entryFormat}
-use Rattle.sheet_check.proofs.Checked.{contents-read}
+use Rattle.area.proofs.Contents.{contents-read}
 use Rattle.run.specs.declared.Best.{Best}
 use Rattle.run.specs.Winner.{Lexer, findInList, listEnd, inList, live, lengthIn, weight, greatest, earliest, best, better}
 use Rattle.run.specs.Contracts.{lexerAt, Readable}

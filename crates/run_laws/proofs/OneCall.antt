@@ -10,7 +10,8 @@ use Rattle.area.specs.Records.{ruleOf, nthRule}
 use Rattle.answers.specs.Numbers.{brokenSheetNumber, brokenRunNumber}
 use Rattle.sheet_check.specs.declared.Sizes.{Sizes}
 use Rattle.sheet_check.specs.SheetCheck.{SheetBytes, decoded, sizesOf, goodRule, sheetCheck}
-use Rattle.sheet_check.proofs.Checked.{all-at, good-rule, states-count, checked-records}
+use Rattle.sheet_check.proofs.Checked.{good-rule, states-count, checked-records}
+use Rattle.area.proofs.All.{all-at}
 use Rattle.run.specs.declared.Step.{Step}
 use Rattle.run.specs.declared.Step.the-variants.{BrokenSheet, BrokenRun, Skip, Token}
 use Rattle.run.specs.Run.{Running, Input, RunLeft, leaving, movesOf, goodRun, moveBy, stepCall, View, stays, view, viewFields, stepFields}

@@ -16,8 +16,8 @@ use Rattle.area.specs.Lists.{all}
 use Rattle.area.specs.Records.{entryAt, entryWidth}
 use Rattle.area.specs.Contents.{Format, contents, entryFormat}
 use Rattle.sheet_check.specs.SheetCheck.{declared}
-use Rattle.sheet_check.proofs.Judging.{contents-count, all-none, all-next}
-use Rattle.sheet_check.proofs.Checked.{contents-read, all-at}
+use Rattle.area.proofs.Contents.{contents-count, contents-read}
+use Rattle.area.proofs.All.{all-none, all-next, all-at}
 use Rattle.run.specs.Run.{Running, running, movesOf, mostBytes, stackBytes, putState, goodNumbers, goodRun, withDepth, popped, operated}
 use Rattle.run.proofs.Fitting.{GoodNumbers, run-is}
 use Rattle.run_laws.proofs.Stacks.{put-length, put-same, put-other}

@@ -2,25 +2,24 @@
 -- give it and as the lists do. The tests are joined, so each law takes the joint apart from its end.
 use mathlib.Core.Path.{_≡_, sym, ap, _∙_, subst}
 use mathlib.Core.Bool.{Bool, true, cond, _&&_}
-use mathlib.Core.List.{List, [], _∷_, _++_}
-use mathlib.Core.Logic.{_⊎_, inl, inr}
-use Prim.Native.Nat.{ℕ, zero, suc, _+_, _≤_, _<_}
+use mathlib.Core.List.{List}
+use Prim.Native.Nat.{ℕ, _+_, _≤_, _<_}
 use native.Mathlib.Omega.{arith}
 use lib.Dec.{leb}
-use lib.ListN.{length, getD, List·getD-append}
-use lib.Seq.{getD-at}
+use lib.ListN.{length}
 use borrow.Author.Tests.{leb-true, ltb-true, eq-eqb, ne-eqb}
-use Rattle.characters.proofs.Tests.{and-left, and-right, le-or-lt}
+use Rattle.characters.proofs.Tests.{and-left, and-right}
 use Rattle.area.specs.declared.State.{State}
 use Rattle.area.specs.declared.Rule.{Rule}
 use Rattle.area.specs.declared.Expected.{Expected}
 use Rattle.area.specs.Records.{mostStates, mostRules, stateAt, ruleAt, entryAt, expectedAt}
-use Rattle.area.specs.Contents.{Format, contents, listOf, stateFormat, ruleFormat, entryFormat, textFormat, expectedFormat}
-use Rattle.area.proofs.Contents.{listOf-length}
+use Rattle.area.specs.Contents.{Format, contents, stateFormat, ruleFormat, entryFormat, textFormat, expectedFormat}
+use Rattle.area.proofs.Contents.{contents-count, contents-read}
 use Rattle.sheet_check.specs.declared.Sizes.{Sizes}
 use Rattle.sheet_check.specs.SheetCheck.{SheetBytes, count, decoded, sizesOf, longEnough, goodCounts, goodSizes, ordered, within, declared, mark, textBytes, goodState, goodRule, goodExpected, goodRecords, sheetCheck}
 use Rattle.area.specs.Lists.{all}
-use Rattle.sheet_check.proofs.Judging.{Long, sizes-long, contents-count}
+use Rattle.area.proofs.All.{all-at}
+use Rattle.sheet_check.proofs.Judging.{Long, sizes-long}
 
 -- ---- a record that passed, as plain facts
 
@@ -108,31 +107,6 @@ module _ {z : Sizes} {x : Rule} (g : GoodRule z x) where
   text-source h = subst (λ (t : Bool). x .«text_from» + x .«text_length» ≤ cond t (z .text) (z .source)) (ne-eqb (x .place) 1 h) (g .text-inside)
 
 -- ---- record k of a list
-
--- the elements of a list that grows at its end
-grown-at : {A : Type 0} (f : ℕ → A) (d : A) (n k : ℕ) (xs : List A) → length xs ≡ n → k < suc n → (k < n → getD xs k d ≡ f k)
-    → getD (xs ++ (f n ∷ [])) k d ≡ f k
-grown-at f d n k xs e h earlier = by (le-or-lt n k)
-  where
-    by : (n ≤ k) ⊎ (k < n) → getD (xs ++ (f n ∷ [])) k d ≡ f k
-    by (inl g) = let q : n ≡ k = omega arith in getD-at xs (f n) [] d k (e ∙ q) ∙ ap f q
-    by (inr g) = List·getD-append xs (f n ∷ []) d k (omega arith) ∙ earlier g
-
-listOf-at : {A : Type 0} (f : ℕ → A) (d : A) (n k : ℕ) → k < n → getD (listOf f n) k d ≡ f k
-unfolding listOf
-listOf-at f d zero k h = absurd (omega (arith, h))
-listOf-at f d (suc n) k h = grown-at f d n k (listOf f n) (listOf-length f n) h (λ g. listOf-at f d n k g)
-
-pub contents-read : {A : Type 0} (F : Format A) (l : List ℕ) (n k : ℕ) → k < n → getD (contents F l n) k (F .blank) ≡ F .read l k
-unfolding contents
-contents-read F l n k h = listOf-at (F .read l) (F .blank) n k h
-
--- an element of a list that passes a test passes it
-pub all-at : {A : Type 0} (test : A → Bool) (xs : List A) (d : A) (k : ℕ) → all test xs ≡ true → k < length xs → test (getD xs k d) ≡ true
-unfolding all
-all-at test [] d k e h = absurd (omega (arith, h))
-all-at test (x ∷ xs) d zero e h = both (test x) (all test xs) e .0
-all-at test (x ∷ xs) d (suc k) e h = all-at test xs d k (both (test x) (all test xs) e .1) (omega arith)
 
 record-at : {A : Type 0} (F : Format A) (test : A → Bool) (l : List ℕ) (n k : ℕ) → all test (contents F l n) ≡ true → k < n → test (F .read l k) ≡ true
 record-at F test l n k e h =

@@ -1,22 +1,18 @@
 -- What the tests of a sheet come to when they are joined: each record's as its code joins them, and an area's one record at a time.
 -- A list that grows at its end passes a test where it passed before and the new element does.
-use mathlib.Core.Path.{_≡_, refl, sym, ap, ap₂, subst⁻¹, _∙_}
-use mathlib.Core.Bool.{Bool, true, false, _&&_, and-true, and-assoc}
-use mathlib.Core.List.{List, [], _∷_, _++_}
-use Prim.Native.Nat.{ℕ, _+_, _*_, _≤_}
+use mathlib.Core.Path.{_≡_, sym, ap, subst⁻¹, _∙_}
+use mathlib.Core.Bool.{Bool, true, false, _&&_}
+use mathlib.Core.List.{List}
+use Prim.Native.Nat.{ℕ, _*_, _≤_}
 use native.Mathlib.Nat.{mul-one}
-use native.Mathlib.Numerals.{add-one}
 use lib.Dec.{leb, ltb}
-use native.Mathlib.Omega.{arith}
-use lib.ListN.{length}
 use borrow.Author.Needs.{needs}
 use borrow.Author.Tests.{eq-eqb, ne-eqb, leb-true}
 use Rattle.area.specs.declared.State.{State}
 use Rattle.area.specs.declared.Rule.{Rule}
 use Rattle.area.specs.declared.Expected.{Expected}
 use Rattle.area.specs.Records.{stateWidth, ruleWidth, entryWidth, expectedWidth}
-use Rattle.area.specs.Contents.{Format, contents, listOf, stateFormat, ruleFormat, entryFormat, expectedFormat}
-use Rattle.area.proofs.Contents.{listOf-length}
+use Rattle.area.specs.Contents.{contents, stateFormat, ruleFormat, entryFormat, expectedFormat}
 use Rattle.characters.proofs.Tests.{and-left, and-right}
 use Rattle.sheet_check.specs.declared.Sizes.{Sizes}
 use Rattle.sheet_check.specs.SheetCheck.{SheetBytes, sizesOf, longEnough, goodCounts, goodSizes, ordered, within, declared, textBytes, goodState, goodRule, goodExpected, goodRecords, decoded, sheetCheck}
@@ -49,35 +45,6 @@ module _ (z : Sizes) where
   rule-judged x span name pattern list bytes e1 e2 e3 e4 e5 = simp (e1, e2, e4, e3, e5)
 
 pub ruleset places = (needs, rewritten-bytes, source-bytes)
-
--- ---- the records of an area
-
-all-append : {A : Type 0} (test : A → Bool) (xs : List A) (x : A) → all test (xs ++ (x ∷ [])) ≡ all test xs && test x
-unfolding all
-all-append test [] x = and-true (test x)
-all-append test (y ∷ xs) x = ap (λ (b : Bool). test y && b) (all-append test xs x) ∙ sym (and-assoc (test y) (all test xs) (test x))
-
-module _ {A : Type 0} (F : Format A) (test : A → Bool) (l : List ℕ) where
-  pub all-none : true ≡ all test (contents F l 0)
-  unfolding all contents listOf
-  all-none = refl
-
-  pub all-next : (k : ℕ) (good t : Bool) (x : A) → good ≡ all test (contents F l k) → x ≡ F .read l k → t ≡ test x
-      → good && t ≡ all test (contents F l (k + 1))
-  unfolding contents listOf
-  all-next k good t x g e q =
-      ap₂ (λ (a b : Bool). a && b) g (q ∙ ap test e)
-      ∙ sym (ap (λ (m : ℕ). all test (listOf (F .read l) m)) (add-one k) ∙ all-append test (listOf (F .read l) k) (F .read l k))
-
-  pub all-read : (k n : ℕ) (good : Bool) → n ≤ k → k ≤ n → good ≡ all test (contents F l k) → good ≡ all test (contents F l n)
-  all-read k n good h g e = e ∙ ap (λ (m : ℕ). all test (contents F l m)) (omega arith)
-
-pub ruleset judging = (needs, all-none, all-next, all-read)
-
--- an area read back has as many records as it counts
-pub contents-count : {A : Type 0} (F : Format A) (l : List ℕ) (n : ℕ) → length (contents F l n) ≡ n
-unfolding contents
-contents-count F l n = listOf-length (F .read l) n
 
 -- ---- the sizes
 

@@ -14,12 +14,12 @@ use Rattle.characters.proofs.Tests.{and-left, and-right}
 use Rattle.area.specs.declared.Rule.{Rule}
 use Rattle.area.specs.Records.{ruleWidth, ruleAt, nthRule}
 use Rattle.area.specs.Contents.{contents, ruleFormat}
-use Rattle.area.proofs.Contents.{listOf-is}
+use Rattle.area.proofs.Contents.{listOf-is, contents-read}
 use Rattle.sheet_check.specs.declared.Located.{Located}
 use Rattle.sheet_check.specs.declared.Located.the-variants.{Part, BrokenSheet}
 use Rattle.sheet_check.specs.SheetCheck.{SheetBytes, count, decoded, sizesOf, sheetCheck}
 use Rattle.sheet_check.specs.Pattern.{hasRule, partOf, patternPart, textOf, startOf, handed, patternCall, numberOf}
-use Rattle.sheet_check.proofs.Checked.{GoodRule, text-rewritten, text-source, contents-read, checked-long, checked-rule, rules-count}
+use Rattle.sheet_check.proofs.Checked.{GoodRule, text-rewritten, text-source, checked-long, checked-rule, rules-count}
 
 -- ---- the ways to a part
 

@@ -7,7 +7,7 @@ use lib.Dec.{eqb}
 use Rattle.link.specs.Map.{entryCount, entriesOf, nth, findEntry}
 use Rattle.area.specs.Lists.{allBelow}
 use Rattle.link.specs.Index.{EntrySlots}
-use Rattle.link.proofs.Maps.{below-none, below-next}
+use Rattle.area.proofs.All.{below-none, below-next}
 use Rattle.link.proofs.Slotting.{slotting-entries, slots-none, slots-set, entries-indexed}
 use Rattle.link.proofs.index.index_entries.Statement.{statement}
 use Rattle.link.proofs.index.index_entries.Tie as tie

@@ -3,9 +3,8 @@ use mathlib.Core.Path.{_≡_}
 use Prim.Native.Nat.{_≤_, _-_}
 use Rattle.area.specs.Contents.{contents}
 use Rattle.area.specs.Lists.{all}
-use Rattle.sheet_check.proofs.Judging.{all-next}
+use Rattle.area.proofs.All.{judging, all-next}
 use Rattle.link.specs.Map.{mapFormat, entryCount, nameInside}
-use Rattle.link.proofs.Maps.{reading-names}
 use Rattle.link.proofs.map.names_inside.Statement.{statement}
 use Rattle.link.proofs.map.names_inside.Tie as tie
 
@@ -16,7 +15,7 @@ abbrev μ-loop : tie.MeasureT-loop
 μ-loop entries n most good₀ k₀ good k = entryCount entries - k
 
 loop-again : tie.Need-loop-again Inv-loop μ-loop
-loop-again c = (search reading-names, all-next mapFormat _ _ _ _ _ _ (c .before .before .before .loop .inv .1) (c .before .read-map-entry .ensures) (c .name-inside .ensures))
+loop-again c = (search judging, all-next mapFormat _ _ _ _ _ _ (c .before .before .before .loop .inv .1) (c .before .read-map-entry .ensures) (c .name-inside .ensures))
 
 pub names-inside-spec : {M : Type 1} → statement M
 names-inside-spec =
@@ -24,10 +23,10 @@ names-inside-spec =
     (tie.spec
     Inv-loop
     μ-loop
-    (λ c. search reading-names)
-    (λ c κs. search reading-names)
-    (λ c κs. search reading-names)
-    (λ c. search reading-names)
-    (λ c. search reading-names)
+    (λ c. search judging)
+    (λ c κs. search judging)
+    (λ c κs. search judging)
+    (λ c. search judging)
+    (λ c. search judging)
     loop-again
-    (λ c. search reading-names))
+    (λ c. search judging))

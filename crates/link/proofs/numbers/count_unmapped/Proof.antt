@@ -5,22 +5,24 @@ use lib.ListN.{length}
 use Rattle.names.specs.Names.{nameOf}
 use Rattle.link.specs.Map.{entriesOf}
 use Rattle.link.specs.Link.{isUnmapped}
+use Rattle.area.specs.Contents.{ruleFormat}
 use Rattle.area.specs.Lists.{numbers}
-use Rattle.link.proofs.Counting.{counting, unmappedAt, unmapped-is, count-yes, count-no, counted, rule-fails, rule-passes}
+use Rattle.area.proofs.Numbers.{count-yes, count-no, counted, passesAt, record-fails, record-passes}
+use Rattle.link.proofs.Counting.{counting, unmapped-is}
 use Rattle.link.proofs.numbers.count_unmapped.Statement.{statement}
 use Rattle.link.proofs.numbers.count_unmapped.Tie as tie
 
 abbrev Inv-loop : tie.InvT-loop
-Inv-loop src area count names entries slots n₀ k₀ n k = (k ≤ count) × (n ≤ k) × (n ≡ length (numbers (unmappedAt (nameOf src) (entriesOf names entries) area count) k))
+Inv-loop src area count names entries slots n₀ k₀ n k = (k ≤ count) × (n ≤ k) × (n ≡ length (numbers (passesAt ruleFormat (isUnmapped (nameOf src) (entriesOf names entries)) area count) k))
 
 abbrev μ-loop : tie.MeasureT-loop
 μ-loop src area count names entries slots n₀ k₀ n k = count - k
 
 loop-again : tie.Need-loop-again Inv-loop μ-loop
-loop-again c = (search counting, search counting, count-no _ _ _ (c .before .before .before .before .loop .inv .2) (rule-fails (isUnmapped _ _) _ (c .before .before .before .before .before .before .before .before .before .before .args .count) _ (search counting) _ (c .before .before .read-rule .ensures) _ (c .before .is-unmapped .ensures) (c .if1 .taken)))
+loop-again c = (search counting, search counting, count-no _ _ _ (c .before .before .before .before .loop .inv .2) (record-fails ruleFormat (isUnmapped _ _) _ (c .before .before .before .before .before .before .before .before .before .before .args .count) _ (search counting) _ (c .before .before .read-rule .ensures) _ (c .before .is-unmapped .ensures) (c .if1 .taken)))
 
 loop-again-2 : tie.Need-loop-again-2 Inv-loop μ-loop
-loop-again-2 c = (search counting, search counting, count-yes _ _ _ (c .before .before .before .before .loop .inv .2) (rule-passes (isUnmapped _ _) _ (c .before .before .before .before .before .before .before .before .before .before .args .count) _ (search counting) _ (c .before .before .read-rule .ensures) _ (c .before .is-unmapped .ensures) (c .if1 .left)))
+loop-again-2 c = (search counting, search counting, count-yes _ _ _ (c .before .before .before .before .loop .inv .2) (record-passes ruleFormat (isUnmapped _ _) _ (c .before .before .before .before .before .before .before .before .before .before .args .count) _ (search counting) _ (c .before .before .read-rule .ensures) _ (c .before .is-unmapped .ensures) (c .if1 .left)))
 
 returns : tie.Need-returns Inv-loop μ-loop
 returns c = counted _ _ _ _ _ (unmapped-is _ _ _ _) (search counting) (search counting) (c .before .loop .inv .2)

@@ -5,7 +5,8 @@ use lib.ListN.{length}
 use Rattle.names.specs.Names.{nameOf}
 use Rattle.link.specs.Map.{entryCount}
 use Rattle.area.specs.Lists.{numbers}
-use Rattle.link.proofs.Counting.{counting, unusedAt, unused-is, count-yes, count-no, counted, entry-fails, entry-passes}
+use Rattle.area.proofs.Numbers.{count-yes, count-no, counted}
+use Rattle.link.proofs.Counting.{counting, unusedAt, unused-is, entry-fails, entry-passes}
 use Rattle.link.proofs.numbers.count_unused.Statement.{statement}
 use Rattle.link.proofs.numbers.count_unused.Tie as tie
 

@@ -5,7 +5,8 @@ use native.Mathlib.Omega.{arith}
 use lib.ListN.{length}
 use Rattle.names.specs.Names.{nameOf}
 use Rattle.link.specs.Map.{entryCount}
-use Rattle.link.proofs.Counting.{counting, unusedAt, unused-is, Written, written-none, written-no, written-fits, written-yes, written-list, numbers-fit, entry-fails, entry-passes}
+use Rattle.link.proofs.Counting.{counting, unusedAt, unused-is, numbers-fit, entry-fails, entry-passes}
+use Rattle.area.proofs.Numbers.{Written, written-none, written-no, written-fits, written-yes, written-list}
 use Rattle.link.proofs.numbers.write_unused.Statement.{statement}
 use Rattle.link.proofs.numbers.write_unused.Tie as tie
 

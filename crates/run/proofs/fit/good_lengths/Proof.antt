@@ -4,7 +4,7 @@ use Prim.Native.Nat.{_≤_, _-_}
 use lib.Dec.{leb}
 use Rattle.area.specs.Contents.{contents, entryFormat}
 use Rattle.area.specs.Lists.{all}
-use Rattle.sheet_check.proofs.Judging.{judging, all-next}
+use Rattle.area.proofs.All.{judging, all-next}
 use Rattle.run.proofs.fit.good_lengths.Statement.{statement}
 use Rattle.run.proofs.fit.good_lengths.Tie as tie
 

@@ -4,7 +4,7 @@ use Prim.Native.Nat.{_≤_, _-_}
 use Rattle.area.specs.Contents.{contents, stateFormat}
 use Rattle.sheet_check.specs.SheetCheck.{goodState}
 use Rattle.area.specs.Lists.{all}
-use Rattle.sheet_check.proofs.Judging.{judging, all-next}
+use Rattle.area.proofs.All.{judging, all-next}
 use Rattle.sheet_check.proofs.check.good_states.Statement.{statement}
 use Rattle.sheet_check.proofs.check.good_states.Tie as tie
 
