@@ -13,7 +13,7 @@ use Rattle.characters.proofs.Tests.{le-or-lt, by-test, and-left, and-right}
 use Rattle.area.specs.declared.Rule.{Rule}
 use Rattle.area.specs.Records.{ruleWidth, entryWidth, ruleOf, ruleAt, entryAt, nthRule}
 use Rattle.area.specs.Contents.{contents, ruleFormat}
-use Rattle.answers.specs.Numbers.{acceptedNumber, startRefusedNumber, brokenSheetNumber, brokenRunNumber, rowMismatchNumber, doneNumber, stoppedNumber, unlinkedNumber, skipNumber, tokenNumber}
+use Rattle.answers.specs.Numbers.{acceptedNumber, areaFullNumber, brokenMapNumber, startRefusedNumber, brokenSheetNumber, brokenRunNumber, rowMismatchNumber, doneNumber, stoppedNumber, unlinkedNumber, skipNumber, tokenNumber}
 use Rattle.answers.specs.Words.{TwoBytes}
 use Rattle.area.specs.Bytes.{AllBytes}
 use Rattle.answers.proofs.Words.{two-bytes, no-values}
@@ -34,7 +34,7 @@ use Rattle.run.specs.declared.Begun.{Begun}
 use Rattle.run.specs.declared.Begun.the-variants.{Started, StartRefused}
 use Rattle.run.specs.declared.Step.{Step}
 use Rattle.run.specs.Winner.{Lexer, lexerOf, lengthIn, weight, greatest}
-use Rattle.run.specs.Run.{Running, current, input, RunLeft, goodRun, fitsIn, goodRow, wonBy, choose, stepRow, stepRun, stepCall, startFields, view, viewFields, stepFields}
+use Rattle.run.specs.Run.{Running, current, Input, RunLeft, goodRun, fitsIn, goodRow, wonBy, choose, stepRow, stepRun, stepCall, startFields, view, viewFields, stepFields}
 use Rattle.run.proofs.Fitting.{run-is}
 use Rattle.run.proofs.Winning.{weights-low}
 
@@ -76,8 +76,8 @@ pattern-small b k h =
     by-test (λ (x : Located). TwoBytes (patternFields x)) (hasRule b k) (partOf (nthRule (decoded b .rules) k)) C.BrokenSheet
     (λ _.
     let r = small-rule (b .area2) (getD (b .counts) 1 0) k h in
-    two-bytes 0 _ _ _ (omega arith) (r .place) (r .from) (r .len))
-    (λ _. no-values 6 (omega arith))
+    two-bytes acceptedNumber _ _ _ (omega arith) (r .place) (r .from) (r .len))
+    (λ _. no-values brokenSheetNumber (omega arith))
 
 -- ---- the link call
 
@@ -98,9 +98,9 @@ module _ (name : Rule → List ℕ) (xs : List Rule) (es : List Entry) (x2 x7 x8
   checked-small =
       by-test LinkSmall (L.fits (unmapped name es xs) x7) _ _
       (λ _. by-test LinkSmall (L.fits (unused name es xs) x8) _ _
-      (λ _. two-bytes 0 _ _ 0 (omega arith) (omega (arith, few-unmapped, few-rules)) (omega (arith, few-unused, few-entries)) (omega arith))
-      (λ _. two-bytes 4 8 0 0 (omega arith) (omega arith) (omega arith) (omega arith)))
-      (λ _. two-bytes 4 7 0 0 (omega arith) (omega arith) (omega arith) (omega arith))
+      (λ _. two-bytes acceptedNumber _ _ 0 (omega arith) (omega (arith, few-unmapped, few-rules)) (omega (arith, few-unused, few-entries)) (omega arith))
+      (λ _. two-bytes areaFullNumber 8 0 0 (omega arith) (omega arith) (omega arith) (omega arith)))
+      (λ _. two-bytes areaFullNumber 7 0 0 (omega arith) (omega arith) (omega arith) (omega arith))
 
 few-mapped : (names entries : List ℕ) → mapCheck names entries ≡ true → length (entriesOf names entries) ≤ 2048
 unfolding mapCheck
@@ -119,15 +119,18 @@ link-small b names entries x7 x8 =
     (λ good.
     let few : length (decoded b .rules) ≤ 2048 = omega (arith, rules-count b, checked-counts b passed .2) in
     checked-small (nameIn b) (decoded b .rules) (entriesOf names entries) (b .area2) x7 x8 few (few-mapped names entries good))
-    (λ _. no-values 7 (omega arith)))
-    (λ _. no-values 6 (omega arith))
+    (λ _. no-values brokenMapNumber (omega arith)))
+    (λ _. no-values brokenSheetNumber (omega arith))
 
 -- ---- the start call and the step call
 
 abbrev Small : RunLeft Step → Type 0
 Small o = TwoBytes (stepFields (o .answer))
 
-module _ (x : Lexer) (small : (k : ℕ) → SmallRule (nthRule (x .rules) k)) (run : Running) (row : List ℕ) (row-bytes : AllBytes row) where
+module _ (x : Lexer) (small : (k : ℕ) → SmallRule (nthRule (x .rules) k)) (run : Running) (i : Input) (row-bytes : AllBytes (i .row)) where
+  abbrev row : List ℕ
+  row = i .row
+
   length-small : (k : ℕ) → lengthIn row k < 65536
   unfolding entryAt
   length-small k = field-small row (k * entryWidth) 0 row-bytes
@@ -140,7 +143,7 @@ module _ (x : Lexer) (small : (k : ℕ) → SmallRule (nthRule (x .rules) k)) (r
       (λ _. two-bytes tokenNumber _ _ _ (omega arith) (small k .id) p h) (λ _. no-values unlinkedNumber (omega arith)))
       (λ _. no-values skipNumber (omega arith))
 
-  run-small : Small (stepRun x run (input row))
+  run-small : Small (stepRun x run i)
   unfolding stepRun stepRow choose view viewFields
   run-small =
       let f : ℕ → ℕ = weight x (current run) row in
@@ -155,11 +158,11 @@ module _ (x : Lexer) (small : (k : ℕ) → SmallRule (nthRule (x .rules) k)) (r
       (λ _. no-values rowMismatchNumber (omega arith))))
       (λ _. no-values brokenRunNumber (omega arith))
 
-pub step-small : (b : SheetBytes) (run : Running) (row : List ℕ) → AllBytes (b .area2) → AllBytes row
-    → TwoBytes (stepFields (stepCall b run (input row) .answer))
+pub step-small : (b : SheetBytes) (run : Running) (i : Input) → AllBytes (b .area2) → AllBytes (i .row)
+    → TwoBytes (stepFields (stepCall b run i .answer))
 unfolding stepCall view viewFields decoded
-step-small b run row rules-bytes row-bytes =
-    by-test Small (sheetCheck b) _ _ (λ _. run-small (lexerOf (decoded b)) (λ k. small-rule (b .area2) (getD (b .counts) 1 0) k rules-bytes) run row row-bytes)
+step-small b run i rules-bytes row-bytes =
+    by-test Small (sheetCheck b) _ _ (λ _. run-small (lexerOf (decoded b)) (λ k. small-rule (b .area2) (getD (b .counts) 1 0) k rules-bytes) run i row-bytes)
     (λ _. no-values brokenSheetNumber (omega arith))
 
 pub start-small : (x : Begun) → TwoBytes (startFields x)

@@ -10,7 +10,8 @@ use Rattle.run.specs.Run.{Running, running, current}
 use Rattle.run.proofs.Fitting.{GoodNumbers, run-is, depth-inside}
 use Rattle.run_laws.specs.Always.{SoundRun}
 use Rattle.machine.specs.Machine.{Given, Machine, currentState}
-use Rattle.machine.proofs.Laid.{runAs, stackAs, runningAs}
+use Rattle.machine.proofs.Laid.{stackAs, runningAs}
+use Rattle.machine.specs.Demand.{runAs}
 use Rattle.machine.proofs.Stacks.{Begins, laid-again, laid-begins, laid-read}
 
 -- of a run with the machine's n, over a stack of so many bytes

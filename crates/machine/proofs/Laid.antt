@@ -1,16 +1,11 @@
 -- A run over the bytes of its stack as the machine has it.
 use Prim.Native.Nat.{ℕ}
 use mathlib.Core.List.{List}
-use lib.ListN.{length}
 use Rattle.area.specs.Contents.{entryFormat, relaid}
-use Rattle.run.specs.declared.Run.{Run}
 use Rattle.run.specs.declared.Step.{Step}
 use Rattle.run.specs.Run.{Running, running, RunLeft, leaving}
 use Rattle.machine.specs.Machine.{Machine, Answered}
-
--- n, position and moves are equal, and depth is the length of the machine's stack
-abbrev pub runAs : ℕ → Machine → Run
-runAs n m = record { n = n; position = m .position; depth = length (m .stack); moves = m .moves }
+use Rattle.machine.specs.Demand.{runAs}
 
 -- the first entries are that stack in order; the bytes behind them are those that were there
 abbrev pub stackAs : List ℕ → Machine → List ℕ

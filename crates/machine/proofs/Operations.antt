@@ -19,23 +19,25 @@ use Rattle.link.specs.Map.{Entry, idOf}
 use Rattle.link.specs.Link.{isNamed, withId, withFound, linkRule, linkRules}
 use Rattle.link.proofs.LinkLaws.{link-changes-ids}
 use Rattle.link.proofs.Outcomes.{link-at}
+use Rattle.run.specs.declared.Run.{Run}
 use Rattle.run.specs.declared.Step.{Step}
 use Rattle.run.specs.declared.Step.the-variants.{Unlinked, Skip, Token}
 use Rattle.run.specs.Winner.{Lexer, lexerOf, inList, live, lengthIn, weight}
-use Rattle.run.specs.Run.{Running, running, leaving, runLeft, putState, advanced, popped, operated, moveBy, wonBy}
+use Rattle.run.specs.Run.{Running, running, leaving, runLeft, putState, withDepth, advanced, popped, operated, moveBy, wonBy}
 use Rattle.machine.specs.File.{keep, replace, push, pop, operationBy, nameFrom, fileRule}
 use Rattle.machine.specs.Machine.{Given, Machine, orInitial, operate, Winner, winner, move, answered, token, wins}
-use Rattle.machine.proofs.Laid.{runAs, leftAs}
+use Rattle.machine.proofs.Laid.{leftAs}
+use Rattle.machine.specs.Demand.{runAs}
 use Rattle.machine.proofs.Reading.{id-same}
 use Rattle.machine.proofs.Stacks.{Begins, laid-again, laid-shorter, laid-push, laid-bottom}
 
 -- ---- operations
 
--- a run with this n, position and number of moves
-module _ (n position moves : ℕ) where
+-- the run r
+module _ (r : Run) where
   -- with so many entries of a stack in use
   abbrev stacked : ℕ → List ℕ → Running
-  stacked d s = running (record { n = n; position = position; depth = d; moves = moves }) s
+  stacked d s = running (withDepth r d) s
 
   -- what the bytes b become with the stack z
   abbrev stackedAs : List ℕ → List ℕ → Running
@@ -64,12 +66,12 @@ module _ (n position moves : ℕ) where
       t : ℕ
       t = x .target
 
-      go : (p q r : Bool)
+      go : (p q o : Bool)
           → cond p (stacked 1 (putState b 0 t))
-          (cond q (stacked (length st + 1) (putState b (length st) t)) (cond r (popped (stacked (length st) b)) (stacked (length st) b)))
-          ≡ stackedAs b (operate (cond p (replace t) (cond q (push t) (cond r pop keep))) st)
-      go true q r = ap (stacked 1) (laid-bottom b t (omega arith))
-      go false true r = ap₂ stacked (sym (length-append st (t ∷ []))) (laid-push st b h t w)
+          (cond q (stacked (length st + 1) (putState b (length st) t)) (cond o (popped (stacked (length st) b)) (stacked (length st) b)))
+          ≡ stackedAs b (operate (cond p (replace t) (cond q (push t) (cond o pop keep))) st)
+      go true q o = ap (stacked 1) (laid-bottom b t (omega arith))
+      go false true o = ap₂ stacked (sym (length-append st (t ∷ []))) (laid-push st b h t w)
       go false false true = pop-as st b h l (omega arith)
       go false false false = kept st b h
 
@@ -104,7 +106,7 @@ module _ (n : ℕ) (m : Machine) (b : List ℕ) (begins : Begins (m .stack) b) (
       ≡ leftAs n b (answered a (move (winner (fileRule name c x) bytes) m))
   unfolding moveBy move
   move-as a x bytes =
-      ap (λ (z : Running). runLeft a (advanced (z .run) bytes) (z .stack)) (operated-as n (m .position) (m .moves) x (m .stack) b begins some-id room)
+      ap (λ (z : Running). runLeft a (advanced (z .run) bytes) (z .stack)) (operated-as (runAs n m) x (m .stack) b begins some-id room)
 
   -- the id of a named winner is the map's
   named-as : (g : Given) (x : Rule) (w : Winner) → cond (isNamed x) (token (idOf (g .map) (name x)) w m) (answered Skip (move w m))

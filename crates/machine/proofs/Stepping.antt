@@ -22,7 +22,8 @@ use Rattle.run.specs.Run.{running, current, Input, RunLeft, runLeft, goodRun, w
 use Rattle.run.proofs.Winning.{greatest-low}
 use Rattle.machine.specs.File.{FileRule, fileState, fileRule, fileIn}
 use Rattle.machine.specs.Machine.{Given, Machine, currentState, lengths, fits, notAbove, Winner, winner, winnerOf, Answered, wins, chooses, step}
-use Rattle.machine.proofs.Laid.{runAs, leftAs}
+use Rattle.machine.proofs.Laid.{leftAs}
+use Rattle.machine.specs.Demand.{runAs}
 use Rattle.machine.proofs.Meanings.{lengths-count, Picks, picked}
 use Rattle.machine.proofs.Reading.{Sound, row-same, fits-size}
 use Rattle.machine.proofs.Operations.{linkedLexer, linked-weight, still-as, won-as}

@@ -17,8 +17,8 @@ use Rattle.run_laws.specs.Always.{SoundCall}
 use Rattle.machine.specs.File.{fileIn}
 use Rattle.machine.specs.Machine.{Given, Machine, step}
 use Rattle.machine.specs.Means.{Means}
-use Rattle.machine.specs.Demand.{AsMachine, MapHolds, Follows}
-use Rattle.machine.proofs.Laid.{runAs, stackAs, leftAs}
+use Rattle.machine.specs.Demand.{AsMachine, MapHolds, Follows, runAs}
+use Rattle.machine.proofs.Laid.{stackAs, leftAs}
 use Rattle.machine.proofs.Keeping.{Runs, current-as, next-runs}
 use Rattle.machine.proofs.Operations.{linkedLexer}
 use Rattle.machine.proofs.Stepping.{step-as}

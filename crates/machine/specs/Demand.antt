@@ -15,6 +15,7 @@ use Rattle.parsed_sheet.specs.Accepted.{sheetLeftBy}
 use Rattle.link.specs.declared.LinkAnswer.the-variants.{Linked}
 use Rattle.link.specs.Map.{Entry}
 use Rattle.link.specs.Link.{LinkLeft, linkCall}
+use Rattle.run.specs.declared.Run.{Run}
 use Rattle.run.specs.declared.Begun.{Begun}
 use Rattle.run.specs.declared.Begun.the-variants.{Started}
 use Rattle.run.specs.declared.Step.{Step}
@@ -42,9 +43,13 @@ abbrev pub PlaceHolds : Option ℕ → ℕ → List ℕ → List ℕ → Type 0
 PlaceHolds none p s b = (getD b (p * 2) 0 ≡ getD s (p * 2) 0) × (getD b (p * 2 + 1) 0 ≡ getD s (p * 2 + 1) 0)
 PlaceHolds (some v) p s b = (getD b (p * 2) 0 ≡ v % 256) × (getD b (p * 2 + 1) 0 ≡ v / 256)
 
+-- a run's numbers as the machine has them: n, position and moves are equal, and depth is the length of its stack
+abbrev pub runAs : ℕ → Machine → Run
+runAs n m = record { n = n; position = m .position; depth = length (m .stack); moves = m .moves }
+
 -- the run x and its stack's bytes are as the machine has them, which held these stacks before; and the current state is declared
 pub record AsMachine (g : Given) (m : Machine) (held : List (List ℕ)) (s : List ℕ) (x : Running) : Type 0 where
-  pub run : x .run ≡ record { n = g .n; position = m .position; depth = length (m .stack); moves = m .moves }
+  pub run : x .run ≡ runAs (g .n) m
   pub places : (p : ℕ) → PlaceHolds (lastHeld p (m .stack ∷ held)) p s (x .stack)
   pub size : length (x .stack) ≡ length s
   pub declared : currentState (m .stack) < length (g .file .states)

@@ -40,8 +40,8 @@ use Rattle.fault.proofs.Yielding.{Yields, yields-next, yields-onto, yields-loop
 use Rattle.parsed_sheet.proofs.Appending.{yields-append}
 use Rattle.parsed_sheet.proofs.Elements.{each-snoc, each-weaken}
 use Rattle.parsed_sheet.proofs.Places.{rule-to, pattern-to}
-use Rattle.parsed_sheet.proofs.ByteLists.{all-append, unescaped-bytes}
-use Rattle.parsed_sheet.proofs.Headings.{HeadHolds, heading-holds, Unused}
+use Rattle.parsed_sheet.proofs.ByteLists.{unescaped-bytes}
+use Rattle.parsed_sheet.proofs.Headings.{HeadHolds, heading-holds}
 use Rattle.area.proofs.All.{all-append}
 
 -- ---- a rule more, and more entries and text behind the rules

@@ -22,7 +22,7 @@ use Rattle.run.specs.declared.Begun.the-variants.{Started, StartRefused}
 use Rattle.run.specs.declared.Step.{Step}
 use Rattle.run.specs.declared.Step.the-variants.{BrokenSheet, BrokenRun, RowMismatch, Done, Stopped}
 use Rattle.run.specs.Winner.{Lexer, weight, best}
-use Rattle.run.specs.Run.{mostBytes, stackBytes, Running, running, input, current, putState, RunLeft, leaving, runLeft, firstRun, startCall, goodStart}
+use Rattle.run.specs.Run.{mostBytes, stackBytes, Running, running, Input, current, putState, RunLeft, leaving, runLeft, firstRun, startCall, goodStart}
 use Rattle.run.specs.Run.{goodRun, fitsIn, goodRow, wonBy, choose, stepRow, stepRun, stepCall}
 use Rattle.run.specs.Contracts.{lexerAt, Readable, Inside}
 use Rattle.run.proofs.Fitting.{GoodNumbers, run-is, row-length}
@@ -60,21 +60,21 @@ module _ (lexer : Lexer) (rules : ℕ) (row : List ℕ) (state : ℕ) (b : Best)
       subst (λ (j : ℕ). j ≤ left) (sym (ap (λ (y : Best). y .length) is))
       (weights-low lexer state row left rules (λ k h. leb-true (entryAt row k) left (row-length (λ l. leb l left) rules row e k h)))
 
-module _ (l1 l2 l3 : List ℕ) (states rules entries : ℕ) (r : Run) (s row : List ℕ) (state : ℕ) (b : Best)
-    (top : state ≡ entryAt s (r .depth - 1)) (is : b ≡ best (weight (lexerAt l1 l2 l3 states rules entries) state row) rules) where
+module _ (l1 l2 l3 : List ℕ) (states rules entries : ℕ) (r : Run) (s : List ℕ) (i : Input) (state : ℕ) (b : Best)
+    (top : state ≡ entryAt s (r .depth - 1)) (is : b ≡ best (weight (lexerAt l1 l2 l3 states rules entries) state (i .row)) rules) where
   abbrev lexer : Lexer
   lexer = lexerAt l1 l2 l3 states rules entries
 
   abbrev g : Running
   g = running r s
 
-  row-choice : choose lexer g b ≡ stepRow lexer g (input row)
+  row-choice : choose lexer g b ≡ stepRow lexer g i
   unfolding stepRow
   row-choice =
       ap (choose lexer g)
       (is
-      ∙ ap (λ (z : ℕ). best (weight lexer z row) rules) top
-      ∙ ap (best (weight lexer (current g) row)) (sym (contents-count ruleFormat l2 rules)))
+      ∙ ap (λ (z : ℕ). best (weight lexer z (i .row)) rules) top
+      ∙ ap (best (weight lexer (current g) (i .row))) (sym (contents-count ruleFormat l2 rules)))
 
   choose-stopped : b .length ≡ 0 → leaving Stopped g ≡ choose lexer g b
   unfolding choose
@@ -84,12 +84,12 @@ module _ (l1 l2 l3 : List ℕ) (states rules entries : ℕ) (r : Run) (s row : L
   unfolding choose
   choose-won h = rw (ne-eqb (b .length) 0 h)
 
-  pub row-stopped : b .length ≡ 0 → leaving Stopped g ≡ stepRow lexer g (input row)
+  pub row-stopped : b .length ≡ 0 → leaving Stopped g ≡ stepRow lexer g i
   row-stopped h = choose-stopped h ∙ row-choice
 
-  pub row-won : (x : Rule) (y : RunLeft Step) → (b .length ≡ 0 → ⊥) → x ≡ ruleAt l2 (b .rule) → y ≡ wonBy g x (b .length) → y ≡ stepRow lexer g (input row)
+  pub row-won : (x : Rule) (y : RunLeft Step) → (b .length ≡ 0 → ⊥) → x ≡ ruleAt l2 (b .rule) → y ≡ wonBy g x (b .length) → y ≡ stepRow lexer g i
   row-won x y h e q =
-      let read = contents-read ruleFormat l2 rules (b .rule) (rule-inside lexer rules row state b is h) in
+      let read = contents-read ruleFormat l2 rules (b .rule) (rule-inside lexer rules (i .row) state b is h) in
       q ∙ ap (λ (z : Rule). wonBy g z (b .length)) (e ∙ sym read) ∙ choose-won h ∙ row-choice
 
 -- a move by no more bytes than are left stays inside the entry, and its operation inside the stack
@@ -110,9 +110,9 @@ move-inside r bytes space g h l = record {
 pub short-of : (states : ℕ) (r : Run) (s : List ℕ) → goodRun states (running r s) ≡ true → (r .position ≡ r .n → ⊥) → r .position < r .n
 short-of states r s e h = omega (arith, run-is states r s e .inside, h)
 
-module _ (l1 l2 l3 : List ℕ) (states rules entries : ℕ) (r : Run) (s row : List ℕ) (t : Bool) (is : t ≡ goodRun states (running r s)) where
+module _ (l1 l2 l3 : List ℕ) (states rules entries : ℕ) (r : Run) (s : List ℕ) (i : Input) (t : Bool) (is : t ≡ goodRun states (running r s)) where
   abbrev after-check : RunLeft Step
-  after-check = stepRun (lexerAt l1 l2 l3 states rules entries) (running r s) (input row)
+  after-check = stepRun (lexerAt l1 l2 l3 states rules entries) (running r s) i
 
   ran : goodRun (length (contents stateFormat l1 states)) (running r s) ≡ t
   ran = ap (λ (m : ℕ). goodRun m (running r s)) (contents-count stateFormat l1 states) ∙ sym is
@@ -125,28 +125,28 @@ module _ (l1 l2 l3 : List ℕ) (states rules entries : ℕ) (r : Run) (s row : L
   unfolding stepRun
   run-done e h = rw (ran, e, eq-eqb (r .position) (r .n) h)
 
-  module _ (e : t ≡ true) (h : r .position ≡ r .n → ⊥) (u : Bool) (fits : u ≡ goodRow (fitsIn r) rules row) where
-    rowed : goodRow (fitsIn r) (length (contents ruleFormat l2 rules)) row ≡ u
-    rowed = ap (λ (m : ℕ). goodRow (fitsIn r) m row) (contents-count ruleFormat l2 rules) ∙ sym fits
+  module _ (e : t ≡ true) (h : r .position ≡ r .n → ⊥) (u : Bool) (fits : u ≡ goodRow (fitsIn r) rules (i .row)) where
+    rowed : goodRow (fitsIn r) (length (contents ruleFormat l2 rules)) (i .row) ≡ u
+    rowed = ap (λ (m : ℕ). goodRow (fitsIn r) m (i .row)) (contents-count ruleFormat l2 rules) ∙ sym fits
 
     pub run-ill : u ≡ false → runLeft RowMismatch r s ≡ after-check
     unfolding stepRun
     run-ill g = rw (ran, e, ne-eqb (r .position) (r .n) h, rowed, g)
 
-    pub run-row : (y : RunLeft Step) → u ≡ true → y ≡ stepRow (lexerAt l1 l2 l3 states rules entries) (running r s) (input row) → y ≡ after-check
+    pub run-row : (y : RunLeft Step) → u ≡ true → y ≡ stepRow (lexerAt l1 l2 l3 states rules entries) (running r s) i → y ≡ after-check
     unfolding stepRun
     run-row y g q = rw (ran, e, ne-eqb (r .position) (r .n) h, rowed, g) q
 
 -- ---- the sheet
 
-module _ (b : SheetBytes) (r : Run) (s row : List ℕ) (t : Bool) (is : t ≡ sheetCheck b) where
-  pub sheet-refused : t ≡ false → runLeft BrokenSheet r s ≡ stepCall b (running r s) (input row)
+module _ (b : SheetBytes) (r : Run) (s : List ℕ) (i : Input) (t : Bool) (is : t ≡ sheetCheck b) where
+  pub sheet-refused : t ≡ false → runLeft BrokenSheet r s ≡ stepCall b (running r s) i
   unfolding stepCall
   sheet-refused e = rw (← is, e)
 
   pub sheet-stepped : (y : RunLeft Step) → t ≡ true
-      → y ≡ stepRun (lexerAt (b .area1) (b .area2) (b .area3) (count b 1) (count b 2) (count b 3)) (running r s) (input row)
-      → y ≡ stepCall b (running r s) (input row)
+      → y ≡ stepRun (lexerAt (b .area1) (b .area2) (b .area3) (count b 1) (count b 2) (count b 3)) (running r s) i
+      → y ≡ stepCall b (running r s) i
   unfolding stepCall decoded
   sheet-stepped y e q = rw (← is, e) q
 
