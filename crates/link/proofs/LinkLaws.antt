@@ -22,9 +22,10 @@ use Rattle.sheet_check.specs.declared.Sizes.{Sizes}
 use Rattle.sheet_check.specs.SheetCheck.{SheetBytes, sheetBytes, nameIn, count, decoded, sizesOf, mark, ordered, within, declared, textBytes, goodRule, goodRecords, sheetCheck}
 use Rattle.area.proofs.All.{all-map}
 use Rattle.sheet_check.proofs.Checked.{GoodRecords, good-rule, checked-sizes, checked-long, checked-records, rules-count}
+use Rattle.link.specs.declared.LinkAnswer.{LinkAnswer}
 use Rattle.link.specs.declared.LinkAnswer.the-variants.{Linked, BrokenSheet, BrokenMap, AreaFull}
 use Rattle.link.specs.Map.{Entry, entriesOf, nth, idAt, idOf, distinct, mapCheck}
-use Rattle.link.specs.Link.{isNamed, withId, withFound, linkRule, linkRules, linkLeft, fits, unmapped, unused, linkAll, linkChecked, linkCall}
+use Rattle.link.specs.Link.{isNamed, withId, withFound, linkRule, linkRules, LinkLeft, linkLeft, fits, unmapped, unused, linkAll, linkChecked, linkCall}
 use Rattle.link.proofs.Maps.{entry-first}
 use Rattle.link.proofs.Outcomes.{link-count, link-at, rules-read-back}
 
@@ -131,7 +132,9 @@ module _ (name : Rule → List ℕ) (es : List Entry) where
         let ys : List Rule = linkRules name es (decoded b .rules) in
         let size : length ys ≡ count b 2 = link-count name es (decoded b .rules) ∙ rules-count b in
         let long : count b 2 * ruleWidth ≤ length (b .area2) = checked-long b passed .long2 in
-        omega (arith, length-append (bytes (ruleFormat .write) ys) (drop (length ys * ruleWidth) (b .area2)), bytes-length (ruleFormat .write) ruleWidth (rule-sound .wide) ys, length-drop (length ys * ruleWidth) (b .area2), size, long)
+        let both = length-append (bytes (ruleFormat .write) ys) (drop (length ys * ruleWidth) (b .area2)) in
+        let front = bytes-length (ruleFormat .write) ruleWidth (rule-sound .wide) ys in
+        omega (arith, both, front, length-drop (length ys * ruleWidth) (b .area2), size, long)
 
     linked-sizes : sizesOf (withArea2 b linkedArea2) ≡ sizesOf b
     linked-sizes = rw linked-length
@@ -148,24 +151,35 @@ module _ (b : SheetBytes) (names entries x7 x8 : List ℕ) where
   abbrev es : List Entry
   es = entriesOf names entries
 
+  -- what is left where areas 7 and 8 have room
+  abbrev done : LinkLeft
+  done =
+      let xs : List Rule = decoded b .rules in
+      linkAll (nameIn b) (Linked (length (unmapped (nameIn b) es xs)) (length (unused (nameIn b) es xs))) xs es (b .area2) x7 x8
+
+  -- what is left by a refusal
+  abbrev refused : LinkAnswer → LinkLeft
+  refused a = linkLeft a (b .area2) x7 x8
+
   -- area 2 is as it was, or it has the linked rules
-  by-areas : (t u : Bool) (P : List ℕ → Type 0) → P (b .area2) → P (relaid ruleFormat (b .area2) (linkRules (nameIn b) es (decoded b .rules)))
-      → P ((cond t (cond u (linkAll (nameIn b) (Linked (length (unmapped (nameIn b) es (decoded b .rules))) (length (unused (nameIn b) es (decoded b .rules)))) (decoded b .rules) es (b .area2) x7 x8) (linkLeft (AreaFull 8) (b .area2) x7 x8)) (linkLeft (AreaFull 7) (b .area2) x7 x8)) .area2)
-  unfolding linkAll
-  by-areas true true P p q = q
-  by-areas true false P p q = p
-  by-areas false u P p q = p
+  module _ (P : List ℕ → Type 0) (p : P (b .area2)) where
+    by-areas : (t u : Bool) → P (relaid ruleFormat (b .area2) (linkRules (nameIn b) es (decoded b .rules)))
+        → P ((cond t (cond u done (refused (AreaFull 8))) (refused (AreaFull 7))) .area2)
+    unfolding linkAll
+    by-areas true true q = q
+    by-areas true false q = p
+    by-areas false u q = p
 
-  by-checks : (t u : Bool) (P : List ℕ → Type 0) → P (b .area2) → P (linkChecked (nameIn b) (decoded b .rules) es (b .area2) x7 x8 .area2)
-      → P ((cond t (cond u (linkChecked (nameIn b) (decoded b .rules) es (b .area2) x7 x8) (linkLeft BrokenMap (b .area2) x7 x8)) (linkLeft BrokenSheet (b .area2) x7 x8)) .area2)
-  by-checks true true P p q = q
-  by-checks true false P p q = p
-  by-checks false u P p q = p
+    by-checks : (t u : Bool) (y : LinkLeft) → P (y .area2) → P ((cond t (cond u y (refused BrokenMap)) (refused BrokenSheet)) .area2)
+    by-checks true true y q = q
+    by-checks true false y q = p
+    by-checks false u y q = p
 
-  pub link-area2 : (P : List ℕ → Type 0) → P (b .area2) → P (relaid ruleFormat (b .area2) (linkRules (nameIn b) es (decoded b .rules))) → P (linkCall b names entries x7 x8 .area2)
-  unfolding linkCall linkChecked
-  link-area2 P p q =
-      by-checks (sheetCheck b) (mapCheck names entries) P p (by-areas (fits (unmapped (nameIn b) es (decoded b .rules)) x7) (fits (unused (nameIn b) es (decoded b .rules)) x8) P p q)
+    pub link-area2 : P (relaid ruleFormat (b .area2) (linkRules (nameIn b) es (decoded b .rules))) → P (linkCall b names entries x7 x8 .area2)
+    unfolding linkCall linkChecked
+    link-area2 q =
+        by-checks (sheetCheck b) (mapCheck names entries) (linkChecked (nameIn b) (decoded b .rules) es (b .area2) x7 x8)
+        (by-areas (fits (unmapped (nameIn b) es (decoded b .rules)) x7) (fits (unused (nameIn b) es (decoded b .rules)) x8) q)
 
   -- a sheet that passes the check still passes after a link, whatever the answer
   pub link-passes : sheetCheck b ≡ true → sheetCheck (withArea2 b (linkCall b names entries x7 x8 .area2)) ≡ true
@@ -182,7 +196,8 @@ module _ (es : List Entry) (different : distinct es ≡ true) where
 -- ---- a map that holds every rule's name
 
 -- named rule k has the id that the map gives its name
-module _ (name : Rule → List ℕ) (es : List Entry) (xs : List Rule) (holds : (k : ℕ) → k < length xs → isNamed (nthRule xs k) ≡ true → (i : ℕ) × (idOf es (name (nthRule xs k)) ≡ some i)) where
+module _ (name : Rule → List ℕ) (es : List Entry) (xs : List Rule)
+    (holds : (k : ℕ) → k < length xs → isNamed (nthRule xs k) ≡ true → (i : ℕ) × (idOf es (name (nthRule xs k)) ≡ some i)) where
   pub link-gives-ids : (k : ℕ) → k < length xs → isNamed (nthRule xs k) ≡ true
       → (nthRule (linkRules name es xs) k .«has_id» ≡ 1) × (idOf es (name (nthRule xs k)) ≡ some (nthRule (linkRules name es xs) k .id))
   link-gives-ids k h e =

@@ -43,7 +43,10 @@ module _ (names entries : List ℕ) where
 
   pub entries-at : (j : ℕ) → j < entryCount entries → nth (entriesOf names entries) j ≡ entryOf names (mapEntryAt entries j)
   unfolding entriesOf
-  entries-at j h = rw (blank-entry) (List·getD-map (entryOf names) (contents mapFormat entries (entryCount entries)) j (mapEntryOf (λ _. 0)) ∙ ap (entryOf names) (contents-read mapFormat entries (entryCount entries) j h))
+  entries-at j h =
+      rw (blank-entry)
+      (List·getD-map (entryOf names) (contents mapFormat entries (entryCount entries)) j (mapEntryOf (λ _. 0))
+      ∙ ap (entryOf names) (contents-read mapFormat entries (entryCount entries) j h))
 
   -- the range of an entry's name is its name
   module _ (j : ℕ) (h : j < entryCount entries) (x : MapEntry) (is : x ≡ mapEntryAt entries j) where
@@ -154,4 +157,6 @@ module _ (names entries : List ℕ) where
 
 -- each entry is the first of its name
 pub entry-first : (es : List Entry) → distinct es ≡ true → (j : ℕ) → j < length es → findEntry es (nth es j .name) ≡ j
-entry-first es different j h = eqb-true (findEntry es (nth es j .name)) j (below-at (λ i. eqb (findEntry es (nth es i .name)) i) (length es) j (sym (distinct-firsts es) ∙ different) h)
+entry-first es different j h =
+    eqb-true (findEntry es (nth es j .name)) j
+    (below-at (λ i. eqb (findEntry es (nth es i .name)) i) (length es) j (sym (distinct-firsts es) ∙ different) h)

@@ -61,7 +61,8 @@ module _ (name : Rule → List ℕ) (es : List Entry) where
   pub unlinked-rules : (xs : List Rule) → unlinked (linkRules name es xs) ≡ unmapped name es xs
   unfolding unlinked unmapped
   unlinked-rules xs =
-      numbers-same (λ k. isUnlinked (nthRule (linkRules name es xs) k)) (λ k. isUnmapped name es (nthRule xs k)) (λ k. ap isUnlinked (link-at xs k) ∙ unlinked-rule (nthRule xs k)) (length (linkRules name es xs))
+      numbers-same (λ k. isUnlinked (nthRule (linkRules name es xs) k)) (λ k. isUnmapped name es (nthRule xs k))
+      (λ k. ap isUnlinked (link-at xs k) ∙ unlinked-rule (nthRule xs k)) (length (linkRules name es xs))
       ∙ ap (numbers (λ k. isUnmapped name es (nthRule xs k))) (link-count xs)
 
 -- ---- the three areas
@@ -80,11 +81,13 @@ module _ (l c : List ℕ) (cleared : c ≡ zeros (length l)) where
   pub cleared-laid : (ns e : List ℕ) → e ≡ laid entryFormat (length c) ns → e ≡ laid entryFormat (length l) ns
   cleared-laid ns e q = q ∙ ap (λ (n : ℕ). laid entryFormat n ns) cleared-length
 
-module _ (name : Rule → List ℕ) (es : List Entry) (x2 : List ℕ) (n : ℕ) (e2 : List ℕ) (is : e2 ≡ relaid ruleFormat x2 (linkRules name es (contents ruleFormat x2 n))) where
+module _ (name : Rule → List ℕ) (es : List Entry) (x2 : List ℕ) (n : ℕ) (e2 : List ℕ)
+    (is : e2 ≡ relaid ruleFormat x2 (linkRules name es (contents ruleFormat x2 n))) where
   pub rules-read-back : contents ruleFormat e2 n ≡ linkRules name es (contents ruleFormat x2 n)
   rules-read-back =
       ap (λ (l : List ℕ). contents ruleFormat l n) is
-      ∙ relaid-contents rule-sound rule-local x2 (linkRules name es (contents ruleFormat x2 n)) n (sym (link-count name es (contents ruleFormat x2 n) ∙ contents-count ruleFormat x2 n))
+      ∙ relaid-contents rule-sound rule-local x2 (linkRules name es (contents ruleFormat x2 n)) n
+      (sym (link-count name es (contents ruleFormat x2 n) ∙ contents-count ruleFormat x2 n))
 
   pub unlinked-left : unlinked (contents ruleFormat e2 n) ≡ unmapped name es (contents ruleFormat x2 n)
   unlinked-left = ap unlinked rules-read-back ∙ unlinked-rules name es (contents ruleFormat x2 n)

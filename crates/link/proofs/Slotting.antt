@@ -82,7 +82,9 @@ module _ (test : ℕ → Bool) (name : ℕ → List ℕ) where
     long = ap length e ∙ length-replicate {A = ℕ} slotCount 0;
     marked = λ i h t. absurd (omega (arith, h));
     low = λ h. ⊎-elim
-        (λ g. omega (arith, ap (λ (m : List ℕ). getD m h 0) e, List·getD-eq-default {A = ℕ} (replicate slotCount 0) 0 {n = h} (omega (arith, g, length-replicate {A = ℕ} slotCount 0))))
+        (λ g.
+        let past = List·getD-eq-default {A = ℕ} (replicate slotCount 0) 0 {n = h} (omega (arith, g, length-replicate {A = ℕ} slotCount 0)) in
+        omega (arith, ap (λ (m : List ℕ). getD m h 0) e, past))
         (λ g. omega (arith, ap (λ (m : List ℕ). getD m h 0) e, getD-replicate {A = ℕ} slotCount h 0 0 g))
         (le-or-lt slotCount h);
   }
@@ -187,21 +189,22 @@ module _ (names entries l : List ℕ) where
 -- ---- rules by their slots
 
 module _ (name : Rule → List ℕ) (l : List ℕ) (count : ℕ) (slots bytes : List ℕ) (I : RuleIndex name l count slots) (r : ℕ) (q : Slot bytes r) where
-  none-named : getD slots r 0 ≡ 0 → (k : ℕ) → k < count → hasThatName name bytes (nthRule (contents ruleFormat l count) k) ≡ false
-  unfolding hasThatName
-  none-named e k h = by (isNamed (nthRule (contents ruleFormat l count) k)) refl
-    where
-      x : Rule
-      x = nthRule (contents ruleFormat l count) k
+  abbrev rule : ℕ → Rule
+  rule = nthRule (contents ruleFormat l count)
 
-      by : (t : Bool) → isNamed (nthRule (contents ruleFormat l count) k) ≡ t → t && sameBytes bytes (name (nthRule (contents ruleFormat l count) k)) ≡ false
-      by true t = same-not bytes (name (nthRule (contents ruleFormat l count) k)) (λ z. slot-empty (λ j. isNamed (nthRule (contents ruleFormat l count) j)) (λ j. name (nthRule (contents ruleFormat l count) j)) (I .slots) bytes r q e k h t (sym z))
+  none-named : getD slots r 0 ≡ 0 → (k : ℕ) → k < count → hasThatName name bytes (rule k) ≡ false
+  unfolding hasThatName
+  none-named e k h = by (isNamed (rule k)) refl
+    where
+      by : (t : Bool) → isNamed (rule k) ≡ t → t && sameBytes bytes (name (rule k)) ≡ false
+      by true t = same-not bytes (name (rule k)) (λ z. slot-empty (λ j. isNamed (rule j)) (λ j. name (rule j)) (I .slots) bytes r q e k h t (sym z))
       by false t = refl
 
   pub unused-by-slot : getD slots r 0 ≡ 0 → true ≡ isUnused name (contents ruleFormat l count) bytes
   unfolding isUnused
   unused-by-slot e =
-      sym (all-from (λ x. not (hasThatName name bytes x)) (contents ruleFormat l count) (ruleFormat .blank) (λ k h. ap not (none-named e k (omega (arith, h, contents-count ruleFormat l count)))))
+      sym (all-from (λ x. not (hasThatName name bytes x)) (contents ruleFormat l count) (ruleFormat .blank)
+      (λ k h. ap not (none-named e k (omega (arith, h, contents-count ruleFormat l count)))))
 
   pub slot-rule : (getD slots r 0 ≡ 0 → ⊥) → getD slots r 0 - 1 < count
   slot-rule d = omega (arith, d, I .slots .low r)

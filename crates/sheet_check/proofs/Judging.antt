@@ -113,7 +113,8 @@ module _ (b : SheetBytes) (z : Sizes) (of : z ≡ sizesOf b) (t : Bool) (is : t 
   check-good r e q =
       rw (sizes-good, e)
       (q
-      ∙ ap (λ (y : Sizes). goodRecords y (contents stateFormat (b .area1) (y .states)) (contents ruleFormat (b .area2) (y .rules)) (contents entryFormat (b .area3) (y .entries)) (contents expectedFormat (b .area5) (y .expected))) of)
+      ∙ ap (λ (y : Sizes). goodRecords y (contents stateFormat (b .area1) (y .states)) (contents ruleFormat (b .area2) (y .rules))
+      (contents entryFormat (b .area3) (y .entries)) (contents expectedFormat (b .area5) (y .expected))) of)
 
   pub check-short : t ≡ false → false ≡ sheetCheck b
   unfolding sheetCheck

@@ -11,10 +11,16 @@ returns-2 : tie.Need-returns-2
 returns-2 c = checked-no _ _ _ (map-large _ _ (c .before .if1 .left) (c .if2 .taken))
 
 returns-3 : tie.Need-returns-3
-returns-3 c = checked-yes _ _ _ _ (c .before .before .index-entries .ensures) (λ q. map-inside _ _ (c .before .before .before .before .before .before .before .if1 .left) (c .before .before .before .before .before .before .if2 .left) _ (c .before .before .before .before .before .names-inside .ensures) _ (c .before .before .before .before .if3 .taken) q)
+returns-3 c =
+    let inside = c .before .before .before .before in
+    let few = inside .before .before in
+    checked-yes _ _ _ _ (c .before .before .index-entries .ensures)
+    (λ q. map-inside _ _ (few .before .if1 .left) (few .if2 .left) _ (inside .before .names-inside .ensures) _ (inside .if3 .taken) q)
 
 returns-4 : tie.Need-returns-4
-returns-4 c = checked-no _ _ _ (map-outside _ _ (c .before .before .before .if1 .left) (c .before .before .if2 .left) _ (c .before .names-inside .ensures) (c .if3 .left))
+returns-4 c =
+    let few = c .before .before in
+    checked-no _ _ _ (map-outside _ _ (few .before .if1 .left) (few .if2 .left) _ (c .before .names-inside .ensures) (c .if3 .left))
 
 pub check-map-spec : {M : Type 1} → statement M
 check-map-spec =

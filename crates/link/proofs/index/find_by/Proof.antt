@@ -9,13 +9,25 @@ read-slot-requires : tie.Need-read-slot-requires
 read-slot-requires c κs = omega (arith, c .slot-of .ensures .small, c .before .before .before .before .before .pre .slots .long)
 
 returns : tie.Need-returns
-returns c = find-none _ _ _ (c .before .before .before .before .before .before .before .pre) _ _ (c .before .before .slot-of .ensures) (sym (c .before .read-slot .ensures) ∙ c .if1 .taken)
+returns c =
+    let pre = c .before .before .before .before .before .before .before .pre in
+    find-none _ _ _ pre _ _ (c .before .before .slot-of .ensures) (sym (c .before .read-slot .ensures) ∙ c .if1 .taken)
 
 has-name-requires : tie.Need-has-name-requires
-has-name-requires c κs = omega (arith, slot-entry _ _ _ (c .before .before .before .before .before .before .before .pre) _ _ (c .before .before .slot-of .ensures) (λ z. c .if1 .left (c .before .read-slot .ensures ∙ z)), c .before .read-slot .ensures)
+has-name-requires c κs =
+    let number = c .before .read-slot in
+    let pre = c .before .before .before .before .before .before .before .pre in
+    omega (arith, slot-entry _ _ _ pre _ _ (c .before .before .slot-of .ensures) (λ z. c .if1 .left (number .ensures ∙ z)), number .ensures)
 
 returns-2 : tie.Need-returns-2
-returns-2 c = find-slot _ _ _ (c .before .before .before .before .before .before .before .before .before .pre) _ _ (c .before .before .before .before .slot-of .ensures) _ (omega (arith, slot-entry _ _ _ (c .before .before .before .before .before .before .before .before .before .pre) _ _ (c .before .before .before .before .slot-of .ensures) (λ z. c .before .before .if1 .left (c .before .before .before .read-slot .ensures ∙ z)), c .before .before .before .read-slot .ensures)) (sym (c .before .has-name .ensures) ∙ c .if2 .taken)
+returns-2 c =
+    let e = c .before .before in
+    let slot = e .before .before .slot-of in
+    let number = e .before .read-slot in
+    let pre = e .before .before .before .before .before .before .before .pre in
+    find-slot _ _ _ pre _ _ (slot .ensures) _
+    (omega (arith, slot-entry _ _ _ pre _ _ (slot .ensures) (λ z. e .if1 .left (number .ensures ∙ z)), number .ensures))
+    (sym (c .before .has-name .ensures) ∙ c .if2 .taken)
 
 pub find-by-spec : {M : Type 1} → statement M
 find-by-spec =

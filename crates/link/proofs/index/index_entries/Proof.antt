@@ -13,7 +13,9 @@ use Rattle.link.proofs.index.index_entries.Statement.{statement}
 use Rattle.link.proofs.index.index_entries.Tie as tie
 
 abbrev Inv-loop : tie.InvT-loop
-Inv-loop names entries slots₀ n good₀ j₀ slots good j = (j ≤ entryCount entries) × (good ≡ allBelow (λ i. eqb (findEntry (entriesOf names entries) (nth (entriesOf names entries) i .name)) i) j) × (length slots ≡ length slots₀) × EntrySlots names entries j slots
+Inv-loop names entries slots₀ n good₀ j₀ slots good j =
+    (j ≤ entryCount entries) × (good ≡ allBelow (λ i. eqb (findEntry (entriesOf names entries) (nth (entriesOf names entries) i .name)) i) j)
+    × (length slots ≡ length slots₀) × EntrySlots names entries j slots
 
 abbrev μ-loop : tie.MeasureT-loop
 μ-loop names entries slots₀ n good₀ j₀ slots good j = entryCount entries - j
@@ -28,7 +30,13 @@ slice-write-slots : tie.Need-slice-write-slots Inv-loop μ-loop
 slice-write-slots c = omega (arith, c .entry-slot .ensures .small, c .before .before .before .before .loop .inv .3 .long)
 
 loop-again : tie.Need-loop-again Inv-loop μ-loop
-loop-again c = (search slotting-entries, below-next _ _ _ _ (c .before .before .before .before .loop .inv .1) (c .before .is-first-by .ensures), search slotting-entries, slots-set _ _ (c .before .before .before .before .loop .inv .3) _ (c .entry-slot .ensures))
+loop-again c =
+    let l = c .before .before .before .before .loop in (
+      search slotting-entries,
+      below-next _ _ _ _ (l .inv .1) (c .before .is-first-by .ensures),
+      search slotting-entries,
+      slots-set _ _ (l .inv .3) _ (c .entry-slot .ensures),
+    )
 
 returns : tie.Need-returns Inv-loop μ-loop
 returns c = entries-indexed _ _ _ _ _ (search slotting-entries) (search slotting-entries) (c .before .loop .inv .1) (c .before .loop .inv .3)

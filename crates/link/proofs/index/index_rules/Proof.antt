@@ -19,13 +19,26 @@ loop-holds : tie.Need-loop-holds Inv-loop μ-loop
 loop-holds c = (search slotting-entries, search slotting-entries, slots-none _ _ _ (c .before .before .before .pre .1))
 
 loop-again : tie.Need-loop-again Inv-loop μ-loop
-loop-again c = (search slotting-entries, search slotting-entries, slots-skip _ _ (c .before .before .before .before .loop .inv .2) (rule-unnamed _ (c .before .before .before .before .before .before .before .before .args .count) _ (search slotting-entries) _ (c .before .before .read-rule .ensures) (c .if1 .taken)))
+loop-again c =
+    let l = c .before .before .before .before in
+    let a = l .before .before .before .before .args in (
+      search slotting-entries,
+      search slotting-entries,
+      slots-skip _ _ (l .loop .inv .2) (rule-unnamed _ (a .count) _ (search slotting-entries) _ (c .before .before .read-rule .ensures) (c .if1 .taken)),
+    )
 
 slice-write-slots : tie.Need-slice-write-slots Inv-loop μ-loop
 slice-write-slots c = omega (arith, c .rule-slot .ensures .small, c .before .before .before .before .before .loop .inv .2 .long)
 
 loop-again-2 : tie.Need-loop-again-2 Inv-loop μ-loop
-loop-again-2 c = (search slotting-entries, search slotting-entries, slots-set _ _ (c .before .before .before .before .before .loop .inv .2) _ (rule-slotted _ (c .before .before .before .before .before .before .before .before .before .args .count) _ (search slotting-entries) _ (c .before .before .before .read-rule .ensures) (nameOf _) _ (c .rule-slot .ensures)))
+loop-again-2 c =
+    let l = c .before .before .before .before .before in
+    let a = l .before .before .before .before .args in (
+      search slotting-entries,
+      search slotting-entries,
+      slots-set _ _ (l .loop .inv .2) _
+          (rule-slotted _ (a .count) _ (search slotting-entries) _ (c .before .before .before .read-rule .ensures) (nameOf _) _ (c .rule-slot .ensures)),
+    )
 
 returns : tie.Need-returns Inv-loop μ-loop
 returns c = rules-indexed (nameOf _) _ _ _ _ (search slotting-entries) (search slotting-entries) (c .before .loop .inv .2)

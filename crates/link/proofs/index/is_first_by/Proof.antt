@@ -9,7 +9,9 @@ read-slot-requires : tie.Need-read-slot-requires
 read-slot-requires c κs = omega (arith, c .entry-slot .ensures .small, c .before .before .before .before .pre .1 .long)
 
 returns : tie.Need-returns
-returns c = first-by-slot _ _ _ _ (c .before .before .before .before .before .before .pre .0) (c .before .before .before .before .before .before .pre .1) _ (c .before .before .entry-slot .ensures) (sym (c .before .read-slot .ensures) ∙ c .if1 .taken)
+returns c =
+    let pre = c .before .before .before .before .before .before .pre in
+    first-by-slot _ _ _ _ (pre .0) (pre .1) _ (c .before .before .entry-slot .ensures) (sym (c .before .read-slot .ensures) ∙ c .if1 .taken)
 
 pub is-first-by-spec : {M : Type 1} → statement M
 is-first-by-spec =

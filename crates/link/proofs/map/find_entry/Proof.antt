@@ -9,7 +9,9 @@ use Rattle.link.proofs.map.find_entry.Statement.{statement}
 use Rattle.link.proofs.map.find_entry.Tie as tie
 
 abbrev Inv-loop : tie.InvT-loop
-Inv-loop names entries text a e n j₀ j = (j ≤ entryCount entries) × (first (has names entries (part text a e)) 0 (entryCount entries) ≡ first (has names entries (part text a e)) j (entryCount entries))
+Inv-loop names entries text a e n j₀ j =
+    (j ≤ entryCount entries)
+    × (first (has names entries (part text a e)) 0 (entryCount entries) ≡ first (has names entries (part text a e)) j (entryCount entries))
 
 abbrev μ-loop : tie.MeasureT-loop
 μ-loop names entries text a e n j₀ j = entryCount entries - j

@@ -13,16 +13,33 @@ use Rattle.link.proofs.numbers.count_unmapped.Statement.{statement}
 use Rattle.link.proofs.numbers.count_unmapped.Tie as tie
 
 abbrev Inv-loop : tie.InvT-loop
-Inv-loop src area count names entries slots n₀ k₀ n k = (k ≤ count) × (n ≤ k) × (n ≡ length (numbers (passesAt ruleFormat (isUnmapped (nameOf src) (entriesOf names entries)) area count) k))
+Inv-loop src area count names entries slots n₀ k₀ n k =
+    (k ≤ count) × (n ≤ k) × (n ≡ length (numbers (passesAt ruleFormat (isUnmapped (nameOf src) (entriesOf names entries)) area count) k))
 
 abbrev μ-loop : tie.MeasureT-loop
 μ-loop src area count names entries slots n₀ k₀ n k = count - k
 
 loop-again : tie.Need-loop-again Inv-loop μ-loop
-loop-again c = (search counting, search counting, count-no _ _ _ (c .before .before .before .before .loop .inv .2) (record-fails ruleFormat (isUnmapped _ _) _ (c .before .before .before .before .before .before .before .before .before .before .args .count) _ (search counting) _ (c .before .before .read-rule .ensures) _ (c .before .is-unmapped .ensures) (c .if1 .taken)))
+loop-again c =
+    let l = c .before .before .before .before in
+    let a = l .before .before .before .before .before .before .args in (
+      search counting,
+      search counting,
+      count-no _ _ _ (l .loop .inv .2)
+          (record-fails ruleFormat (isUnmapped _ _) (a .area .now) (a .count) (l .loop .k) (search counting) _ (c .before .before .read-rule .ensures) _
+          (c .before .is-unmapped .ensures) (c .if1 .taken)),
+    )
 
 loop-again-2 : tie.Need-loop-again-2 Inv-loop μ-loop
-loop-again-2 c = (search counting, search counting, count-yes _ _ _ (c .before .before .before .before .loop .inv .2) (record-passes ruleFormat (isUnmapped _ _) _ (c .before .before .before .before .before .before .before .before .before .before .args .count) _ (search counting) _ (c .before .before .read-rule .ensures) _ (c .before .is-unmapped .ensures) (c .if1 .left)))
+loop-again-2 c =
+    let l = c .before .before .before .before in
+    let a = l .before .before .before .before .before .before .args in (
+      search counting,
+      search counting,
+      count-yes _ _ _ (l .loop .inv .2)
+          (record-passes ruleFormat (isUnmapped _ _) (a .area .now) (a .count) (l .loop .k) (search counting) _ (c .before .before .read-rule .ensures) _
+          (c .before .is-unmapped .ensures) (c .if1 .left)),
+    )
 
 returns : tie.Need-returns Inv-loop μ-loop
 returns c = counted _ _ _ _ _ (unmapped-is _ _ _ _) (search counting) (search counting) (c .before .loop .inv .2)

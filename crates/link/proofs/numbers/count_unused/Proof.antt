@@ -11,16 +11,25 @@ use Rattle.link.proofs.numbers.count_unused.Statement.{statement}
 use Rattle.link.proofs.numbers.count_unused.Tie as tie
 
 abbrev Inv-loop : tie.InvT-loop
-Inv-loop src area count slots names entries most n₀ j₀ n j = (j ≤ entryCount entries) × (n ≤ j) × (n ≡ length (numbers (unusedAt (nameOf src) names entries area count) j))
+Inv-loop src area count slots names entries most n₀ j₀ n j =
+    (j ≤ entryCount entries) × (n ≤ j) × (n ≡ length (numbers (unusedAt (nameOf src) names entries area count) j))
 
 abbrev μ-loop : tie.MeasureT-loop
 μ-loop src area count slots names entries most n₀ j₀ n j = entryCount entries - j
 
 loop-again : tie.Need-loop-again Inv-loop μ-loop
-loop-again c = (search counting, search counting, count-no _ _ _ (c .before .before .before .loop .inv .2) (entry-fails _ _ (c .before .is-unused-by .ensures) (c .if1 .taken)))
+loop-again c = (
+  search counting,
+  search counting,
+  count-no _ _ _ (c .before .before .before .loop .inv .2) (entry-fails _ _ (c .before .is-unused-by .ensures) (c .if1 .taken)),
+)
 
 loop-again-2 : tie.Need-loop-again-2 Inv-loop μ-loop
-loop-again-2 c = (search counting, search counting, count-yes _ _ _ (c .before .before .before .loop .inv .2) (entry-passes _ _ (c .before .is-unused-by .ensures) (c .if1 .left)))
+loop-again-2 c = (
+  search counting,
+  search counting,
+  count-yes _ _ _ (c .before .before .before .loop .inv .2) (entry-passes _ _ (c .before .is-unused-by .ensures) (c .if1 .left)),
+)
 
 returns : tie.Need-returns Inv-loop μ-loop
 returns c = counted _ _ _ _ _ (unused-is _ _ _ _ _) (search counting) (search counting) (c .before .loop .inv .2)

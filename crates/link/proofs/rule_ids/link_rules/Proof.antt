@@ -11,7 +11,8 @@ use Rattle.link.proofs.rule_ids.link_rules.Statement.{statement}
 use Rattle.link.proofs.rule_ids.link_rules.Tie as tie
 
 abbrev Inv-loop : tie.InvT-loop
-Inv-loop src area₀ count names entries slots k₀ area k = (k ≤ count) × (length area ≡ length area₀) × (area ≡ linkedTo (nameOf src) (entriesOf names entries) area₀ k)
+Inv-loop src area₀ count names entries slots k₀ area k =
+    (k ≤ count) × (length area ≡ length area₀) × (area ≡ linkedTo (nameOf src) (entriesOf names entries) area₀ k)
 
 abbrev μ-loop : tie.MeasureT-loop
 μ-loop src area₀ count names entries slots k₀ area k = count - k
@@ -20,7 +21,15 @@ link-rule-requires : tie.Need-link-rule-requires Inv-loop μ-loop
 link-rule-requires c κs = c .before .before .before .before .before .before .before .before .before .before .pre .0
 
 loop-again : tie.Need-loop-again Inv-loop μ-loop
-loop-again c = (search linking-rules, search linking-rules, rules-next _ _ _ _ (c .before .before .before .before .before .before .before .before .before .before .before .before .before .before .args .count) _ (c .before .before .before .before .before .before .before .before .loop .inv .2) (search needs) (c .before .before .before .before .before .before .before .before .before .before .before .before .before .before .pre .1 .0) (omega (arith, c .before .before .before .before .before .before .before .before .before .before .before .before .before .before .pre .1 .1, c .before .before .before .before .before .before .before .before .loop .inv .1)) _ _ _ _ (c .before .before .before .before .before .read-rule .ensures) (c .before .before .before .link-rule .ensures) (c .before .before .push-rule .ensures))
+loop-again c =
+    let l = c .before .before .before .before .before .before .before .before in
+    let s = l .before .before .before .before .before .before in (
+      search linking-rules,
+      search linking-rules,
+      rules-next (nameOf (s .args .src .now)) (entriesOf (s .args .names .now) (s .args .entries .now)) (s .args .area .now) (l .loop .k) (s .args .count) _
+          (l .loop .inv .2) (search needs) (s .pre .1 .0) (omega (arith, s .pre .1 .1, l .loop .inv .1)) _ _ _ _
+          (c .before .before .before .before .before .read-rule .ensures) (c .before .before .before .link-rule .ensures) (c .before .before .push-rule .ensures),
+    )
 
 pub link-rules-spec : {M : Type 1} → statement M
 link-rules-spec =
