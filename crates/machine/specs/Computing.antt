@@ -1,4 +1,4 @@
--- What a proof by computing unfolds: the definitions of this crate, a marker for each of its files, and the markers of the crates below it.
+-- What a proof by computing unfolds: the definitions of this crate, markers for each of its files, and the markers of the crates below it.
 -- tools/computing writes this file.
 use Rattle.characters.specs.Computing.{computing as characters-computing}
 use Rattle.text.specs.Computing.{computing as text-computing}
@@ -36,6 +36,14 @@ unfoldable words-file : Unit {0}
 unfolding FollowsInWords callsInWords IN-WORDS
 words-file = tt
 
+unfoldable part : Unit {0}
+unfolding characters-computing text-computing area-computing fault-computing section-computing names-computing escape-computing declarations-computing rules-computing rules-section-computing parse-computing
+part = tt
+
+unfoldable part-2 : Unit {0}
+unfolding sheet-check-computing parsed-sheet-computing link-computing run-computing demand-file file-file machine-file words-file
+part-2 = tt
+
 unfoldable pub computing : Unit {0}
-unfolding characters-computing text-computing area-computing fault-computing section-computing names-computing escape-computing declarations-computing rules-computing rules-section-computing parse-computing sheet-check-computing parsed-sheet-computing link-computing run-computing demand-file file-file machine-file words-file
+unfolding part part-2
 computing = tt

@@ -31,7 +31,8 @@ use Rattle.section.specs.Section.{found, percents, isComment, pastComment, past
 use Rattle.declarations.specs.declared.Declaration.{Declaration}
 use Rattle.declarations.specs.declared.Declaration.the-variants.{States, Expecting, Unknown}
 use Rattle.names.specs.Names.{isStateName}
-use Rattle.declarations.specs.Declarations.{range, Names, names, NameCaps, nameCaps, Declared, Caps, state, trimmed, wordEnd, firstWord, restOf, isInclusive, isExclusive, isExpecting, statesOf, declarationOf, behindName, addState, repeatState, stateNamed, declareState, stateNames, expectedNames, withNames, withExpected, thenAt, declareAs, declaration, nextDeclaration, endDeclarations, declarations}
+use Rattle.declarations.specs.Declarations.{range, Names, names, NameCaps, nameCaps, Declared, Caps, state, trimmed, wordEnd, firstWord, restOf, isInclusive, isExclusive, isExpecting, statesOf}
+use Rattle.declarations.specs.Declarations.{declarationOf, behindName, addState, repeatState, stateNamed, declareState, stateNames, expectedNames, withNames, withExpected, thenAt, declareAs, declaration, nextDeclaration, endDeclarations, declarations}
 use Rattle.declarations.proofs.Lines.{names-within}
 use Rattle.rules.specs.declared.Heading.{Heading}
 use Rattle.rules.specs.declared.Heading.the-variants.{Faulty, Repeated, Fresh}

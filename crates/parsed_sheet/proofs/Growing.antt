@@ -30,7 +30,8 @@ use Rattle.fault.specs.Faults.{findFault, UnknownDeclaration, InvalidName, Unkn
 use Rattle.declarations.specs.declared.Declaration.{Declaration}
 use Rattle.declarations.specs.declared.Declaration.the-variants.{States, Expecting, Unknown}
 use Rattle.names.specs.Names.{isStateName}
-use Rattle.declarations.specs.Declarations.{Range, range, Names, names, nameCaps, state, Declared, withNames, withExpected, expected, isQuoted, behindName, addState, repeatState, stateNamed, declareState, stateNames, declareExpected, expectedNames, declareAs, declaration, nextDeclaration, endDeclarations, declarations}
+use Rattle.declarations.specs.Declarations.{Range, range, Names, names, nameCaps, state, Declared, withNames, withExpected, expected, isQuoted, behindName}
+use Rattle.declarations.specs.Declarations.{addState, repeatState, stateNamed, declareState, stateNames, declareExpected, expectedNames, declareAs, declaration, nextDeclaration, endDeclarations, declarations}
 use Rattle.rules.specs.declared.Head.{Head}
 use Rattle.rules.specs.declared.Heading.{Heading}
 use Rattle.rules.specs.declared.Heading.the-variants.{Faulty, Repeated, Fresh}
