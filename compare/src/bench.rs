@@ -169,7 +169,7 @@ fn time_ours(shape: &Shape) -> Option<Duration> {
         |areas| {
             let mut counts = [0; AREAS];
             let mut lent = areas.each_mut().map(Vec::as_mut_slice);
-            let word = crate::library::parse_into(&case.source, case.flags, &[], &mut lent, &mut counts);
+            let word = crate::library::LINKED.parse(&case.source, case.flags, &[], &mut lent, &mut counts);
             assert_eq!(word, 0, "our library does not accept the shape `{}`", shape.name);
         },
     );
@@ -192,7 +192,7 @@ fn time_our_link(source: &str) -> Option<Duration> {
     let time = best(
         || (call.sheet.areas[1].clone(), call.area_7.clone(), call.area_8.clone()),
         |(area_2, area_7, area_8)| {
-            let word = crate::library::link_into(&call, area_2, area_7, area_8);
+            let word = crate::library::LINKED.link(&call, area_2, area_7, area_8);
             assert_eq!(word, 0, "our library does not link every rule and entry");
         },
     );
@@ -260,16 +260,16 @@ fn time_our_step(_: &BenchRun) -> Option<(Duration, Duration)> {
 fn time_our_step(run: &BenchRun) -> Option<(Duration, Duration)> {
     let map: Vec<(String, u16)> = run.map().into_iter().map(|(name, id)| (name.to_string(), id)).collect();
     let call = crate::link::call(crate::sheet::parsed(&run.source, 0), &map);
-    let left = crate::library::link(&call);
+    let left = crate::guarded::link(&call);
     let sheet = crate::link::linked(&call.sheet, &left);
     let rows: Vec<Vec<u8>> =
         run.rows.iter().map(|row| row.iter().flat_map(|length| (*length as u16).to_le_bytes()).collect()).collect();
     let before = crate::step::Run { numbers: [0; 4], stack: vec![0; 2 * (MOVES + 1)] };
     let step = best(
-        || crate::library::start(MOVES as u64, &before).1,
+        || crate::guarded::start(MOVES as u64, &before).1,
         |begun| {
             for row in &rows {
-                crate::library::step_into(&sheet, &mut begun.numbers, &mut begun.stack, row);
+                crate::library::LINKED.step(&sheet, &mut begun.numbers, &mut begun.stack, row);
             }
             assert_eq!(begun.numbers[3] as usize, MOVES, "our library does not move by every row");
         },
@@ -278,7 +278,7 @@ fn time_our_step(run: &BenchRun) -> Option<(Duration, Duration)> {
         || (),
         |()| {
             for _ in 0..MOVES {
-                assert_eq!(crate::library::pattern_test(&sheet, 0), 0, "our library finds the sheet broken");
+                assert_eq!(crate::library::LINKED.pattern_test(&sheet, 0), 0, "our library finds the sheet broken");
             }
         },
     );

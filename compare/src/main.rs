@@ -8,6 +8,8 @@ mod case;
 mod files_to_try;
 mod generators;
 #[cfg(feature = "ours")]
+mod guarded;
+#[cfg(feature = "ours")]
 mod library;
 mod link;
 mod misreadings;
@@ -138,7 +140,7 @@ fn dispatch(arguments: &[String]) -> Result<(), String> {
 
 fn our_side() -> Option<Box<dyn Side>> {
     #[cfg(feature = "ours")]
-    return Some(Box::new(library::Ours));
+    return Some(Box::new(guarded::Ours));
     #[cfg(not(feature = "ours"))]
     None
 }

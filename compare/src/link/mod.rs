@@ -116,7 +116,7 @@ pub fn against_model(call: &Call) -> Result<Left, String> {
 
 #[cfg(feature = "ours")]
 fn ours(call: &Call) -> Option<Left> {
-    Some(crate::library::link(call))
+    Some(crate::guarded::link(call))
 }
 
 #[cfg(not(feature = "ours"))]

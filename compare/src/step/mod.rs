@@ -302,18 +302,18 @@ fn shown(case: &Case) -> String {
 mod ours {
     use super::{Run, Sheet};
     use crate::case::{Answer, Case};
-    use crate::library;
+    use crate::guarded;
 
     pub fn parse(case: &Case) -> Option<Answer> {
-        Some(library::parse(case))
+        Some(guarded::parse(case))
     }
 
     pub fn start(n: u64, run: &Run) -> Option<(u64, Run)> {
-        Some(library::start(n, run))
+        Some(guarded::start(n, run))
     }
 
     pub fn step(sheet: &Sheet, run: &Run, row: &[u8]) -> Option<(u64, Run)> {
-        Some(library::step(sheet, run, row))
+        Some(guarded::step(sheet, run, row))
     }
 }
 
