@@ -3,6 +3,10 @@
 use crate::case::AREAS;
 use crate::link::Call;
 use crate::sheet::Sheet;
+use std::ffi::{CStr, CString, c_char, c_int, c_void};
+use std::mem::transmute;
+use std::os::unix::ffi::OsStrExt;
+use std::path::Path;
 
 /// Declares a C function of the library that is linked, and its type, for the same function of a library that is loaded.
 macro_rules! declared {
@@ -42,6 +46,15 @@ declared! {
 declared! {
     fn troymantle_start as Start(n: u64, run: *mut u16, stack: *mut u8, stack_length: usize)
 }
+
+unsafe extern "C" {
+    fn dlopen(file: *const c_char, flags: c_int) -> *mut c_void;
+    fn dlsym(object: *mut c_void, name: *const c_char) -> *mut c_void;
+    fn dlerror() -> *const c_char;
+}
+
+/// Every function that the object needs is looked for at once. (Linux's number.)
+const RTLD_NOW: c_int = 2;
 
 /// A slice as C takes it: two arguments.
 #[derive(Clone, Copy)]
@@ -155,6 +168,36 @@ pub const LINKED: Library = Library {
 };
 
 impl Library {
+    /// The library in a shared object, which stays loaded.
+    pub fn load(path: &Path) -> Result<Library, String> {
+        let file = CString::new(path.as_os_str().as_bytes()).map_err(|_| "A path has no zero byte.".to_string())?;
+        // SAFETY: the file's name ends with a zero byte.
+        let object = unsafe { dlopen(file.as_ptr(), RTLD_NOW) };
+        if object.is_null() {
+            return Err(format!("{} cannot be loaded: {}", path.display(), said()));
+        }
+        let find = |name: &CStr| {
+            // SAFETY: the object is loaded, and the name ends with a zero byte.
+            let function = unsafe { dlsym(object, name.as_ptr()) };
+            if function.is_null() { Err(format!("{}: {}", path.display(), said())) } else { Ok(function) }
+        };
+        // SAFETY: a function of this name has the type that is declared here.
+        unsafe {
+            Ok(Library {
+                parse: transmute::<*mut c_void, Parse>(find(c"troymantle_parse")?),
+                pattern_test: transmute::<*mut c_void, PatternTest>(find(c"troymantle_pattern_test")?),
+                link: transmute::<*mut c_void, Link>(find(c"troymantle_link")?),
+                start: transmute::<*mut c_void, Start>(find(c"troymantle_start")?),
+                step: transmute::<*mut c_void, Step>(find(c"troymantle_step")?),
+            })
+        }
+    }
+
+    /// Where the code lies, by one of its functions.
+    pub fn address(&self) -> usize {
+        self.step as usize
+    }
+
     pub fn parse(
         &self,
         source: &[u8],
@@ -213,4 +256,15 @@ impl Library {
         // SAFETY: every slice is lent whole; the call writes the four numbers and the stack alone.
         unsafe { step_by(self.step, &sheet, numbers.as_mut_ptr(), Lent::written(stack), Lent::read(row)) }
     }
+}
+
+/// What went wrong in the last call of dlopen or dlsym.
+fn said() -> String {
+    // SAFETY: dlerror answers null or a text that stays until its next call.
+    let text = unsafe { dlerror() };
+    if text.is_null() {
+        return "nothing is told".to_string();
+    }
+    // SAFETY: as above.
+    unsafe { CStr::from_ptr(text) }.to_string_lossy().into_owned()
 }

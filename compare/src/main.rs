@@ -9,11 +9,11 @@ mod files_to_try;
 mod generators;
 #[cfg(feature = "ours")]
 mod guarded;
-#[cfg(feature = "ours")]
 mod library;
 mod link;
 mod misreadings;
 mod model;
+mod options;
 mod oracle;
 mod random;
 mod record;
@@ -26,9 +26,8 @@ mod shrink;
 mod side;
 mod step;
 
-use generators::Generator;
+use options::Options;
 use side::Side;
-use std::path::{Path, PathBuf};
 use std::process::ExitCode;
 
 fn main() -> ExitCode {
@@ -76,7 +75,16 @@ compare record      writes a sample of expected answers for the program `replay`
 compare check-record
                     checks that recorded answers are the expected ones, and ours where our library is linked
     --input FILE    (crates/replay/data/answers)
-compare bench       prints the original's times, and ours beside them where our library is linked
+compare bench [WORDS]
+                    prints the original's times, and ours beside them where our library is built; of the shapes whose name
+                    contains one of the words, or of all
+    --layouts N     our code lies at so many places in turn, 16 bytes apart (8)
+    --library FILE  another static library in the place of ours (target/staticlib/libtroymantle.a)
+    --before FILE   a static library to compare it with in the same run
+compare count [WORDS]
+                    prints the instructions a call of the same shapes, counted by valgrind's callgrind; --library and --before
+                    as for bench
+compare once SHAPE  does a shape once, by the original or by the shared object --library FILE: what count runs under valgrind
 tools/compare test  runs the unit tests of this program and looks for warnings
 compare --help      prints this",
         generators.join("\n")
@@ -119,16 +127,23 @@ fn dispatch(arguments: &[String]) -> Result<(), String> {
         }
         "record" => {
             let options = Options::read(rest, &["--output", "--seed"])?;
-            record::record(&options.path("--output"), options.number("--seed", 1)?)
+            record::record(&options.answers("--output"), options.number("--seed", 1)?)
         }
         "check-record" => {
             let options = Options::read(rest, &["--input"])?;
-            record::check_record(&options.path("--input"), our_side().as_deref())
+            record::check_record(&options.answers("--input"), our_side().as_deref())
         }
         "bench" => {
-            Options::read(rest, &[])?;
-            bench::bench();
-            Ok(())
+            let options = Options::read_with_words(rest, &["--layouts", "--library", "--before"])?;
+            bench::bench(&wanted(options)?)
+        }
+        "count" => {
+            let options = Options::read_with_words(rest, &["--library", "--before"])?;
+            bench::count(&wanted(options)?)
+        }
+        "once" => {
+            let options = Options::read_with_words(rest, &["--library"])?;
+            bench::once(&options.words.join(" "), options.path("--library").as_deref())
         }
         "--help" | "-h" | "help" => {
             println!("{}", help());
@@ -138,74 +153,18 @@ fn dispatch(arguments: &[String]) -> Result<(), String> {
     }
 }
 
+fn wanted(options: Options) -> Result<bench::Wanted, String> {
+    Ok(bench::Wanted {
+        library: options.path("--library"),
+        before: options.path("--before"),
+        layouts: options.number("--layouts", 8)?,
+        words: options.words,
+    })
+}
+
 fn our_side() -> Option<Box<dyn Side>> {
     #[cfg(feature = "ours")]
     return Some(Box::new(guarded::Ours));
     #[cfg(not(feature = "ours"))]
     None
-}
-
-/// Options as pairs of name and value.
-struct Options {
-    pairs: Vec<(String, String)>,
-}
-
-impl Options {
-    fn read(arguments: &[String], known: &[&str]) -> Result<Options, String> {
-        let mut pairs = vec![];
-        for pair in arguments.chunks(2) {
-            let [name, value] = pair else {
-                return Err(format!("`{}` needs a value.", pair[0]));
-            };
-            if !known.contains(&name.as_str()) {
-                return Err(format!("There is no option `{name}` here; `compare --help` lists them."));
-            }
-            pairs.push((name.clone(), value.clone()));
-        }
-        Ok(Options { pairs })
-    }
-
-    fn value(&self, name: &str) -> Option<&str> {
-        self.pairs.iter().find(|(given, _)| given == name).map(|(_, value)| value.as_str())
-    }
-
-    fn number(&self, name: &str, default: u64) -> Result<u64, String> {
-        match self.value(name) {
-            None => Ok(default),
-            Some(value) => value.replace(',', "").parse().map_err(|_| format!("{name} wants a number, not `{value}`.")),
-        }
-    }
-
-    /// The file of recorded answers.
-    fn path(&self, name: &str) -> PathBuf {
-        let repository = Path::new(env!("CARGO_MANIFEST_DIR")).parent().unwrap_or(Path::new(""));
-        let default = || repository.join("crates/replay/data/answers");
-        self.value(name).map_or_else(default, PathBuf::from)
-    }
-
-    fn generator(&self) -> Result<Generator, String> {
-        let wanted = self.value("--generator").unwrap_or("mix");
-        let found = generators::NAMES.iter().find(|(name, ..)| *name == wanted);
-        found.map(|(_, generator, _)| *generator).ok_or_else(|| format!("There is no generator `{wanted}`."))
-    }
-}
-
-#[cfg(test)]
-mod tests {
-    use super::*;
-
-    fn read(words: &str) -> Result<Options, String> {
-        let words: Vec<String> = words.split_whitespace().map(str::to_string).collect();
-        Options::read(&words, &["--cases", "--seed"])
-    }
-
-    #[test]
-    fn options_are_pairs_of_a_known_name_and_a_value() {
-        let options = read("--cases 10,000").unwrap_or_else(|told| panic!("{told}"));
-        assert_eq!(options.number("--cases", 1), Ok(10_000));
-        assert_eq!(options.number("--seed", 1), Ok(1));
-        assert!(read("--cases").is_err());
-        assert!(read("--first 1").is_err());
-        assert!(read("--seed x").is_ok_and(|options| options.number("--seed", 1).is_err()));
-    }
 }

@@ -1,0 +1,144 @@
+//! `compare bench` and `compare count`: the times and the instructions of our library and of the original on the same input.
+
+mod counts;
+mod files;
+mod hostile;
+mod layouts;
+mod links;
+mod runs;
+mod shape;
+mod times;
+
+use crate::library::Library;
+use crate::options;
+pub use counts::{count, once};
+use shape::Shape;
+use std::path::PathBuf;
+
+const MOST_RULES: usize = 2_048;
+
+pub struct Wanted {
+    /// Of the shapes' names; none for all shapes.
+    pub words: Vec<String>,
+    /// Static libraries: one in the place of ours, and one to compare it with.
+    pub library: Option<PathBuf>,
+    pub before: Option<PathBuf>,
+    pub layouts: u64,
+}
+
+/// A library at its layouts.
+struct Side {
+    name: &'static str,
+    layouts: Vec<Library>,
+}
+
+pub fn bench(wanted: &Wanted) -> Result<(), String> {
+    let shapes = chosen(&wanted.words)?;
+    let layouts = wanted.layouts()?;
+    let side =
+        |(name, archive): (&'static str, PathBuf)| Ok(Side { name, layouts: layouts::load(&archive, name, layouts)? });
+    let sides = wanted.archives()?.into_iter().map(side).collect::<Result<Vec<Side>, String>>()?;
+    println!("{}", times::title(&sides));
+    for shape in shapes {
+        times::lines(&shape, &sides);
+    }
+    println!("{}", times::legend(layouts));
+    Ok(())
+}
+
+impl Wanted {
+    fn layouts(&self) -> Result<usize, String> {
+        match usize::try_from(self.layouts) {
+            Ok(layouts) if (1..=layouts::MOST).contains(&layouts) => Ok(layouts),
+            _ => Err(format!("--layouts wants a number from 1 to {}.", layouts::MOST)),
+        }
+    }
+
+    /// The names and files of the libraries, the one before first. Without options it is ours, if it is built.
+    fn archives(&self) -> Result<Vec<(&'static str, PathBuf)>, String> {
+        let built = options::repository().join("target/staticlib/libtroymantle.a");
+        let built = built.is_file().then_some(built);
+        match (self.library.clone().or(built), self.before.clone()) {
+            (Some(after), Some(before)) => Ok(vec![("before", before), ("after", after)]),
+            (None, Some(_)) => {
+                Err("Our library is not built, so --before has nothing to be compared with.".to_string())
+            }
+            (ours, None) => Ok(ours.map(|archive| ("ours", archive)).into_iter().collect()),
+        }
+    }
+}
+
+fn shapes() -> Vec<Shape> {
+    [files::shapes(), links::shapes(), runs::shapes()].into_iter().flatten().collect()
+}
+
+/// The shapes whose name contains one of the words; without words all.
+fn chosen(words: &[String]) -> Result<Vec<Shape>, String> {
+    let mut shapes = shapes();
+    if let Some(word) = words.iter().find(|word| !shapes.iter().any(|shape| shape.name.contains(*word))) {
+        let names: Vec<String> = shapes.iter().map(|shape| format!("    {}", shape.name)).collect();
+        return Err(format!("No shape's name contains `{word}`. They are\n{}", names.join("\n")));
+    }
+    shapes.retain(|shape| words.is_empty() || words.iter().any(|word| shape.name.contains(word)));
+    Ok(shapes)
+}
+
+#[cfg(test)]
+mod tests {
+    use super::*;
+    use std::collections::HashSet;
+
+    fn names(words: &[&str]) -> Result<Vec<String>, String> {
+        let words: Vec<String> = words.iter().map(ToString::to_string).collect();
+        Ok(chosen(&words)?.into_iter().map(|shape| shape.name).collect())
+    }
+
+    #[test]
+    fn words_choose_shapes() {
+        let all = names(&[]).unwrap_or_default();
+        assert_eq!(all.iter().collect::<HashSet<_>>().len(), 18);
+        let of = |call: &str| all.iter().filter(|name| name.starts_with(call)).cloned().collect::<Vec<_>>();
+        assert_eq!(names(&["step"]), Ok(of("step")));
+        assert_eq!(names(&["parse", "link", "step"]), Ok(all.clone()));
+        assert_eq!(names(&["small", "10 rules"]).map(|names| names.len()), Ok(5));
+        assert!(names(&["step", "stop"]).is_err_and(|told| told.contains("`stop`")));
+    }
+
+    fn wanted(library: Option<&str>, before: Option<&str>, layouts: u64) -> Wanted {
+        Wanted { words: vec![], library: library.map(PathBuf::from), before: before.map(PathBuf::from), layouts }
+    }
+
+    #[test]
+    fn a_library_before_stands_first() {
+        let archives = wanted(Some("b.a"), Some("a.a"), 1).archives();
+        assert_eq!(archives, Ok(vec![("before", PathBuf::from("a.a")), ("after", PathBuf::from("b.a"))]));
+        assert_eq!(wanted(Some("b.a"), None, 1).archives(), Ok(vec![("ours", PathBuf::from("b.a"))]));
+    }
+
+    #[test]
+    fn layouts_are_at_least_one_and_fill_a_page() {
+        let layouts = |number| wanted(None, None, number).layouts();
+        assert_eq!((layouts(1), layouts(256)), (Ok(1), Ok(256)));
+        assert!([0, 257, u64::MAX].iter().all(|number| layouts(*number).is_err()));
+    }
+
+    #[test]
+    fn a_library_that_is_not_there_is_told() {
+        let told = layouts::load(&PathBuf::from("no such file.a"), "ours", 1).err();
+        assert_eq!(told.as_deref(), Some("There is no library no such file.a."));
+    }
+
+    /// Every shape asserts that our library answers as it should.
+    #[test]
+    #[cfg(feature = "ours")]
+    fn a_loaded_library_answers_as_the_linked_one() {
+        let ours = wanted(None, None, 2).archives().unwrap_or_default();
+        let libraries = layouts::load(&ours[0].1, "tested", 2).unwrap_or_else(|told| panic!("{told}"));
+        for shape in chosen(&["small file".to_string(), "10 rules".to_string()]).unwrap_or_default() {
+            let work = shape.work();
+            for library in libraries.iter().chain([&crate::library::LINKED]) {
+                assert!(!(work.ours)(library).is_zero());
+            }
+        }
+    }
+}
