@@ -35,7 +35,7 @@ pub fn build(archive: &Path, name: &str, number: usize) -> Result<PathBuf, Strin
     let told = |error| format!("{} cannot be written: {error}.", directory.display());
     fs::create_dir_all(&directory).map_err(told)?;
     let padding = directory.join(format!("padding-{number}.s"));
-    fs::write(&padding, assembly(number * SHIFT)).map_err(told)?;
+    fs::write(&padding, assembly((number + 1) * SHIFT)).map_err(told)?;
     let object = directory.join(format!("{name}-{number}.so"));
     linked(archive, &padding, &object)?;
     Ok(object)

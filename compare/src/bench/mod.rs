@@ -42,7 +42,7 @@ pub fn bench(wanted: &Wanted) -> Result<(), String> {
     for shape in shapes {
         times::lines(&shape, &sides);
     }
-    println!("{}", times::legend(layouts));
+    println!("{}", times::legend(&sides));
     Ok(())
 }
 

@@ -6,11 +6,13 @@ use crate::library::Library;
 use crate::show;
 use std::time::{Duration, Instant};
 
-/// The original and each layout of each library have a turn in each round, with so many repetitions.
+/// The original and each layout of each library have a turn in each round.
 const ROUNDS: usize = 4;
+/// A turn has so many repetitions, and goes on up to the short time; none begins after the long time.
 const REPETITIONS: usize = 10;
-/// No further repetition begins in a turn after this time, and no further round after the other.
+const SHORT_TURN: Duration = Duration::from_millis(3);
 const LONG_TURN: Duration = Duration::from_millis(100);
+/// No round begins after this time.
 const LONG_ROUNDS: Duration = Duration::from_secs(5);
 
 /// The times of the layouts.
@@ -97,25 +99,26 @@ fn best_in_turn(timers: &[Timer]) -> Vec<Duration> {
 
 fn turn(timer: &Timer) -> Duration {
     let start = Instant::now();
-    let mut best = timer();
-    for _ in 1..REPETITIONS {
-        if start.elapsed() > LONG_TURN {
+    let mut best = Duration::MAX;
+    for repetition in 1.. {
+        best = best.min(timer());
+        let time = start.elapsed();
+        if time > LONG_TURN || repetition >= REPETITIONS && time > SHORT_TURN {
             break;
         }
-        best = best.min(timer());
     }
     best
 }
 
 /// Shape, bytes, original, each library, after ÷ before where there are two, original ÷ ours.
 fn columns(name: &str, bytes: &str, original: &str, sides: &[String], ratios: &[String]) -> String {
-    let sides: String = sides.iter().map(|side| format!(" {side:>32}")).collect();
+    let sides: String = sides.iter().map(|side| format!(" {side:>34}")).collect();
     let ratios: String = ratios.iter().map(|ratio| format!(" {ratio:>15}")).collect();
     format!("{name:48} {bytes:>7} {original:>11}{sides}{ratios}")
 }
 
 pub fn title(sides: &[Side]) -> String {
-    let names: Vec<String> = sides.iter().map(|side| format!("{} (least to greatest)", side.name)).collect();
+    let names: Vec<String> = sides.iter().map(|side| format!("{}, median (least to greatest)", side.name)).collect();
     let ratios: &[&str] = match sides.len() {
         0 => &[],
         1 => &["original ÷ ours"],
@@ -163,10 +166,11 @@ fn microseconds(time: f64) -> String {
     }
 }
 
-pub fn legend(layouts: usize) -> String {
+pub fn legend(sides: &[Side]) -> String {
     let repetitions = ROUNDS * REPETITIONS;
+    let layouts = sides.first().map_or(String::new(), |side| format!("; layouts of our code: {}", side.layouts.len()));
     format!(
-        "Microseconds a call on one core, the best of {repetitions} repetitions, or of fewer where they take long; of our library the median over {layouts} layouts of its code; {}.",
+        "Microseconds a call on one core, the best of {repetitions} repetitions or more, or of fewer where they take long{layouts}; {}.",
         original::ENGINE
     )
 }
