@@ -31,10 +31,10 @@ type Entries<'a> = [(&'a str, u16)];
 /// Every rule has an entry, and every entry a rule. The original's map is there already, or its making is in the time.
 fn all_linked(with_making: bool) -> Work {
     let source = alike_names();
-    let names = |j: usize| format!("BEGINS_ALIKE_{j:04}");
-    let call = link::call(sheet::parsed(&source, 0), &(0..MOST_RULES).map(names).zip(0..).collect::<Vec<_>>());
-    // the bench ends before they need to be given back
-    let names: &'static [String] = (0..MOST_RULES).map(names).collect::<Vec<_>>().leak();
+    let names: Vec<String> = (0..MOST_RULES).map(|j| format!("BEGINS_ALIKE_{j:04}")).collect();
+    let call = link::call(sheet::parsed(&source, 0), &names.iter().cloned().zip(0..).collect::<Vec<_>>());
+    // never given back, so that the map of them can be kept too
+    let names: &'static [String] = names.leak();
     let entries: Vec<(&str, u16)> = names.iter().map(String::as_str).zip(0..).collect();
     let map: HashMap<&str, u16> = entries.iter().copied().collect();
     Work {
