@@ -12,6 +12,9 @@ use std::time::Duration;
 pub fn shapes() -> Vec<Shape> {
     vec![
         shape("parse: small file", 0, small_file),
+        shape("parse: 40 rules, a name each", 0, || forty_rules("", "a ", "")),
+        shape("parse: 40 rules, a state and a name each", 0, || forty_rules("%s S\n", "<S>a ", "")),
+        shape("parse: 40 rules, a state, a target and a name each", 0, || forty_rules("%s S\n", "<S>a ", "<S>")),
         shape("parse: many short rules", 0, short_rules),
         shape("parse: few long lines, long patterns", 0, long_patterns),
         shape("parse: few long lines, long names", 0, long_names),
@@ -80,6 +83,12 @@ fn small_file() -> String {
     }
     text.push_str("[0-9]+ 'INT'\n[a-z][a-z0-9]* 'ID'\n[\\t\\n\\ ]+ ;\n%%\n");
     text
+}
+
+/// What a part of a rule costs: the same rules without it and with it.
+fn forty_rules(declarations: &str, pattern: &str, target: &str) -> String {
+    let lines: String = (10..50).map(|number| format!("{pattern}{target}'NAME_{number}'\n")).collect();
+    format!("{declarations}%%\n{lines}")
 }
 
 fn short_rules() -> String {
