@@ -7,14 +7,14 @@ use native.Mathlib.Omega.{arith}
 use borrow.Author.Needs.{needs}
 use borrow.Author.Tests.{leb-true, ltb-true, eq-eqb, ne-eqb, eqb-true}
 use lib.Dec.{eqb, leb}
-use lib.ListN.{length}
+use lib.ListN.{length, getD}
 use Rattle.characters.proofs.Tests.{and-left, and-right}
 use Rattle.area.specs.Records.{entryAt, entryWidth}
 use Rattle.area.specs.Contents.{contents, entryFormat}
 use Rattle.sheet_check.specs.SheetCheck.{declared}
 use Rattle.area.specs.Lists.{all}
 use Rattle.area.proofs.Contents.{contents-count, contents-read}
-use Rattle.area.proofs.All.{all-at}
+use Rattle.area.proofs.All.{all-at, all-from}
 use Rattle.run.specs.declared.Run.{Run}
 use Rattle.run.specs.Run.{running, movesOf, mostBytes, stackBytes, current, goodNumbers, goodRun, goodRow}
 
@@ -71,11 +71,7 @@ module _ (fits : ℕ → Bool) (rules : ℕ) (row : List ℕ) where
   abbrev lengths-fit : Bool
   lengths-fit = all fits (contents entryFormat row rules)
 
-  pub row-lengths : (q : Bool) → length row ≡ rules * entryWidth → q ≡ lengths-fit → q ≡ goodRow fits rules row
-  unfolding goodRow
-  row-lengths q e a = rw (eq-eqb (length row) (rules * entryWidth) e) a
-
-  pub row-broken : (length row ≡ rules * entryWidth → ⊥) → false ≡ goodRow fits rules row
+  pub row-broken : (length row ≡ rules * entryWidth → ⊥) → goodRow fits rules row ≡ false
   unfolding goodRow
   row-broken h = rw (ne-eqb (length row) (rules * entryWidth) h)
 
@@ -91,7 +87,12 @@ module _ (fits : ℕ → Bool) (rules : ℕ) (row : List ℕ) where
       let m : k < length (contents entryFormat row rules) = omega (arith, contents-count entryFormat row rules, h) in
       ap fits (sym (contents-read entryFormat row rules k h)) ∙ all-at fits (contents entryFormat row rules) 0 k a m
 
-pub ruleset row-fits = (needs, row-lengths, row-broken)
+  pub row-good : length row ≡ rules * entryWidth → ((k : ℕ) → k < rules → fits (entryAt row k) ≡ true) → goodRow fits rules row ≡ true
+  unfolding goodRow
+  row-good e f =
+      let each : (k : ℕ) → k < length (contents entryFormat row rules) → fits (getD (contents entryFormat row rules) k 0) ≡ true =
+      λ k h. let g : k < rules = omega (arith, contents-count entryFormat row rules, h) in ap fits (contents-read entryFormat row rules k g) ∙ f k g in
+      rw (eq-eqb (length row) (rules * entryWidth) e) (all-from fits (contents entryFormat row rules) 0 each)
 
 -- a run that fits
 module _ (states : ℕ) (r : Run) (s : List ℕ) (fits : goodRun states (running r s) ≡ true) where

@@ -125,15 +125,16 @@ module _ (l1 l2 l3 : List ℕ) (states rules entries : ℕ) (r : Run) (s : List 
   unfolding stepRun
   run-done e h = rw (ran, e, eq-eqb (r .position) (r .n) h)
 
-  module _ (e : t ≡ true) (h : r .position ≡ r .n → ⊥) (u : Bool) (fits : u ≡ goodRow (fitsIn r) rules (i .row)) where
-    rowed : goodRow (fitsIn r) (length (contents ruleFormat l2 rules)) (i .row) ≡ u
-    rowed = ap (λ (m : ℕ). goodRow (fitsIn r) m (i .row)) (contents-count ruleFormat l2 rules) ∙ sym fits
+  module _ (e : t ≡ true) (h : r .position ≡ r .n → ⊥) where
+    rowed : goodRow (fitsIn r) (length (contents ruleFormat l2 rules)) (i .row) ≡ goodRow (fitsIn r) rules (i .row)
+    rowed = ap (λ (m : ℕ). goodRow (fitsIn r) m (i .row)) (contents-count ruleFormat l2 rules)
 
-    pub run-ill : u ≡ false → runLeft RowMismatch r s ≡ after-check
+    pub run-ill : goodRow (fitsIn r) rules (i .row) ≡ false → runLeft RowMismatch r s ≡ after-check
     unfolding stepRun
     run-ill g = rw (ran, e, ne-eqb (r .position) (r .n) h, rowed, g)
 
-    pub run-row : (y : RunLeft Step) → u ≡ true → y ≡ stepRow (lexerAt l1 l2 l3 states rules entries) (running r s) i → y ≡ after-check
+    pub run-row : (y : RunLeft Step) → goodRow (fitsIn r) rules (i .row) ≡ true
+        → y ≡ stepRow (lexerAt l1 l2 l3 states rules entries) (running r s) i → y ≡ after-check
     unfolding stepRun
     run-row y g q = rw (ran, e, ne-eqb (r .position) (r .n) h, rowed, g) q
 

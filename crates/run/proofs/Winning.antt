@@ -1,7 +1,7 @@
 -- The rule that wins. The search for a state in a list is a walk; a rule is live by the branches of its definition; and the scan of the
 -- rules keeps the greatest weight so far and the first rule that has it, which is what the winner is.
 use mathlib.Core.Path.{_≡_, refl, sym, ap, ap₂, subst, _∙_}
-use mathlib.Core.Bool.{Bool, true, false, cond}
+use mathlib.Core.Bool.{Bool, true, false, cond, or-false}
 use mathlib.Core.List.{List}
 use mathlib.Core.Logic.{_⊎_, inl, inr}
 use Prim.Native.Nat.{ℕ, zero, suc, _+_, _≤_, _<_, max}
@@ -13,7 +13,7 @@ use lib.Dec.{eqb, ltb}
 use lib.ListN.{length}
 use Rattle.characters.specs.Walk.{first}
 use Rattle.characters.proofs.Tests.{le-or-lt}
-use Rattle.characters.proofs.Walks.{first-found, first-again, first-ended, first-to}
+use Rattle.characters.proofs.Walks.{first-none, first-found, first-again, first-ended, first-to}
 use Rattle.area.specs.declared.State.{State}
 use Rattle.area.specs.declared.Rule.{Rule}
 use Rattle.area.specs.Records.{stateAt, ruleAt, entryAt, nthState, nthRule, nthEntry}
@@ -50,31 +50,27 @@ pub ruleset listing = (needs, state-found, state-again, state-ended)
 
 -- ---- a rule that is live
 
-module _ (l1 l3 : List ℕ) (states entries state : ℕ) (x : Rule) (i : ℕ)
-    (is : i ≡ findInList (contents entryFormat l3 entries) (x .«list_from») (listEnd x) state) where
-  pub live-in-list : i < listEnd x → true ≡ live (contents stateFormat l1 states) (contents entryFormat l3 entries) state x
-  unfolding live inList
-  live-in-list h =
-      let t : ltb (findInList (contents entryFormat l3 entries) (x .«list_from») (listEnd x) state) (listEnd x) ≡ true =
-      ap (λ (j : ℕ). ltb j (listEnd x)) (sym is) ∙ lt-ltb i (listEnd x) h in
-      rw t
+module _ (l1 l3 : List ℕ) (states entries state : ℕ) (x : Rule) where
+  none-in-list : x .«list_count» ≡ 0 → inList (contents entryFormat l3 entries) state x ≡ false
+  unfolding inList findInList
+  none-in-list z =
+      let h : listEnd x ≤ x .«list_from» = omega (arith, z) in
+      let none = first-none (λ j. eqb (nthEntry (contents entryFormat l3 entries) j) state) (x .«list_from») (listEnd x) h in
+      ap (λ (j : ℕ). ltb j (listEnd x)) (sym none) ∙ le-ltb (x .«list_from») (listEnd x) h
 
-  not-in-list : listEnd x ≤ i → inList (contents entryFormat l3 entries) state x ≡ false
-  unfolding inList
-  not-in-list h = ap (λ (j : ℕ). ltb j (listEnd x)) (sym is) ∙ le-ltb i (listEnd x) h
-
-  pub live-empty : listEnd x ≤ i → x .«list_count» ≡ 0 → state < states → (s : State) → s ≡ stateAt l1 state
+  pub live-empty : x .«list_count» ≡ 0 → state < states → (s : State) → s ≡ stateAt l1 state
       → eqb (s .exclusive) 0 ≡ live (contents stateFormat l1 states) (contents entryFormat l3 entries) state x
   unfolding live
-  live-empty h z g s e =
+  live-empty z g s e =
       let q : s ≡ nthState (contents stateFormat l1 states) state = e ∙ sym (contents-read stateFormat l1 states state g) in
-      rw (not-in-list h, eq-eqb (x .«list_count») 0 z) (ap (λ (y : State). eqb (y .exclusive) 0) q)
+      rw (none-in-list z, eq-eqb (x .«list_count») 0 z) (ap (λ (y : State). eqb (y .exclusive) 0) q)
 
-  pub live-not : listEnd x ≤ i → (x .«list_count» ≡ 0 → ⊥) → false ≡ live (contents stateFormat l1 states) (contents entryFormat l3 entries) state x
-  unfolding live
-  live-not h z = rw (not-in-list h, ne-eqb (x .«list_count») 0 z)
+  pub live-listed : (x .«list_count» ≡ 0 → ⊥) → (i : ℕ) → i ≡ findInList (contents entryFormat l3 entries) (x .«list_from») (listEnd x) state
+      → ltb i (listEnd x) ≡ live (contents stateFormat l1 states) (contents entryFormat l3 entries) state x
+  unfolding live inList
+  live-listed z i is = rw (ne-eqb (x .«list_count») 0 z, or-false) (ap (λ (j : ℕ). ltb j (listEnd x)) is)
 
-pub ruleset living = (needs, live-in-list, live-empty, live-not)
+pub ruleset living = (needs, live-empty, live-listed)
 
 -- ---- the better of two
 
@@ -107,6 +103,14 @@ module _ (f : ℕ → ℕ) where
   greatest-next : (n : ℕ) → greatest f (suc n) ≡ max (greatest f n) (f n)
   unfolding greatest
   greatest-next n = refl
+
+  pub greatest-none : 0 ≡ greatest f 0
+  unfolding greatest
+  greatest-none = refl
+
+  -- one number more
+  pub greatest-more : (k top x r : ℕ) → top ≡ greatest f k → x ≡ f k → r ≡ max top x → r ≡ greatest f (k + 1)
+  greatest-more k top x r e q p = p ∙ ap₂ max e q ∙ sym (greatest-next k) ∙ ap (greatest f) (sym (add-one k))
 
   -- none is above it
   pub below-greatest : (n j : ℕ) → j < n → f j ≤ greatest f n
@@ -166,6 +170,14 @@ module _ (f : ℕ → ℕ) where
   earliest-first n j h g =
       let no : (f j ≡ greatest f n → ⊥) = eqb-false (f j) (greatest f n) (first-before (λ k. eqb (f k) (greatest f n)) 0 n (omega arith) j (omega arith) h) in
       omega (arith, below-greatest n j g)
+
+  -- where the greatest is 0 each is, and the first place has it
+  pub best-zero : (n : ℕ) → greatest f n ≡ 0 → record { length = 0; rule = 0 } ≡ best f n
+  best-zero n z = λ i. record { length = sym z i; rule = by (le-or-lt (earliest f n) 0) i }
+    where
+      by : (earliest f n ≤ 0) ⊎ (0 < earliest f n) → 0 ≡ earliest f n
+      by (inl h) = omega arith
+      by (inr h) = absurd (omega (arith, earliest-first n 0 h (omega (arith, earliest-to n)), z))
 
   -- one more number
   earliest-only : (n j : ℕ) → j < n → f j ≡ greatest f n → ((m : ℕ) → m < j → f m < greatest f n) → earliest f n ≡ j

@@ -1,4 +1,5 @@
 pub mod Winner
 pub mod Run
+pub mod Top
 pub mod Contracts
 pub mod Computing

@@ -4,17 +4,19 @@ ghost use mathlib.Core.Bool.{true};
 ghost use Prim.Native.Nat.{_<_};
 ghost use Rattle.sheet_check.specs.Contracts.{sheetIn};
 ghost use Rattle.area.specs.Contracts.{before, after};
-ghost use Rattle.run.specs.Run.{running, input, runLeft, startCall, goodRun, fitsIn, goodRow, stepRow, stepRun, stepCall};
+ghost use Rattle.run.specs.Run.{running, input, runLeft, startCall, goodRun, fitsIn, stepRow, stepRun, stepCall};
+ghost use Rattle.run.specs.Top.{RowFits};
 ghost use Rattle.run.specs.Contracts.{lexerIn, Readable};
 use crate::Begun;
 use crate::BegunRun;
 use crate::MOST_BYTES;
+use crate::RowTop;
 use crate::Run;
 use crate::Step;
 use crate::Stepped;
-use crate::fit::good_row;
 use crate::fit::good_run;
-use crate::longest::longest;
+use crate::fit::row_top;
+use crate::longest::winner;
 use crate::moves::put_state;
 use crate::moves::won_by;
 use area::ENTRY_WIDTH;
@@ -50,7 +52,7 @@ pub fn start(n: u64, r: Run, stack: &mut [u8]) -> BegunRun
     }
 }
 
-// A row that fits: the winner, or that no live rule has a length.
+// A row that fits, with its greatest length: the winner, or that no live rule has a length.
 fn step_row(
     area1: &[u8],
     area2: &[u8],
@@ -61,18 +63,19 @@ fn step_row(
     r: Run,
     stack: &mut [u8],
     row: &[u8],
+    top: u16,
 ) -> Stepped
     requires { ⌜ Readable (now area1) (now area2) (now area3) states rules entries ⌝ }
     requires { ⌜ goodRun states (running r (now stack)) ≡ true ⌝ }
     requires { ⌜ r .position < r .n ⌝ }
-    requires { ⌜ goodRow (fitsIn r) rules (now row) ≡ true ⌝ }
+    requires { ⌜ RowFits (fitsIn r) rules (now row) top ⌝ }
     ensures { λ q. ⌜
         runLeft (q .answer) (q .run) (after stack)
         ≡ stepRow (lexerIn area1 area2 area3 states rules entries) (running r (before stack)) (input (before row))
         ⌝ }
 {
     let state = read_entry(stack, r.depth as usize - 1);
-    let b = longest(area1, area2, area3, states, rules, entries, state, row);
+    let b = winner(area1, area2, area3, states, rules, entries, state, row, top);
     if b.length == 0 {
         return Stepped {
             answer: Step::Stopped,
@@ -108,13 +111,24 @@ fn step_run(
                 run: r,
             };
         }
-        if good_row(rules, r.n - r.position, row) {
-            return step_row(area1, area2, area3, states, rules, entries, r, stack, row);
-        }
-        return Stepped {
-            answer: Step::RowMismatch,
-            run: r,
+        let RowTop::Fits(top) = row_top(rules, r.n - r.position, row) else {
+            return Stepped {
+                answer: Step::RowMismatch,
+                run: r,
+            };
         };
+        return step_row(
+            area1,
+            area2,
+            area3,
+            states,
+            rules,
+            entries,
+            r,
+            stack,
+            row,
+            top,
+        );
     }
     Stepped {
         answer: Step::BrokenRun,

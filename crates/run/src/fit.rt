@@ -1,14 +1,15 @@
 // Whether a run and a row fit (01, Numbers given at the counter, 9 and 10).
 ghost use mathlib.Core.Path.{_≡_};
-ghost use Prim.Native.Nat.{_*_, _≤_};
+ghost use Prim.Native.Nat.{_*_, _≤_, max};
 ghost use lib.Dec.{leb};
 ghost use lib.ListN.{length};
 ghost use Rattle.area.specs.Records.{entryWidth};
-ghost use Rattle.area.specs.Contents.{contents, entryFormat};
-ghost use Rattle.area.specs.Lists.{all};
 ghost use Rattle.area.specs.Contracts.{before};
-ghost use Rattle.run.specs.Run.{running, goodNumbers, goodRun, goodRow};
+ghost use Rattle.run.specs.Winner.{lengthIn, greatest};
+ghost use Rattle.run.specs.Run.{running, goodNumbers, goodRun};
+ghost use Rattle.run.specs.Top.{RowTopIs};
 use crate::MOST_BYTES;
+use crate::RowTop;
 use crate::Run;
 use area::ENTRY_WIDTH;
 use area::read_entry;
@@ -36,25 +37,39 @@ pub fn good_run(states: u16, r: Run, stack: &[u8]) -> bool
     false
 }
 
-fn good_lengths(row: &[u8], rules: u16, left: u16) -> bool
-    requires { ⌜ rules * entryWidth ≤ length (now row) ⌝ }
-    ensures { λ t. ⌜ t ≡ all (λ x. leb x left) (contents entryFormat (before row) rules) ⌝ }
+fn max(x: u16, y: u16) -> u16
+    ensures { λ r. ⌜ r ≡ max x y ⌝ }
 {
-    let most = rules as usize;
-    let mut good = true;
-    let mut k = 0;
-    while k < most {
-        good = good & (read_entry(row, k) <= left);
-        k += 1;
+    if x < y {
+        return y;
     }
-    good
+    x
 }
 
-pub fn good_row(rules: u16, left: u16, row: &[u8]) -> bool
-    ensures { λ t. ⌜ t ≡ goodRow (λ x. leb x left) rules (before row) ⌝ }
+fn greatest_length(row: &[u8], rules: u16) -> u16
+    requires { ⌜ rules * entryWidth ≤ length (now row) ⌝ }
+    ensures { λ t. ⌜ t ≡ greatest (lengthIn (before row)) rules ⌝ }
 {
-    if row.len() == rules as usize * ENTRY_WIDTH {
-        return good_lengths(row, rules, left);
+    let most = rules as usize;
+    let mut top = 0;
+    let mut k = 0;
+    while k < most {
+        top = max(top, read_entry(row, k));
+        k += 1;
     }
-    false
+    top
+}
+
+// Every length is at most the bytes left where the greatest is.
+pub fn row_top(rules: u16, left: u16, row: &[u8]) -> RowTop
+    ensures { λ t. ⌜ RowTopIs (λ x. leb x left) rules (before row) t ⌝ }
+{
+    if row.len() != rules as usize * ENTRY_WIDTH {
+        return RowTop::Misfit;
+    }
+    let top = greatest_length(row, rules);
+    if left < top {
+        return RowTop::Misfit;
+    }
+    RowTop::Fits(top)
 }

@@ -23,6 +23,12 @@ pub struct Best {
     pub rule: usize,
 }
 
+// Whether a row fits: its greatest length, or that it does not fit.
+pub enum RowTop {
+    Fits(u16),
+    Misfit,
+}
+
 // The answers of the start call: accepted, or refused by number 8 of 01.
 pub enum Begun {
     Started,

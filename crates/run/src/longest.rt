@@ -6,7 +6,8 @@ ghost use lib.ListN.{length};
 ghost use Rattle.area.specs.Records.{stateWidth, entryWidth};
 ghost use Rattle.area.specs.Contents.{contents, stateFormat, entryFormat};
 ghost use Rattle.area.specs.Contracts.{before};
-ghost use Rattle.run.specs.Winner.{findInList, live, weight, best, better};
+ghost use Rattle.run.specs.Winner.{findInList, live, lengthIn, weight, greatest, best, better};
+ghost use Rattle.run.specs.Top.{firstWith};
 ghost use Rattle.run.specs.Contracts.{lexerIn, Readable};
 use crate::Best;
 use area::Rule;
@@ -37,16 +38,13 @@ fn is_live(area1: &[u8], area3: &[u8], states: u16, entries: u16, state: u16, x:
         r ≡ live (contents stateFormat (before area1) states) (contents entryFormat (before area3) entries) state x
         ⌝ }
 {
-    let from = x.list_from as usize;
-    let end = from + x.list_count as usize;
-    if find_in_list(area3, entries, from, end, state) < end {
-        return true;
-    }
     if x.list_count == 0 {
         let s = read_state(area1, state as usize);
         return s.exclusive == 0;
     }
-    false
+    let from = x.list_from as usize;
+    let end = from + x.list_count as usize;
+    find_in_list(area3, entries, from, end, state) < end
 }
 
 // The list of a rule is read only where its length would win.
@@ -79,7 +77,8 @@ fn better_of(
     b
 }
 
-pub fn longest(
+// The plain scan of all rules.
+fn longest(
     area1: &[u8],
     area2: &[u8],
     area3: &[u8],
@@ -106,4 +105,84 @@ pub fn longest(
         k += 1;
     }
     b
+}
+
+// The first rule that has a length, from one rule to before another.
+fn find_length(row: &[u8], from: usize, end: usize, bytes: u16) -> usize
+    requires { ⌜ end * entryWidth ≤ length (now row) ⌝ }
+    ensures { λ r. ⌜ r ≡ firstWith (lengthIn (before row)) bytes from end ⌝ }
+{
+    let mut k = from;
+    while k < end {
+        if read_entry(row, k) == bytes {
+            return k;
+        }
+        k += 1;
+    }
+    k
+}
+
+// The first live rule that has a length other than 0. A rule is read only where the row has the length.
+fn first_longest(
+    area1: &[u8],
+    area2: &[u8],
+    area3: &[u8],
+    states: u16,
+    rules: u16,
+    entries: u16,
+    state: u16,
+    row: &[u8],
+    top: u16,
+) -> usize
+    requires { ⌜ Readable (now area1) (now area2) (now area3) states rules entries ⌝ }
+    requires { ⌜ state < states ⌝ }
+    requires { ⌜ rules * entryWidth ≤ length (now row) ⌝ }
+    requires { ⌜ 0 < top ⌝ }
+    ensures { λ r. ⌜
+        r ≡ firstWith (weight (lexerIn area1 area2 area3 states rules entries) state (before row)) top 0 rules
+        ⌝ }
+{
+    let most = rules as usize;
+    let mut k = find_length(row, 0, most, top);
+    while k < most {
+        let rule = read_rule(area2, k);
+        if is_live(area1, area3, states, entries, state, rule) {
+            return k;
+        }
+        k = find_length(row, k + 1, most, top);
+    }
+    k
+}
+
+// The winner, by the greatest length of the row. Mostly a live rule has it; where none has, all rules are looked at.
+pub fn winner(
+    area1: &[u8],
+    area2: &[u8],
+    area3: &[u8],
+    states: u16,
+    rules: u16,
+    entries: u16,
+    state: u16,
+    row: &[u8],
+    top: u16,
+) -> Best
+    requires { ⌜ Readable (now area1) (now area2) (now area3) states rules entries ⌝ }
+    requires { ⌜ state < states ⌝ }
+    requires { ⌜ rules * entryWidth ≤ length (now row) ⌝ }
+    requires { ⌜ top ≡ greatest (lengthIn (now row)) rules ⌝ }
+    ensures { λ r. ⌜
+        r ≡ best (weight (lexerIn area1 area2 area3 states rules entries) state (before row)) rules
+        ⌝ }
+{
+    if top == 0 {
+        return Best { length: 0, rule: 0 };
+    }
+    let k = first_longest(area1, area2, area3, states, rules, entries, state, row, top);
+    if k < rules as usize {
+        return Best {
+            length: top,
+            rule: k,
+        };
+    }
+    longest(area1, area2, area3, states, rules, entries, state, row)
 }
