@@ -5,6 +5,9 @@ ghost use lib.ListN.{length};
 ghost use Rattle.text.specs.Range.{sameRange, lookaheadIs};
 use characters::Found;
 
+// How many bytes are compared together.
+const BLOCK: usize = 8;
+
 // Whether the n bytes of s from a on are those of t from c on. It looks at every byte whatever it finds, so that the compiler can take many at
 // once.
 fn same_bytes(s: &[u8], a: usize, t: &[u8], c: usize, n: usize) -> bool
@@ -18,6 +21,36 @@ fn same_bytes(s: &[u8], a: usize, t: &[u8], c: usize, n: usize) -> bool
         j += 1;
     }
     same
+}
+
+// The same of the bytes behind the first i of the n, one by one up to the first that differs.
+fn same_rest(s: &[u8], a: usize, t: &[u8], c: usize, n: usize, i: usize) -> bool
+    requires { ⌜ (i ≤ n) × (a + n ≤ length (now s)) × (c + n ≤ length (now t)) ⌝ }
+    ensures { λ r. ⌜ r ≡ sameRange (now (s .entry)) (a + i) (a + n) (now (t .entry)) (c + i) (c + n) ⌝ }
+{
+    let mut j = i;
+    while j < n {
+        if s[a + j] != t[c + j] {
+            return false;
+        }
+        j += 1;
+    }
+    true
+}
+
+// The same as `same_bytes`, block by block up to the first that differs, so that long ranges that differ are not looked at whole.
+fn same_blocks(s: &[u8], a: usize, t: &[u8], c: usize, n: usize) -> bool
+    requires { ⌜ (a + n ≤ length (now s)) × (c + n ≤ length (now t)) ⌝ }
+    ensures { λ r. ⌜ r ≡ sameRange (now (s .entry)) a (a + n) (now (t .entry)) c (c + n) ⌝ }
+{
+    let mut i = 0;
+    while BLOCK <= n - i {
+        if !same_bytes(s, a + i, t, c + i, BLOCK) {
+            return false;
+        }
+        i += BLOCK;
+    }
+    same_rest(s, a, t, c, n, i)
 }
 
 // How many bytes stand from a to before e in a text of n bytes.
@@ -50,7 +83,7 @@ fn same_inside(s: &[u8], a: usize, e: usize, t: &[u8], c: usize, d: usize) -> bo
             return false;
         }
     }
-    same_bytes(s, a, t, c, n)
+    same_blocks(s, a, t, c, n)
 }
 
 // The same of any ranges, each cut where its text ends.
