@@ -8,12 +8,12 @@ use Prim.Native.Nat.{ℕ, suc, _+_, _-_, _≤_, _<_, min}
 use native.Mathlib.Nat.{add-zero}
 use native.Mathlib.Omega.{arith}
 use borrow.Author.Needs.{needs}
-use borrow.Author.Tests.{eq-eqb, ne-eqb, eqb-true, not-true, not-false}
+use borrow.Author.Tests.{eq-eqb, ne-eqb, eqb-true, not-false}
 use lib.Dec.{eqb}
 use lib.ListN.{length, take, drop, length-take, length-drop}
 use lib.Seq.{take-length, take-all, take-add, drop-drop, drop-cons}
 use Rattle.characters.specs.Whitespace.{byte}
-use Rattle.text.specs.Range.{part, sameBytes, sameRange, lookaheadIs}
+use Rattle.text.specs.Range.{part, sameBytes, sameRange, SameRests, lookaheadIs}
 use Rattle.characters.specs.declared.Found.the-variants.{At, Nothing}
 use Rattle.characters.proofs.Tests.{and-left, and-right, le-or-lt}
 
@@ -141,25 +141,30 @@ rest-split s a t c n i w fs ft l =
     let v : c + i + w ≡ c + (i + w) = omega arith in
     rw (u, v) (range-split s (a + i) (a + n) t (c + i) (c + n) (a + (i + w)) (c + (i + w)) (omega arith) (omega arith) (omega arith))
 
--- the first i bytes are compared, block by block
-module _ (s : List ℕ) (a : ℕ) (t : List ℕ) (c n : ℕ) where
-  pub blocks-begin : sameRange s a (a + n) t c (c + n) ≡ sameRange s (a + 0) (a + n) t (c + 0) (c + n)
-  blocks-begin = rw (add-zero a, add-zero c)
+-- the blocks from i to before k are the same
+pub block-same :
+    (s : List ℕ) (a : ℕ) (t : List ℕ) (c n i w k : ℕ)
+    → SameRests s a t c n i k
+    → (r : Bool)
+    → r ≡ sameRange s (a + k) (a + k + w) t (c + k) (c + k + w)
+    → a + n ≤ length s
+    → c + n ≤ length t
+    → 0 < w
+    → w ≤ n - k
+    → not r ≡ false
+    → SameRests s a t c n i (k + w)
+block-same s a t c n i w k before r is fs ft h l f = before ∙ rest-split s a t c n k w fs ft (omega arith) ∙ rw (← is, not-false r f)
 
-  module _ (i : ℕ) (before : sameRange s a (a + n) t c (c + n) ≡ sameRange s (a + i) (a + n) t (c + i) (c + n)) where
-    module _
-        (r : Bool) (is : r ≡ sameRange s (a + i) (a + i + 8) t (c + i) (c + i + 8))
-        (fs : a + n ≤ length s) (ft : c + n ≤ length t) (l : 8 ≤ n - i) where
-      pub block-differs : not r ≡ true → false ≡ sameRange s a (a + n) t c (c + n)
-      block-differs f = sym (before ∙ rest-split s a t c n i 8 fs ft (omega arith) ∙ rw (← is, not-true r f))
-
-      pub block-same : not r ≡ false → sameRange s a (a + n) t c (c + n) ≡ sameRange s (a + (i + 8)) (a + n) t (c + (i + 8)) (c + n)
-      block-same f = before ∙ rest-split s a t c n i 8 fs ft (omega arith) ∙ rw (← is, not-false r f)
-
-    pub blocks-end : (r : Bool) → r ≡ sameRange s (a + i) (a + n) t (c + i) (c + n) → r ≡ sameRange s a (a + n) t c (c + n)
-    blocks-end r is = is ∙ sym before
-
-pub ruleset comparing-blocks = (needs, blocks-begin, block-differs, block-same, blocks-end)
+-- the rests behind 0 bytes are the ranges
+pub blocks-compared :
+    (s : List ℕ) (a : ℕ) (t : List ℕ) (c n k m : ℕ) (r : Bool)
+    → SameRests s a t c n 0 k
+    → SameRests s a t c n k m
+    → r ≡ sameRange s (a + m) (a + n) t (c + m) (c + n)
+    → r ≡ sameRange s a (a + n) t c (c + n)
+blocks-compared s a t c n k m r wide narrow is =
+    let whole : sameRange s a (a + n) t c (c + n) ≡ sameRange s (a + 0) (a + n) t (c + 0) (c + n) = rw (add-zero a, add-zero c) in
+    is ∙ sym (whole ∙ wide ∙ narrow)
 
 -- the bytes from i to before j are compared, one by one
 module _

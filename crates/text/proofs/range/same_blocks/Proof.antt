@@ -1,31 +1,12 @@
--- `text::range::same_blocks` meets its contract: from where the loop stands the comparison answers the same, and the rest is compared behind it.
-use mathlib.Core.Path.{_≡_}
-use Prim.Native.Nat.{_+_, _-_, _≤_}
-use Rattle.text.specs.Range.{sameRange}
-use Rattle.text.proofs.Ranges.{comparing-blocks}
+-- `text::range::same_blocks` meets its contract: what is behind the blocks that were passed is the same just where the ranges are.
+use borrow.Author.Needs.{needs}
+use Rattle.text.proofs.Ranges.{blocks-compared}
 use Rattle.text.proofs.range.same_blocks.Statement.{statement}
 use Rattle.text.proofs.range.same_blocks.Tie as tie
 
-abbrev Inv-loop : tie.InvT-loop
-Inv-loop s a t c n i₀ i = (i ≤ n) × (sameRange s a (a + n) t c (c + n) ≡ sameRange s (a + i) (a + n) t (c + i) (c + n))
-
-abbrev μ-loop : tie.MeasureT-loop
-μ-loop s a t c n i₀ i = n - i
+returns : tie.Need-returns
+returns c =
+    blocks-compared _ _ _ _ _ _ _ _ (c .before .before .past-same .ensures .1) (c .before .past-same2 .ensures .1) (c .same-rest .ensures)
 
 pub same-blocks-spec : {M : Type 1} → statement M
-same-blocks-spec =
-    tie.close
-    (tie.spec
-    Inv-loop
-    μ-loop
-    (λ c. search comparing-blocks)
-    (λ c. search comparing-blocks)
-    (λ c. search comparing-blocks)
-    (λ c. search comparing-blocks)
-    (λ c κs. search comparing-blocks)
-    (λ c. search comparing-blocks)
-    (λ c. search comparing-blocks)
-    (λ c. search comparing-blocks)
-    (λ c. search comparing-blocks)
-    (λ c κs. search comparing-blocks)
-    (λ c. search comparing-blocks))
+same-blocks-spec = tie.close (tie.spec (λ c κs. search needs) (λ c κs. search needs) (λ c κs. search needs) returns)
