@@ -1,18 +1,19 @@
--- Equal ranges: the comparison says equality of lists, and a loop that has compared the first k bytes goes on to the next by comparing these
--- two alone.
+-- Equal ranges: the comparison says equality of lists, and of ranges that are split at the same place it compares the parts, each by itself. So
+-- a loop that has compared the first k bytes goes on to the next byte, or block of bytes, by comparing these alone.
 use mathlib.Core.Path.{_≡_, refl, sym, ap, ap₂, _∙_}
-use mathlib.Core.Bool.{Bool, true, false, _&&_, cond, false≢true, and-true, and-false, and-assoc}
+use mathlib.Core.Bool.{Bool, true, false, not, _&&_, cond, false≢true, and-true, and-false, and-assoc}
 use mathlib.Core.List.{List, [], _∷_, _++_}
 use mathlib.Core.Logic.{⊎-elim}
 use Prim.Native.Nat.{ℕ, suc, _+_, _-_, _≤_, _<_, min}
+use native.Mathlib.Nat.{add-zero}
 use native.Mathlib.Omega.{arith}
 use borrow.Author.Needs.{needs}
-use borrow.Author.Tests.{eq-eqb, ne-eqb, eqb-true}
+use borrow.Author.Tests.{eq-eqb, ne-eqb, eqb-true, not-false}
 use lib.Dec.{eqb}
 use lib.ListN.{length, take, drop, length-take, length-drop}
-use lib.Seq.{take-length, take-all, take-suc, getD-drop}
+use lib.Seq.{take-length, take-all, take-add, drop-drop, drop-cons}
 use Rattle.characters.specs.Whitespace.{byte}
-use Rattle.text.specs.Range.{part, sameBytes, sameRange, lookaheadIs}
+use Rattle.text.specs.Range.{part, sameBytes, sameRange, SameRests, lookaheadIs}
 use Rattle.characters.specs.declared.Found.the-variants.{At, Nothing}
 use Rattle.characters.proofs.Tests.{and-left, and-right, le-or-lt}
 
@@ -38,15 +39,16 @@ same-lengths xs ys d = go (sameBytes xs ys) refl
     go true e = absurd (d (ap length (same-equal xs ys e)))
     go false e = refl
 
--- of lists of one length the last bytes are compared by themselves
-same-last : (xs ys : List ℕ) (x y : ℕ) → length xs ≡ length ys → sameBytes (xs ++ (x ∷ [])) (ys ++ (y ∷ [])) ≡ sameBytes xs ys && eqb x y
+-- what stands behind lists of one length is compared by itself
+same-append : (xs ys us vs : List ℕ) → length xs ≡ length ys → sameBytes (xs ++ us) (ys ++ vs) ≡ sameBytes xs ys && sameBytes us vs
 unfolding sameBytes
-same-last [] [] x y q = and-true (eqb x y)
-same-last [] (b ∷ ys) x y q = absurd (omega arith)
-same-last (a ∷ xs) [] x y q = absurd (omega arith)
-same-last (a ∷ xs) (b ∷ ys) x y q = rw (same-last xs ys x y (omega arith)) (sym (and-assoc (eqb a b) (sameBytes xs ys) (eqb x y)))
+same-append [] [] us vs q = refl
+same-append [] (b ∷ ys) us vs q = absurd (omega arith)
+same-append (a ∷ xs) [] us vs q = absurd (omega arith)
+same-append (a ∷ xs) (b ∷ ys) us vs q =
+    rw (same-append xs ys us vs (omega arith)) (sym (and-assoc (eqb a b) (sameBytes xs ys) (sameBytes us vs)))
 
--- ---- a range, byte by byte
+-- ---- a range and its parts
 
 pub part-length : (s : List ℕ) (a e : ℕ) → e ≤ length s → length (part s a e) ≡ e - a
 unfolding part
@@ -62,13 +64,35 @@ part-none s a e h =
     let z : e - a ≡ 0 = omega arith in
     rw z
 
-part-last : (s : List ℕ) (a k : ℕ) → a + k < length s → part s a (a + (k + 1)) ≡ part s a (a + k) ++ (byte s (a + k) ∷ [])
+part-split : (s : List ℕ) (a m e : ℕ) → a ≤ m → m ≤ e → part s a e ≡ part s a m ++ part s m e
 unfolding part
-part-last s a k l =
-    let q : a + (k + 1) - a ≡ suc k = omega arith in
-    let z : a + k - a ≡ k = omega arith in
-    let g : k < length (drop a s) = omega (arith, length-drop a s) in
-    rw (q, z, take-suc (drop a s) k 0 g, getD-drop a s k 0)
+part-split s a m e h l =
+    let q : e - a ≡ m - a + (e - m) = omega arith in
+    let z : a + (m - a) ≡ m = omega arith in
+    rw (q, take-add (m - a) (e - m) (drop a s), drop-drop (m - a) a s, z)
+
+part-one : (s : List ℕ) (a e : ℕ) → e ≡ a + 1 → e ≤ length s → part s a e ≡ byte s a ∷ []
+unfolding part
+part-one s a e h l =
+    let q : e - a ≡ suc 0 = omega arith in
+    rw (q, drop-cons s a 0 (omega arith))
+
+module _ (s : List ℕ) (a e : ℕ) (t : List ℕ) (c d : ℕ) where
+  -- split at m and p
+  range-split :
+      (m p : ℕ)
+      → (a ≤ m) × (m ≤ e) × (m ≤ length s)
+      → (c ≤ p) × (p ≤ d) × (p ≤ length t)
+      → m - a ≡ p - c
+      → sameRange s a e t c d ≡ sameRange s a m t c p && sameRange s m e t p d
+  unfolding sameRange
+  range-split m p x y q =
+      rw (part-split s a m e (x .0) (x .1), part-split t c p d (y .0) (y .1))
+      (same-append (part s a m) (part t c p) (part s m e) (part t p d) (part-length s a m (x .2) ∙ q ∙ sym (part-length t c p (y .2))))
+
+  range-one : e ≡ a + 1 → d ≡ c + 1 → e ≤ length s → d ≤ length t → sameRange s a e t c d ≡ eqb (byte s a) (byte t c)
+  unfolding sameRange sameBytes
+  range-one x y ls lt = rw (part-one s a e x ls, part-one t c d y lt) (and-true (eqb (byte s a) (byte t c)))
 
 -- ---- the loop has compared the first k of n bytes
 
@@ -83,12 +107,9 @@ module _ (s : List ℕ) (a : ℕ) (t : List ℕ) (c : ℕ) where
       → a + k < length s
       → c + k < length t
       → sameRange s a (a + k) t c (c + k) && eqb (byte s (a + k)) (byte t (c + k)) ≡ sameRange s a (a + (k + 1)) t c (c + (k + 1))
-  unfolding sameRange
   range-more k h l =
-      let ls = part-length s a (a + k) (omega arith) in
-      let lt = part-length t c (c + k) (omega arith) in
-      rw (part-last s a k h, part-last t c k l)
-      (sym (same-last (part s a (a + k)) (part t c (c + k)) (byte s (a + k)) (byte t (c + k)) (omega arith)))
+      let one = range-one s (a + k) (a + (k + 1)) t (c + k) (c + (k + 1)) (omega arith) (omega arith) (omega arith) (omega arith) in
+      rw (← one) (sym (range-split s a (a + (k + 1)) t c (c + (k + 1)) (a + k) (c + k) (omega arith) (omega arith) (omega arith)))
 
   module _ (n k : ℕ) (same : Bool) (before : same ≡ sameRange s a (a + k) t c (c + k)) where
     pub range-again :
@@ -104,6 +125,72 @@ module _ (s : List ℕ) (a : ℕ) (t : List ℕ) (c : ℕ) where
         before ∙ ap (λ (m : ℕ). sameRange s a (a + m) t c (c + m)) q
 
 pub ruleset comparing = (needs, range-none, range-again, range-ended)
+
+-- ---- a loop that ends at the first difference: what it is to answer is the comparison of the rests
+
+-- w bytes from i on, and the rest behind them
+rest-split :
+    (s : List ℕ) (a : ℕ) (t : List ℕ) (c n i w : ℕ)
+    → a + n ≤ length s
+    → c + n ≤ length t
+    → i + w ≤ n
+    → sameRange s (a + i) (a + n) t (c + i) (c + n)
+    ≡ sameRange s (a + i) (a + i + w) t (c + i) (c + i + w) && sameRange s (a + (i + w)) (a + n) t (c + (i + w)) (c + n)
+rest-split s a t c n i w fs ft l =
+    let u : a + i + w ≡ a + (i + w) = omega arith in
+    let v : c + i + w ≡ c + (i + w) = omega arith in
+    rw (u, v) (range-split s (a + i) (a + n) t (c + i) (c + n) (a + (i + w)) (c + (i + w)) (omega arith) (omega arith) (omega arith))
+
+-- the blocks from i to before k are the same
+pub block-same :
+    (s : List ℕ) (a : ℕ) (t : List ℕ) (c n i w k : ℕ)
+    → SameRests s a t c n i k
+    → (r : Bool)
+    → r ≡ sameRange s (a + k) (a + k + w) t (c + k) (c + k + w)
+    → a + n ≤ length s
+    → c + n ≤ length t
+    → 0 < w
+    → w ≤ n - k
+    → not r ≡ false
+    → SameRests s a t c n i (k + w)
+block-same s a t c n i w k before r is fs ft h l f = before ∙ rest-split s a t c n k w fs ft (omega arith) ∙ rw (← is, not-false r f)
+
+-- the rests behind 0 bytes are the ranges
+pub blocks-compared :
+    (s : List ℕ) (a : ℕ) (t : List ℕ) (c n k m : ℕ) (r : Bool)
+    → SameRests s a t c n 0 k
+    → SameRests s a t c n k m
+    → r ≡ sameRange s (a + m) (a + n) t (c + m) (c + n)
+    → r ≡ sameRange s a (a + n) t c (c + n)
+blocks-compared s a t c n k m r wide narrow is =
+    let whole : sameRange s a (a + n) t c (c + n) ≡ sameRange s (a + 0) (a + n) t (c + 0) (c + n) = rw (add-zero a, add-zero c) in
+    is ∙ sym (whole ∙ wide ∙ narrow)
+
+-- the bytes from i to before j are compared, one by one
+module _
+    (s : List ℕ) (a : ℕ) (t : List ℕ) (c n i j : ℕ)
+    (before : sameRange s (a + i) (a + n) t (c + i) (c + n) ≡ sameRange s (a + j) (a + n) t (c + j) (c + n)) where
+  module _ (fs : a + n ≤ length s) (ft : c + n ≤ length t) (l : j < n) where
+    byte-and-rest :
+        sameRange s (a + i) (a + n) t (c + i) (c + n)
+        ≡ eqb (byte s (a + j)) (byte t (c + j)) && sameRange s (a + (j + 1)) (a + n) t (c + (j + 1)) (c + n)
+    byte-and-rest =
+        before
+        ∙ rest-split s a t c n j 1 fs ft (omega arith)
+        ∙ rw (range-one s (a + j) (a + j + 1) t (c + j) (c + j + 1) refl refl (omega arith) (omega arith))
+
+    pub byte-differs : (byte s (a + j) ≡ byte t (c + j) → ⊥) → false ≡ sameRange s (a + i) (a + n) t (c + i) (c + n)
+    byte-differs d = sym (byte-and-rest ∙ rw (ne-eqb (byte s (a + j)) (byte t (c + j)) d))
+
+    pub byte-same :
+        byte s (a + j) ≡ byte t (c + j) → sameRange s (a + i) (a + n) t (c + i) (c + n) ≡ sameRange s (a + (j + 1)) (a + n) t (c + (j + 1)) (c + n)
+    byte-same q = byte-and-rest ∙ rw (eq-eqb (byte s (a + j)) (byte t (c + j)) q)
+
+  pub bytes-end : n ≤ j → true ≡ sameRange s (a + i) (a + n) t (c + i) (c + n)
+  unfolding sameRange sameBytes
+  bytes-end h = sym (before ∙ rw (part-none s (a + j) (a + n) (omega arith), part-none t (c + j) (c + n) (omega arith)))
+
+pub ruleset comparing-rests = (needs, byte-differs, byte-same, bytes-end)
 
 -- ---- the calls over it
 

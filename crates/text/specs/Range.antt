@@ -1,4 +1,5 @@
 -- Ranges of a text, and whether two are the same bytes.
+use mathlib.Core.Path.{_≡_}
 use mathlib.Core.Bool.{Bool, true, false, _&&_, cond}
 use mathlib.Core.List.{List, [], _∷_}
 use Prim.Native.Nat.{ℕ, _+_, _-_}
@@ -21,6 +22,10 @@ sameBytes (x ∷ xs) (y ∷ ys) = eqb x y && sameBytes xs ys
 -- the bytes of s from a to before e are those of t from c to before d
 unfoldable pub sameRange : List ℕ → ℕ → ℕ → List ℕ → ℕ → ℕ → Bool
 sameRange s a e t c d = sameBytes (part s a e) (part t c d)
+
+-- of n bytes, those behind the first i are the same just where those behind the first k are
+abbrev pub SameRests : List ℕ → ℕ → List ℕ → ℕ → ℕ → ℕ → ℕ → Type 0
+SameRests s a t c n i k = sameRange s (a + i) (a + n) t (c + i) (c + n) ≡ sameRange s (a + k) (a + n) t (c + k) (c + n)
 
 -- behind the bytes w, if they stand at i
 unfoldable pub lookaheadIs : List ℕ → List ℕ → ℕ → Found

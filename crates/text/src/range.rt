@@ -1,9 +1,14 @@
 // Ranges of texts: whether two are the same bytes, and whether a word stands at an offset.
 ghost use mathlib.Core.Path.{_≡_};
-ghost use Prim.Native.Nat.{_+_, _-_, _≤_, min};
+ghost use Prim.Native.Nat.{_+_, _-_, _≤_, _<_, min};
 ghost use lib.ListN.{length};
-ghost use Rattle.text.specs.Range.{sameRange, lookaheadIs};
+ghost use Rattle.text.specs.Range.{sameRange, SameRests, lookaheadIs};
 use characters::Found;
+
+// How many bytes are compared together, and how many of long ranges.
+const BLOCK: usize = 8;
+
+const WIDE_BLOCK: usize = 64;
 
 // Whether the n bytes of s from a on are those of t from c on. It looks at every byte whatever it finds, so that the compiler can take many at
 // once.
@@ -18,6 +23,46 @@ fn same_bytes(s: &[u8], a: usize, t: &[u8], c: usize, n: usize) -> bool
         j += 1;
     }
     same
+}
+
+// The same of the bytes behind the first i of the n, one by one up to the first that differs.
+fn same_rest(s: &[u8], a: usize, t: &[u8], c: usize, n: usize, i: usize) -> bool
+    requires { ⌜ (i ≤ n) × (a + n ≤ length (now s)) × (c + n ≤ length (now t)) ⌝ }
+    ensures { λ r. ⌜ r ≡ sameRange (now (s .entry)) (a + i) (a + n) (now (t .entry)) (c + i) (c + n) ⌝ }
+{
+    let mut j = i;
+    while j < n {
+        if s[a + j] != t[c + j] {
+            return false;
+        }
+        j += 1;
+    }
+    true
+}
+
+// Past the blocks of that width, behind the first i of the n bytes, that are the same. Few bytes are looked at where ranges differ early.
+fn past_same(s: &[u8], a: usize, t: &[u8], c: usize, n: usize, i: usize, block: usize) -> usize
+    requires { ⌜ (0 < block) × (i ≤ n) × (a + n ≤ length (now s)) × (c + n ≤ length (now t)) ⌝ }
+    ensures { λ r. ⌜ (r ≤ n) × SameRests (now (s .entry)) a (now (t .entry)) c n i r ⌝ }
+{
+    let mut k = i;
+    while block <= n - k {
+        if !same_bytes(s, a + k, t, c + k, block) {
+            return k;
+        }
+        k += block;
+    }
+    k
+}
+
+// The same as `same_bytes`: wide blocks first, for long ranges, then narrow ones, then byte by byte.
+fn same_blocks(s: &[u8], a: usize, t: &[u8], c: usize, n: usize) -> bool
+    requires { ⌜ (a + n ≤ length (now s)) × (c + n ≤ length (now t)) ⌝ }
+    ensures { λ r. ⌜ r ≡ sameRange (now (s .entry)) a (a + n) (now (t .entry)) c (c + n) ⌝ }
+{
+    let wide = past_same(s, a, t, c, n, 0, WIDE_BLOCK);
+    let narrow = past_same(s, a, t, c, n, wide, BLOCK);
+    same_rest(s, a, t, c, n, narrow)
 }
 
 // How many bytes stand from a to before e in a text of n bytes.
@@ -50,7 +95,7 @@ fn same_inside(s: &[u8], a: usize, e: usize, t: &[u8], c: usize, d: usize) -> bo
             return false;
         }
     }
-    same_bytes(s, a, t, c, n)
+    same_blocks(s, a, t, c, n)
 }
 
 // The same of any ranges, each cut where its text ends.

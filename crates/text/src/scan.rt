@@ -1,12 +1,14 @@
 // Scanners: each walks once, forward or backward, and answers where it stops.
 ghost use mathlib.Core.Path.{_≡_};
-ghost use Prim.Native.Nat.{_+_, _≤_};
+ghost use mathlib.Core.Bool.{cond};
+ghost use Prim.Native.Nat.{_+_, _-_, _≤_, _<_};
 ghost use lib.Dec.{eqb};
 ghost use lib.ListN.{length};
 ghost use Rattle.characters.specs.Class.{isBlank};
 ghost use Rattle.characters.specs.Shortcuts.{RulesOut, Tells};
 ghost use Rattle.characters.specs.Walk.{Between, any};
 ghost use Rattle.characters.specs.Whitespace.{byte, atLineEnd};
+ghost use Rattle.characters.specs.declared.Found.the-variants.{At, Nothing};
 ghost use Rattle.text.specs.Scan.{skipWhitespace, skipLineEnds, skipBlanks, findLineEnd, lineEnd, findWhitespace, skipAsciiWhitespace};
 ghost use Rattle.text.specs.Scan.{findAsciiWhitespace, findByte, lastBlank, trimStart, trimEnd, backslashesBefore, trimEndUnescaped};
 use characters::Found;
@@ -22,6 +24,9 @@ use characters::whitespace::whitespace_len;
 
 // How many bytes are looked at together.
 const BLOCK: usize = 16;
+
+// How many are looked at together first in the search for the last blank.
+const WIDE_BLOCK: usize = 64;
 
 // Past the whitespace at i.
 pub fn parse_ws(s: &[u8], i: usize) -> usize
@@ -175,29 +180,29 @@ pub fn find_byte(s: &[u8], i: usize, e: usize, b: u8) -> usize
     k
 }
 
-// Whether one of the 16 bytes from i on may be a blank.
-fn block_may_have_blank(s: &[u8], i: usize) -> bool
-    requires { ⌜ i + 16 ≤ length (now s) ⌝ }
-    ensures { λ r. ⌜ RulesOut (any (λ j. isBlank (byte (now (s .entry)) (i + j))) 16) r ⌝ }
+// Whether one of the n bytes from i on may be a blank. It looks at all of them, so that the compiler can take them at once.
+fn may_have_blank(s: &[u8], i: usize, n: usize) -> bool
+    requires { ⌜ i + n ≤ length (now s) ⌝ }
+    ensures { λ r. ⌜ RulesOut (any (λ j. isBlank (byte (now (s .entry)) (i + j))) n) r ⌝ }
 {
     let mut found = false;
     let mut j = 0;
-    while j < BLOCK {
+    while j < n {
         found = found | may_be_blank(s[i + j]);
         j += 1;
     }
     found
 }
 
-// Down from e past the blocks in which no blank stands. That i is within the text keeps i + 16 in range.
-fn past_blankless(s: &[u8], i: usize, e: usize) -> usize
-    requires { ⌜ (i ≤ e) × (e ≤ length (now s)) ⌝ }
-    ensures { λ r. ⌜ (r ≤ e) × (lastBlank (now (s .entry)) i e ≡ lastBlank (now (s .entry)) i r) ⌝ }
+// Down from e past the blocks of that width in which no blank stands. That i is within the text, and a block short, keeps i + block in range.
+fn past_blankless(s: &[u8], i: usize, e: usize, block: usize) -> usize
+    requires { ⌜ ((0 < block) × (block ≤ 64)) × ((i ≤ e) × (e ≤ length (now s))) ⌝ }
+    ensures { λ r. ⌜ (i ≤ r) × (r ≤ e) × (lastBlank (now (s .entry)) i e ≡ lastBlank (now (s .entry)) i r) ⌝ }
 {
     let mut k = e;
-    while i + BLOCK <= k {
-        let next = k - BLOCK;
-        if block_may_have_blank(s, next) {
+    while i + block <= k {
+        let next = k - block;
+        if may_have_blank(s, next, block) {
             return k;
         }
         k = next;
@@ -205,7 +210,23 @@ fn past_blankless(s: &[u8], i: usize, e: usize) -> usize
     k
 }
 
-// The last space or tab from i to before e. Blocks without a candidate are passed at once.
+// How many bytes before e, from i on, are no blanks: all of them, or those behind the last blank.
+fn plain_tail(s: &[u8], i: usize, e: usize) -> usize
+    requires { ⌜ (i ≤ e) × (e ≤ length (now s)) ⌝ }
+    ensures { λ r. ⌜ (r ≤ e - i) × (lastBlank (now (s .entry)) i e ≡ cond (eqb (e - r) i) Nothing (At (e - r - 1))) ⌝ }
+{
+    let most = e - i;
+    let mut n = 0;
+    while n < most {
+        if is_blank(s[e - n - 1]) {
+            return n;
+        }
+        n += 1;
+    }
+    n
+}
+
+// The last space or tab from i to before e. Blocks without a candidate are passed at once, wide ones first.
 pub fn last_blank(s: &[u8], i: usize, e: usize) -> Found
     requires { ⌜ e ≤ length (now s) ⌝ }
     ensures { λ r. ⌜ r ≡ lastBlank (now (s .entry)) i e ⌝ }
@@ -213,15 +234,12 @@ pub fn last_blank(s: &[u8], i: usize, e: usize) -> Found
     if e <= i {
         return Found::Nothing;
     }
-    let mut k = past_blankless(s, i, e);
-    while i < k {
-        let j = k - 1;
-        if is_blank(s[j]) {
-            return Found::At(j);
-        }
-        k = j;
+    let k = past_blankless(s, i, past_blankless(s, i, e, WIDE_BLOCK), BLOCK);
+    let n = plain_tail(s, i, k);
+    if k - n == i {
+        return Found::Nothing;
     }
-    Found::Nothing
+    Found::At(k - n - 1)
 }
 
 pub fn trim_start(s: &[u8], i: usize, e: usize) -> usize

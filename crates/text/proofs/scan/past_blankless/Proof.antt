@@ -7,10 +7,10 @@ use Rattle.text.proofs.scan.past_blankless.Statement.{statement}
 use Rattle.text.proofs.scan.past_blankless.Tie as tie
 
 abbrev Inv-loop : tie.InvT-loop
-Inv-loop s i e k₀ k = (k ≤ e) × (lastBlank s i e ≡ lastBlank s i k)
+Inv-loop s i e block k₀ k = (i ≤ k) × (k ≤ e) × (lastBlank s i e ≡ lastBlank s i k)
 
 abbrev μ-loop : tie.MeasureT-loop
-μ-loop s i e k₀ k = k
+μ-loop s i e block k₀ k = k
 
 pub past-blankless-spec : {M : Type 1} → statement M
 past-blankless-spec =
