@@ -163,7 +163,6 @@ last-passed test i j e h l t =
     let q : i + (e - i) ≡ e = omega arith in
     subst (λ (m : ℕ). Last (lastOf test i (e - i)) j m) q (last-of-passed test (e - i) i j h (omega arith) t)
 
-
 -- ---- a step repeated until it stays
 
 pub repeat-stop : (next : ℕ → ℕ) (n k : ℕ) → next k ≡ k → k ≡ repeat next n k
