@@ -3,5 +3,6 @@ pub mod LinkedRules
 pub mod Counting
 pub mod Outcomes
 pub mod LinkLaws
+pub mod Homes
 pub mod Slotting
 pub mod LinkWords
