@@ -4,5 +4,6 @@ pub mod Counting
 pub mod Outcomes
 pub mod LinkLaws
 pub mod Homes
+pub mod Probing
 pub mod Slotting
 pub mod LinkWords
