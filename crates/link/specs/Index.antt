@@ -33,7 +33,7 @@ pub record HasSlot (slots : List ℕ) (i a b : ℕ) : Type 0 where
   pub to : slot < b
   pub has : getD slots slot 0 ≡ i + 1
 
--- the first n of the entries are in the slots: from its home on each has a slot before every free one
+-- the slots of the first n entries: from its home on each has a slot before every free one, or no slot is free from there on
 pub record EntrySlots (es : List Entry) (n : ℕ) (slots : List ℕ) : Type 0 where
   pub long : length slots ≡ slotCount
   pub low : (p : ℕ) → getD slots p 0 ≤ n

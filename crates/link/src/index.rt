@@ -72,12 +72,12 @@ fn probe(
         }
         p += 1;
     }
-    Probed::Exhausted
+    Probed::Exhausted // an entry that has no slot may still have the name
 }
 
 // ---- the map check
 
-// Whether entry j is the first of its name, by the slots of those before it. If it is, it is in the slots afterwards.
+// Whether entry j is the first of its name, by the slots of those before it. If it is, it gets the free slot that the search came to.
 fn index_entry(names: &[u8], entries: &[u8], slots: &mut [u16], j: usize) -> bool
     requires { ⌜ entryCount (now entries) ≤ mostEntries ⌝ }
     requires { ⌜ j < entryCount (now entries) ⌝ }
@@ -97,7 +97,7 @@ fn index_entry(names: &[u8], entries: &[u8], slots: &mut [u16], j: usize) -> boo
     }
 }
 
-// Whether no two entries have the same name. If so, all are in the slots afterwards.
+// Whether no two entries have the same name. If so, the slots are those of all entries.
 fn index_entries(names: &[u8], entries: &[u8], slots: &mut [u16]) -> bool
     requires { ⌜ entryCount (now entries) ≤ mostEntries ⌝ }
     requires { ⌜ now slots ≡ replicate slotCount 0 ⌝ }
