@@ -3,5 +3,7 @@ pub mod LinkedRules
 pub mod Counting
 pub mod Outcomes
 pub mod LinkLaws
+pub mod Homes
+pub mod Probing
 pub mod Slotting
 pub mod LinkWords

@@ -1,4 +1,4 @@
--- Slots of names. Where the slot of a name is 0, none of the names has its bytes, for the same bytes give the same slot; so a search that is
+-- Slots of the rules. Where the slot of a name is 0, none of the names has its bytes, for the same bytes give the same slot; so a search that is
 -- spared would have found nothing.
 use mathlib.Core.Path.{_≡_, refl, sym, ap, subst, _∙_}
 use mathlib.Core.Bool.{Bool, true, false, not, _&&_, true≢false, false≢true}
@@ -25,10 +25,11 @@ use Rattle.area.specs.Lists.{allBelow}
 use Rattle.area.proofs.Contents.{contents-count, contents-read}
 use Rattle.area.proofs.All.{all-from}
 use Rattle.link.specs.declared.MapEntry.{MapEntry}
-use Rattle.link.specs.Map.{mapEntryAt, entryCount, Entry, entriesOf, nth, findEntry, distinct, mapCheck}
+use Rattle.link.specs.Map.{mapEntryAt, entryCount, entriesOf, nth}
 use Rattle.link.specs.Link.{isNamed, hasThatName, isUnused}
-use Rattle.link.specs.Index.{slotCount, slotFrom, slotOf, Slot, Slots, EntrySlots, RuleSlots, EntryIndex, RuleIndex, EntriesIndexed, MapChecked}
-use Rattle.link.proofs.Maps.{entries-count, name-at, has, entry-missing, entry-first, distinct-read}
+use Rattle.link.specs.Index.{ruleSlotCount, slotFrom, slotOf, Slot, Slots, RuleSlots, RuleIndex}
+use Rattle.link.proofs.Maps.{name-at}
+use Rattle.link.proofs.Probing.{same-not}
 
 -- ---- the slot of bytes
 
@@ -52,18 +53,18 @@ part-clip s a e =
     (le-or-lt e (length s))
 
 module _ (s : List ℕ) (a e end i h : ℕ) (is : end ≡ min e (length s)) (before : slotFrom 0 (part s a end) ≡ slotFrom h (part s i end)) where
-  pub slot-next : i < end → (r : ℕ) → r ≡ (h * 179 + byte s i) % slotCount → slotFrom 0 (part s a end) ≡ slotFrom r (part s (i + 1) end)
+  pub slot-next : i < end → (r : ℕ) → r ≡ (h * 179 + byte s i) % ruleSlotCount → slotFrom 0 (part s a end) ≡ slotFrom r (part s (i + 1) end)
   unfolding slotFrom
   slot-next g r q = before ∙ ap (slotFrom h) (part-step s i end g (omega arith)) ∙ ap (λ (x : ℕ). slotFrom x (part s (i + 1) end)) (sym q)
 
-  pub slot-done : end ≤ i → h < slotCount → Slot (part s a e) h
+  pub slot-done : end ≤ i → h < ruleSlotCount → Slot (part s a e) h
   unfolding slotOf slotFrom
   slot-done g small = record {
     is = sym (ap (slotFrom 0) (sym (ap (part s a) is ∙ part-clip s a e)) ∙ before ∙ ap (slotFrom h) (part-none s i end g));
     small = small;
   }
 
-pub slot-small : (x r : ℕ) → r ≡ x % slotCount → r < slotCount
+pub slot-small : (x r : ℕ) → r ≡ x % ruleSlotCount → r < ruleSlotCount
 slot-small x r e = omega arith
 
 pub ruleset slotting = (needs, slot-next, slot-done, slot-small)
@@ -77,16 +78,16 @@ pub ruleset slotting-entries = (needs, entry-slotted)
 -- ---- slots of names
 
 module _ (test : ℕ → Bool) (name : ℕ → List ℕ) where
-  pub slots-none : (l : List ℕ) → l ≡ replicate slotCount 0 → Slots test name 0 l
+  pub slots-none : (l : List ℕ) → l ≡ replicate ruleSlotCount 0 → Slots test name 0 l
   slots-none l e = record {
-    long = ap length e ∙ length-replicate {A = ℕ} slotCount 0;
+    long = ap length e ∙ length-replicate {A = ℕ} ruleSlotCount 0;
     marked = λ i h t. absurd (omega (arith, h));
     low = λ h. ⊎-elim
         (λ g.
-        let past = List·getD-eq-default {A = ℕ} (replicate slotCount 0) 0 {n = h} (omega (arith, g, length-replicate {A = ℕ} slotCount 0)) in
+        let past = List·getD-eq-default {A = ℕ} (replicate ruleSlotCount 0) 0 {n = h} (omega (arith, g, length-replicate {A = ℕ} ruleSlotCount 0)) in
         omega (arith, ap (λ (m : List ℕ). getD m h 0) e, past))
-        (λ g. omega (arith, ap (λ (m : List ℕ). getD m h 0) e, getD-replicate {A = ℕ} slotCount h 0 0 g))
-        (le-or-lt slotCount h);
+        (λ g. omega (arith, ap (λ (m : List ℕ). getD m h 0) e, getD-replicate {A = ℕ} ruleSlotCount h 0 0 g))
+        (le-or-lt ruleSlotCount h);
   }
 
   module _ {k : ℕ} {l : List ℕ} (S : Slots test name k l) where
@@ -139,53 +140,6 @@ module _ (test : ℕ → Bool) (name : ℕ → List ℕ) where
     slot-empty nm r q e i h t z =
         omega (arith, S .marked i h t, ap (λ (x : ℕ). getD l x 0) (ap slotOf z ∙ sym (q .is)), e)
 
-same-not : (xs ys : List ℕ) → (xs ≡ ys → ⊥) → sameBytes xs ys ≡ false
-same-not xs ys d = go (sameBytes xs ys) refl
-  where
-    go : (t : Bool) → sameBytes xs ys ≡ t → t ≡ false
-    go true e = absurd (d (same-equal xs ys e))
-    go false e = refl
-
--- ---- entries by their slots
-
-module _ (names entries l : List ℕ) where
-  abbrev es : List Entry
-  es = entriesOf names entries
-
-  module _ (k : ℕ) (S : EntrySlots names entries k l) (name : List ℕ) (r : ℕ) (q : Slot name r) (e : getD l r 0 ≡ 0) where
-    none-has : (i : ℕ) → i < k → has names entries name i ≡ false
-    none-has i h = same-not (nth es i .name) name (slot-empty (λ _. true) (λ j. nth es j .name) S name r q e i h refl)
-
-    over-all : k ≤ entryCount entries → first (has names entries name) 0 (entryCount entries) ≡ first (has names entries name) k (entryCount entries)
-    over-all h = first-over (has names entries name) 0 k (entryCount entries) (omega arith) h (λ m a b. none-has m b)
-
-  pub first-by-slot : (j : ℕ) → j < entryCount entries → EntrySlots names entries j l → (r : ℕ) → Slot (nth es j .name) r → getD l r 0 ≡ 0
-      → true ≡ eqb (findEntry es (nth es j .name)) j
-  unfolding findEntry
-  first-by-slot j h S r q e =
-      let whole : first (has names entries (nth es j .name)) 0 (length es) ≡ first (has names entries (nth es j .name)) 0 (entryCount entries) =
-      ap (first (has names entries (nth es j .name)) 0) (entries-count names entries) in
-      let here = first-here (has names entries (nth es j .name)) j (entryCount entries) h (same-self (nth es j .name)) in
-      sym (eq-eqb (findEntry es (nth es j .name)) j (whole ∙ over-all j S (nth es j .name) r q e (omega arith) ∙ sym here))
-
-  module _ (I : EntryIndex names entries l) (name : List ℕ) (r : ℕ) (q : Slot name r) where
-    pub find-none : getD l r 0 ≡ 0 → Between 0 (entryCount entries) (findEntry es name) (entryCount entries)
-    find-none e = record {
-      is = entry-missing names entries name (entryCount entries) (over-all (entryCount entries) (I .slots) name r q e (omega arith)) (omega arith);
-      from = omega arith;
-      to = omega arith;
-    }
-
-    pub slot-entry : (getD l r 0 ≡ 0 → ⊥) → getD l r 0 - 1 < entryCount entries
-    slot-entry d = omega (arith, d, I .slots .low r)
-
-    pub find-slot : (j : ℕ) → j < entryCount entries → sameBytes (nth es j .name) name ≡ true → Between 0 (entryCount entries) (findEntry es name) j
-    find-slot j h e = record {
-      is = sym (ap (findEntry es) (sym (same-equal (nth es j .name) name e)) ∙ entry-first es (I .different) j (omega (arith, h, entries-count names entries)));
-      from = omega arith;
-      to = omega arith;
-    }
-
 -- ---- rules by their slots
 
 module _ (name : Rule → List ℕ) (l : List ℕ) (count : ℕ) (slots bytes : List ℕ) (I : RuleIndex name l count slots) (r : ℕ) (q : Slot bytes r) where
@@ -209,14 +163,7 @@ module _ (name : Rule → List ℕ) (l : List ℕ) (count : ℕ) (slots bytes : 
   pub slot-rule : (getD slots r 0 ≡ 0 → ⊥) → getD slots r 0 - 1 < count
   slot-rule d = omega (arith, d, I .slots .low r)
 
--- ---- the loops that make the slots
-
-pub entries-indexed : (names entries l : List ℕ) (k : ℕ) (good : Bool) → entryCount entries ≤ k → k ≤ entryCount entries
-    → good ≡ allBelow (λ j. eqb (findEntry (entriesOf names entries) (nth (entriesOf names entries) j .name)) j) k
-    → EntrySlots names entries k l → EntriesIndexed names entries good l
-entries-indexed names entries l k good h g e S =
-    let q : k ≡ entryCount entries = omega arith in
-    record { is = distinct-read names entries k good h g e; slots = subst (λ (n : ℕ). EntrySlots names entries n l) q S }
+-- ---- the loop that makes the slots
 
 module _ (l : List ℕ) (count k : ℕ) (h : k < count) (x : Rule) (is : x ≡ ruleAt l k) where
   pub rule-unnamed : (x .named ≡ 1 → ⊥) → isNamed (nthRule (contents ruleFormat l count) k) ≡ false
@@ -230,12 +177,3 @@ pub rules-indexed : (name : Rule → List ℕ) (l : List ℕ) (count k : ℕ) (s
 rules-indexed name l count k slots h g S =
     let q : k ≡ count = omega arith in
     record { slots = subst (λ (n : ℕ). RuleSlots name l count n slots) q S }
-
--- ---- the map check
-
-module _ (names entries l : List ℕ) where
-  pub checked-no : false ≡ mapCheck names entries → MapChecked names entries false l
-  checked-no e = record { is = e; index = λ q. absurd (false≢true q) }
-
-  pub checked-yes : (r : Bool) → EntriesIndexed names entries r l → (r ≡ distinct (entriesOf names entries) → r ≡ mapCheck names entries) → MapChecked names entries r l
-  checked-yes r I f = record { is = f (I .is); index = λ q. record { different = sym (I .is) ∙ q; slots = I .slots } }

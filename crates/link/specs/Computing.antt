@@ -6,9 +6,14 @@ use Rattle.area.specs.Computing.{computing as area-computing}
 use Rattle.names.specs.Computing.{computing as names-computing}
 use Rattle.parse.specs.Computing.{computing as parse-computing}
 use Rattle.sheet_check.specs.Computing.{computing as sheet-check-computing}
+use Rattle.link.specs.Home.{addNumber, addNumbers, checksum, homeBy, homeOf}
 use Rattle.link.specs.Index.{slotFrom, slotOf}
 use Rattle.link.specs.Link.{withId, withFound, isNone, isUnlinked, unlinked, linkRule, linkRules, isUnmapped, hasThatName, isUnused, unmapped, unused, fits, linkAll, linkChecked, linkCall, linkFields}
 use Rattle.link.specs.Map.{mapEntryFields, mapEntryOf, mapEntryAt, entryOf, entriesOf, findEntry, idAt, idOf, distinct, nameInside, mapCheck}
+
+unfoldable home-file : Unit {0}
+unfolding addNumber addNumbers checksum homeBy homeOf
+home-file = tt
 
 unfoldable index-file : Unit {0}
 unfolding slotFrom slotOf
@@ -23,5 +28,5 @@ unfolding mapEntryFields mapEntryOf mapEntryAt entryOf entriesOf findEntry idAt 
 map-file = tt
 
 unfoldable pub computing : Unit {0}
-unfolding characters-computing text-computing area-computing names-computing parse-computing sheet-check-computing index-file link-file map-file
+unfolding characters-computing text-computing area-computing names-computing parse-computing sheet-check-computing home-file index-file link-file map-file
 computing = tt

@@ -14,6 +14,7 @@ ghost use Rattle.sheet_check.specs.Contracts.{sheetIn};
 ghost use Rattle.area.specs.Contracts.{before, after};
 ghost use Rattle.link.specs.Contracts.{mapIn, rulesIn, ruleNamesIn};
 use crate::LinkAnswer;
+use crate::index::RULE_SLOTS;
 use crate::index::SLOTS;
 use crate::index::check_map;
 use crate::index::index_rules;
@@ -93,7 +94,7 @@ fn link_checked(
     if area7.len() < unmapped_count as usize * NUMBER_WIDTH {
         return LinkAnswer::AreaFull(UNMAPPED_AREA);
     }
-    let mut rule_slots = [0; SLOTS];
+    let mut rule_slots = [0; RULE_SLOTS];
     index_rules(src, area2, rules, &mut rule_slots);
     let unused_count = count_unused(src, area2, rules, &rule_slots, names, entries);
     if area8.len() < unused_count as usize * NUMBER_WIDTH {

@@ -1,18 +1,20 @@
-// An index of names, so that a name is mostly compared with one other and not with all. It has a slot for each value that the bytes of a
-// name can give; a slot has the number, counted from 1, of a name that gives it.
+// An index of the entries' names, so that a name is mostly compared with one other and not with all. Its slots have numbers of entries, counted
+// from 1, or 0 where they are free. A name's search begins at the slot that its bytes give, its home, and goes on slot by slot up to a free one
+// (linear probing); where the slots end before that, all names are compared.
 ghost use mathlib.Core.Path.{_≡_};
 ghost use Prim.Native.Nat.{_+_, _*_, _%_, _≤_, _<_, min};
-ghost use lib.Dec.{eqb};
 ghost use lib.ListN.{length, getD, replicate};
 ghost use Rattle.characters.specs.Walk.{Between};
 ghost use Rattle.text.specs.Range.{part};
 ghost use Rattle.area.specs.Records.{ruleWidth};
-ghost use Rattle.link.specs.Map.{mostEntries, entryCount, nth, findEntry};
-ghost use Rattle.names.specs.Names.{nameOf};
-ghost use Rattle.link.specs.Link.{isUnused};
-ghost use Rattle.link.specs.Index.{slotCount, Slot, EntrySlots, RuleIndex, EntryIndex, EntriesIndexed, MapChecked};
 ghost use Rattle.area.specs.Contracts.{before, after};
+ghost use Rattle.names.specs.Names.{nameOf};
+ghost use Rattle.link.specs.Map.{mostEntries, entryCount, entriesOf, nth, findEntry};
+ghost use Rattle.link.specs.Link.{isUnused};
+ghost use Rattle.link.specs.Index.{slotCount, EntrySlots, Probes, EntryIndexed, EntriesIndexed, EntryIndex, MapChecked};
+ghost use Rattle.link.specs.Index.{ruleSlotCount, Slot, RuleIndex};
 ghost use Rattle.link.specs.Contracts.{mapIn, rulesIn, ruleNamesIn};
+use crate::home::home_of;
 use crate::map::MAP_WIDTH;
 use crate::map::find_entry;
 use crate::map::has_name;
@@ -24,40 +26,17 @@ use crate::numbers::is_unused;
 use area::Rule;
 use area::read_rule;
 
-// How many slots there are.
-pub const SLOTS: usize = 32768;
+// How many slots there are. A home is below 4,096, so that few searches come to the end of the slots.
+pub const SLOTS: usize = 4608;
 
 // How many entries a map may have.
 const MOST_ENTRIES: usize = 2048;
 
-fn smaller(a: usize, b: usize) -> usize
-    ensures { λ r. ⌜ r ≡ min a b ⌝ }
-{
-    if a < b {
-        return a;
-    }
-    b
-}
-
-fn next_slot(h: usize, b: u8) -> usize
-    requires { ⌜ h < slotCount ⌝ }
-    ensures { λ r. ⌜ r ≡ (h * 179 + b) % slotCount ⌝ }
-{
-    (h * 179 + b as usize) % SLOTS
-}
-
-// The slot of the bytes of a text from a to e.
-fn slot_of(text: &[u8], a: usize, e: usize) -> usize
-    ensures { λ r. ⌜ Slot (part (before text) a e) r ⌝ }
-{
-    let end = smaller(e, text.len());
-    let mut h = 0;
-    let mut i = a;
-    while i < end {
-        h = next_slot(h, text[i]);
-        i += 1;
-    }
-    h
+// What the search for a name comes to: a slot that is free for it, the entry that has it, or the end of the slots.
+enum Probed {
+    Free(usize),
+    Found(usize),
+    Exhausted,
 }
 
 fn read_slot(slots: &[u16], at: usize) -> u16
@@ -67,46 +46,72 @@ fn read_slot(slots: &[u16], at: usize) -> u16
     slots[at]
 }
 
-// ---- entries
+// Where the search for the name that stands in a text from a to e comes to, in the slots of the first n entries.
+fn probe(
+    names: &[u8],
+    entries: &[u8],
+    slots: &[u16],
+    n: usize,
+    text: &[u8],
+    a: usize,
+    e: usize,
+) -> Probed
+    requires { ⌜ n ≤ entryCount (now entries) ⌝ }
+    requires { ⌜ EntrySlots (entriesOf (now names) (now entries)) n (now slots) ⌝ }
+    ensures { λ r. ⌜ Probes (mapIn names entries) n (before slots) (part (before text) a e) r ⌝ }
+{
+    let mut p = home_of(text, a, e);
+    while p < SLOTS {
+        let number = read_slot(slots, p) as usize;
+        if number == 0 {
+            return Probed::Free(p);
+        }
+        let j = number - 1;
+        if has_name(names, entries, j, text, a, e) {
+            return Probed::Found(j);
+        }
+        p += 1;
+    }
+    Probed::Exhausted // an entry that has no slot may still have the name
+}
 
-fn entry_slot(names: &[u8], entries: &[u8], j: usize) -> usize
+// ---- the map check
+
+// Whether entry j is the first of its name, by the slots of those before it. If it is, it gets the free slot that the search came to.
+fn index_entry(names: &[u8], entries: &[u8], slots: &mut [u16], j: usize) -> bool
+    requires { ⌜ entryCount (now entries) ≤ mostEntries ⌝ }
     requires { ⌜ j < entryCount (now entries) ⌝ }
-    ensures { λ r. ⌜ Slot (nth (mapIn names entries) j .name) r ⌝ }
+    requires { ⌜ EntrySlots (entriesOf (now names) (now entries)) j (now slots) ⌝ }
+    ensures { λ r. ⌜ EntryIndexed (mapIn names entries) j r (after slots) ⌝ }
 {
     let x = read_map_entry(entries, j);
     let from = x.name_from as usize;
-    slot_of(names, from, from + x.name_length as usize)
-}
-
-// Whether entry j is the first of its name, by the slots of those before it.
-fn is_first_by(names: &[u8], entries: &[u8], slots: &[u16], j: usize) -> bool
-    requires { ⌜ j < entryCount (now entries) ⌝ }
-    requires { ⌜ EntrySlots (now names) (now entries) j (now slots) ⌝ }
-    ensures { λ r. ⌜ r ≡ eqb (findEntry (mapIn names entries) (nth (mapIn names entries) j .name)) j ⌝ }
-{
-    let at = entry_slot(names, entries, j);
-    if read_slot(slots, at) == 0 {
-        return true;
+    let end = from + x.name_length as usize;
+    match probe(names, entries, slots, j, names, from, end) {
+        Probed::Free(p) => {
+            slots[p] = (j + 1) as u16;
+            true
+        }
+        Probed::Found(_) => false,
+        Probed::Exhausted => is_first(names, entries, j),
     }
-    is_first(names, entries, j)
 }
 
-// The slots of all entries, and whether no two have the same name.
+// Whether no two entries have the same name. If so, the slots are those of all entries.
 fn index_entries(names: &[u8], entries: &[u8], slots: &mut [u16]) -> bool
     requires { ⌜ entryCount (now entries) ≤ mostEntries ⌝ }
     requires { ⌜ now slots ≡ replicate slotCount 0 ⌝ }
     ensures { λ r. ⌜ EntriesIndexed (before names) (before entries) r (after slots) ⌝ }
 {
     let n = entries.len() / MAP_WIDTH;
-    let mut good = true;
     let mut j = 0;
     while j < n {
-        good = good & is_first_by(names, entries, slots, j);
-        let at = entry_slot(names, entries, j);
+        if !index_entry(names, entries, slots, j) {
+            return false;
+        }
         j += 1;
-        slots[at] = j as u16;
     }
-    good
+    true
 }
 
 // The map check, and the slots of a map that passes. The number of entries first, so that few names are compared.
@@ -126,6 +131,8 @@ pub fn check_map(names: &[u8], entries: &[u8], slots: &mut [u16]) -> bool
     false
 }
 
+// ---- the entry of a name
+
 // The entry with the name that stands in a text from a to e, or the number of entries.
 pub fn find_by(
     names: &[u8],
@@ -138,19 +145,56 @@ pub fn find_by(
     requires { ⌜ EntryIndex (now names) (now entries) (now slots) ⌝ }
     ensures { λ r. ⌜ Between 0 (entryCount (before entries)) (findEntry (mapIn names entries) (part (before text) a e)) r ⌝ }
 {
-    let at = slot_of(text, a, e);
-    let number = read_slot(slots, at) as usize;
-    if number == 0 {
-        return entries.len() / MAP_WIDTH;
+    match probe(names, entries, slots, entries.len() / MAP_WIDTH, text, a, e) {
+        Probed::Free(_) => entries.len() / MAP_WIDTH,
+        Probed::Found(j) => j,
+        Probed::Exhausted => find_entry(names, entries, text, a, e),
     }
-    let j = number - 1;
-    if has_name(names, entries, j, text, a, e) {
-        return j;
-    }
-    find_entry(names, entries, text, a, e)
 }
 
-// ---- rules
+// ---- rules: an index with one slot for each value that the bytes of a name can give
+
+// How many slots the rules have.
+pub const RULE_SLOTS: usize = 32768;
+
+fn smaller(a: usize, b: usize) -> usize
+    ensures { λ r. ⌜ r ≡ min a b ⌝ }
+{
+    if a < b {
+        return a;
+    }
+    b
+}
+
+fn next_slot(h: usize, b: u8) -> usize
+    requires { ⌜ h < ruleSlotCount ⌝ }
+    ensures { λ r. ⌜ r ≡ (h * 179 + b) % ruleSlotCount ⌝ }
+{
+    (h * 179 + b as usize) % RULE_SLOTS
+}
+
+// The slot of the bytes of a text from a to e.
+fn slot_of(text: &[u8], a: usize, e: usize) -> usize
+    ensures { λ r. ⌜ Slot (part (before text) a e) r ⌝ }
+{
+    let end = smaller(e, text.len());
+    let mut h = 0;
+    let mut i = a;
+    while i < end {
+        h = next_slot(h, text[i]);
+        i += 1;
+    }
+    h
+}
+
+fn entry_slot(names: &[u8], entries: &[u8], j: usize) -> usize
+    requires { ⌜ j < entryCount (now entries) ⌝ }
+    ensures { λ r. ⌜ Slot (nth (mapIn names entries) j .name) r ⌝ }
+{
+    let x = read_map_entry(entries, j);
+    let from = x.name_from as usize;
+    slot_of(names, from, from + x.name_length as usize)
+}
 
 fn rule_slot(src: &[u8], x: Rule) -> usize
     ensures { λ r. ⌜ Slot (ruleNamesIn src x) r ⌝ }
@@ -162,7 +206,7 @@ fn rule_slot(src: &[u8], x: Rule) -> usize
 // The slots of the named rules of an area.
 pub fn index_rules(src: &[u8], area: &[u8], count: u16, slots: &mut [u16])
     requires { ⌜ count * ruleWidth ≤ length (now area) ⌝ }
-    requires { ⌜ now slots ≡ replicate slotCount 0 ⌝ }
+    requires { ⌜ now slots ≡ replicate ruleSlotCount 0 ⌝ }
     ensures { λ _. ⌜ RuleIndex (ruleNamesIn src) (before area) count (after slots) ⌝ }
 {
     let mut k = 0;

@@ -1,6 +1,7 @@
 -- `link::index::check_map` meets its contract: each test that fails makes it false, and a map that passes has its slots.
+use borrow.Author.Needs.{needs}
 use Rattle.link.proofs.Maps.{map-ragged, map-large, map-outside, map-inside}
-use Rattle.link.proofs.Slotting.{slotting-entries, checked-no, checked-yes}
+use Rattle.link.proofs.Probing.{checked-no, checked-yes}
 use Rattle.link.proofs.index.check_map.Statement.{statement}
 use Rattle.link.proofs.index.check_map.Tie as tie
 
@@ -28,8 +29,8 @@ check-map-spec =
     (tie.spec
     returns
     returns-2
-    (λ c κs. search slotting-entries)
-    (λ c κs. search slotting-entries)
-    (λ c. search slotting-entries)
+    (λ c κs. search needs)
+    (λ c κs. search needs)
+    (λ c. search needs)
     returns-3
     returns-4)
