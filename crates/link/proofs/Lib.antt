@@ -4,4 +4,5 @@ pub mod Counting
 pub mod Outcomes
 pub mod LinkLaws
 pub mod Slotting
+pub mod Matching
 pub mod LinkWords

@@ -1,14 +1,14 @@
 -- Slots of names. Where the slot of a name is 0, none of the names has its bytes, for the same bytes give the same slot; so a search that is
 -- spared would have found nothing.
 use mathlib.Core.Path.{_≡_, refl, sym, ap, subst, _∙_}
-use mathlib.Core.Bool.{Bool, true, false, not, _&&_, true≢false, false≢true}
+use mathlib.Core.Bool.{Bool, true, false, false≢true}
 use mathlib.Core.List.{List, _∷_}
 use mathlib.Core.Logic.{_⊎_, ⊎-elim}
 use Prim.Native.Nat.{ℕ, suc, _+_, _*_, _-_, _%_, _≤_, _<_, min}
 use native.Mathlib.Numerals.{add-one}
 use native.Mathlib.Omega.{arith}
 use borrow.Author.Needs.{needs}
-use borrow.Author.Tests.{eqb-true, eqb-false, eq-eqb, ne-eqb}
+use borrow.Author.Tests.{eqb-true, eqb-false, eq-eqb}
 use lib.Dec.{eqb}
 use lib.ListN.{length, getD, set, drop, replicate, length-drop, length-set, length-replicate, getD-replicate, List·getD-eq-default}
 use lib.Seq.{drop-cons, take-all, getD-set-same, getD-set-other}
@@ -18,16 +18,10 @@ use Rattle.text.specs.Range.{part, sameBytes}
 use Rattle.characters.proofs.Tests.{le-or-lt}
 use Rattle.text.proofs.Ranges.{part-none, same-equal, same-self}
 use Rattle.characters.proofs.Walks.{first-here, first-over}
-use Rattle.area.specs.declared.Rule.{Rule}
-use Rattle.area.specs.Records.{nthRule, ruleAt}
-use Rattle.area.specs.Contents.{contents, ruleFormat}
 use Rattle.area.specs.Lists.{allBelow}
-use Rattle.area.proofs.Contents.{contents-count, contents-read}
-use Rattle.area.proofs.All.{all-from}
 use Rattle.link.specs.declared.MapEntry.{MapEntry}
 use Rattle.link.specs.Map.{mapEntryAt, entryCount, Entry, entriesOf, nth, findEntry, distinct, mapCheck}
-use Rattle.link.specs.Link.{isNamed, hasThatName, isUnused}
-use Rattle.link.specs.Index.{slotCount, slotFrom, slotOf, Slot, Slots, EntrySlots, RuleSlots, EntryIndex, RuleIndex, EntriesIndexed, MapChecked}
+use Rattle.link.specs.Index.{slotCount, slotFrom, slotOf, Slot, Slots, EntrySlots, EntryIndex, EntriesIndexed, MapChecked}
 use Rattle.link.proofs.Maps.{entries-count, name-at, has, entry-missing, entry-first, distinct-read}
 
 -- ---- the slot of bytes
@@ -90,16 +84,6 @@ module _ (test : ℕ → Bool) (name : ℕ → List ℕ) where
   }
 
   module _ {k : ℕ} {l : List ℕ} (S : Slots test name k l) where
-    pub slots-skip : test k ≡ false → Slots test name (k + 1) l
-    slots-skip t = record {
-      long = S .long;
-      marked = λ i h e. ⊎-elim
-          (λ g. absurd (true≢false (sym e ∙ ap test (omega (arith, h, g)) ∙ t)))
-          (λ g. S .marked i g e)
-          (le-or-lt k i);
-      low = λ h. omega (arith, S .low h);
-    }
-
     module _ (r : ℕ) (q : Slot (name k) r) where
       here : getD (set l r (k + 1)) r 0 ≡ k + 1
       here = getD-set-same l r (k + 1) 0 (omega (arith, q .small, S .long))
@@ -186,30 +170,7 @@ module _ (names entries l : List ℕ) where
       to = omega arith;
     }
 
--- ---- rules by their slots
-
-module _ (name : Rule → List ℕ) (l : List ℕ) (count : ℕ) (slots bytes : List ℕ) (I : RuleIndex name l count slots) (r : ℕ) (q : Slot bytes r) where
-  abbrev rule : ℕ → Rule
-  rule = nthRule (contents ruleFormat l count)
-
-  none-named : getD slots r 0 ≡ 0 → (k : ℕ) → k < count → hasThatName name bytes (rule k) ≡ false
-  unfolding hasThatName
-  none-named e k h = by (isNamed (rule k)) refl
-    where
-      by : (t : Bool) → isNamed (rule k) ≡ t → t && sameBytes bytes (name (rule k)) ≡ false
-      by true t = same-not bytes (name (rule k)) (λ z. slot-empty (λ j. isNamed (rule j)) (λ j. name (rule j)) (I .slots) bytes r q e k h t (sym z))
-      by false t = refl
-
-  pub unused-by-slot : getD slots r 0 ≡ 0 → true ≡ isUnused name (contents ruleFormat l count) bytes
-  unfolding isUnused
-  unused-by-slot e =
-      sym (all-from (λ x. not (hasThatName name bytes x)) (contents ruleFormat l count) (ruleFormat .blank)
-      (λ k h. ap not (none-named e k (omega (arith, h, contents-count ruleFormat l count)))))
-
-  pub slot-rule : (getD slots r 0 ≡ 0 → ⊥) → getD slots r 0 - 1 < count
-  slot-rule d = omega (arith, d, I .slots .low r)
-
--- ---- the loops that make the slots
+-- ---- the loop that makes the slots
 
 pub entries-indexed : (names entries l : List ℕ) (k : ℕ) (good : Bool) → entryCount entries ≤ k → k ≤ entryCount entries
     → good ≡ allBelow (λ j. eqb (findEntry (entriesOf names entries) (nth (entriesOf names entries) j .name)) j) k
@@ -217,19 +178,6 @@ pub entries-indexed : (names entries l : List ℕ) (k : ℕ) (good : Bool) → e
 entries-indexed names entries l k good h g e S =
     let q : k ≡ entryCount entries = omega arith in
     record { is = distinct-read names entries k good h g e; slots = subst (λ (n : ℕ). EntrySlots names entries n l) q S }
-
-module _ (l : List ℕ) (count k : ℕ) (h : k < count) (x : Rule) (is : x ≡ ruleAt l k) where
-  pub rule-unnamed : (x .named ≡ 1 → ⊥) → isNamed (nthRule (contents ruleFormat l count) k) ≡ false
-  rule-unnamed d = ap isNamed (contents-read ruleFormat l count k h ∙ sym is) ∙ ne-eqb (x .named) 1 d
-
-  pub rule-slotted : (name : Rule → List ℕ) (r : ℕ) → Slot (name x) r → Slot (name (nthRule (contents ruleFormat l count) k)) r
-  rule-slotted name r q = subst (λ (y : Rule). Slot (name y) r) (is ∙ sym (contents-read ruleFormat l count k h)) q
-
-pub rules-indexed : (name : Rule → List ℕ) (l : List ℕ) (count k : ℕ) (slots : List ℕ) → count ≤ k → k ≤ count
-    → RuleSlots name l count k slots → RuleIndex name l count slots
-rules-indexed name l count k slots h g S =
-    let q : k ≡ count = omega arith in
-    record { slots = subst (λ (n : ℕ). RuleSlots name l count n slots) q S }
 
 -- ---- the map check
 

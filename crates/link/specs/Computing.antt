@@ -9,6 +9,7 @@ use Rattle.sheet_check.specs.Computing.{computing as sheet-check-computing}
 use Rattle.link.specs.Index.{slotFrom, slotOf}
 use Rattle.link.specs.Link.{withId, withFound, isNone, isUnlinked, unlinked, linkRule, linkRules, isUnmapped, hasThatName, isUnused, unmapped, unused, fits, linkAll, linkChecked, linkCall, linkFields}
 use Rattle.link.specs.Map.{mapEntryFields, mapEntryOf, mapEntryAt, entryOf, entriesOf, findEntry, idAt, idOf, distinct, nameInside, mapCheck}
+use Rattle.link.specs.Matches.{linkTo}
 
 unfoldable index-file : Unit {0}
 unfolding slotFrom slotOf
@@ -22,6 +23,10 @@ unfoldable map-file : Unit {0}
 unfolding mapEntryFields mapEntryOf mapEntryAt entryOf entriesOf findEntry idAt idOf distinct nameInside mapCheck
 map-file = tt
 
+unfoldable matches-file : Unit {0}
+unfolding linkTo
+matches-file = tt
+
 unfoldable pub computing : Unit {0}
-unfolding characters-computing text-computing area-computing names-computing parse-computing sheet-check-computing index-file link-file map-file
+unfolding characters-computing text-computing area-computing names-computing parse-computing sheet-check-computing index-file link-file map-file matches-file
 computing = tt

@@ -5,11 +5,7 @@ use mathlib.Core.Path.{_≡_}
 use mathlib.Core.Bool.{Bool, true}
 use mathlib.Core.List.{List, [], _∷_}
 use lib.ListN.{length, getD}
-use Rattle.area.specs.declared.Rule.{Rule}
-use Rattle.area.specs.Records.{nthRule}
-use Rattle.area.specs.Contents.{contents, ruleFormat}
 use Rattle.link.specs.Map.{entryCount, entriesOf, nth, distinct, mapCheck}
-use Rattle.link.specs.Link.{isNamed}
 
 -- how many slots there are
 abbrev pub slotCount : ℕ
@@ -39,19 +35,10 @@ pub record Slots (test : ℕ → Bool) (name : ℕ → List ℕ) (n : ℕ) (slot
 abbrev pub EntrySlots : List ℕ → List ℕ → ℕ → List ℕ → Type 0
 EntrySlots names entries k slots = Slots (λ _. true) (λ j. nth (entriesOf names entries) j .name) k slots
 
--- the named ones of the first k of the rules of an area
-abbrev pub RuleSlots : (Rule → List ℕ) → List ℕ → ℕ → ℕ → List ℕ → Type 0
-RuleSlots name l count k slots =
-    Slots (λ j. isNamed (nthRule (contents ruleFormat l count) j)) (λ j. name (nthRule (contents ruleFormat l count) j)) k slots
-
 -- a map whose names are distinct, and their slots
 pub record EntryIndex (names entries l : List ℕ) : Type 0 where
   pub different : distinct (entriesOf names entries) ≡ true
   pub slots : EntrySlots names entries (entryCount entries) l
-
--- the slots of the named rules of an area
-pub record RuleIndex (name : Rule → List ℕ) (area : List ℕ) (count : ℕ) (l : List ℕ) : Type 0 where
-  pub slots : RuleSlots name area count count l
 
 -- what the making of the slots answers and leaves
 pub record EntriesIndexed (names entries : List ℕ) (r : Bool) (l : List ℕ) : Type 0 where

@@ -1,5 +1,6 @@
 pub mod Map
 pub mod Link
 pub mod Index
+pub mod Matches
 pub mod Contracts
 pub mod Computing
