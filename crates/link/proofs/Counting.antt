@@ -24,8 +24,10 @@ fits-says ns l e = leb-true (length ns * entryWidth) (length l) e
 pub numbers-fit : (test : ℕ → Bool) (m : ℕ) (ns l : List ℕ) → numbers test m ≡ ns → fits ns l ≡ true → length (numbers test m) * entryWidth ≤ length l
 numbers-fit test m ns l is e = omega (arith, fits-says ns l e, ap length is)
 
+-- the lists that are asked for are those of the records that pass
 module _ (l : List ℕ) (count : ℕ) where
-  pub unmapped-is : (name : Rule → List ℕ) (es : List Entry) → numbers (passesAt ruleFormat (isUnmapped name es) l count) count ≡ unmapped name es (contents ruleFormat l count)
+  pub unmapped-is : (name : Rule → List ℕ) (es : List Entry)
+      → numbers (passesAt ruleFormat (isUnmapped name es) l count) count ≡ unmapped name es (contents ruleFormat l count)
   unfolding unmapped
   unmapped-is name es = records-numbered ruleFormat (isUnmapped name es) l count
 

@@ -70,8 +70,8 @@ module _ (name : Rule → List ℕ) (es : List Entry) (l : List ℕ) where
         → x ≡ ruleAt a k → y ≡ linkTo es (getD found k 0) x → Pushed ruleWidth mostRules 1 (ruleBytes y) a k r e → e ≡ linkedTo (k + 1)
     unfolding linkRules
     rules-next h few long found F x y r e q z p =
-        after-next rule-sound rule-local (linkRule name es) l k a is x y e (record-inside p count h few long) q (z ∙ linked-by name es (getD found k 0) x by-name)
-        (pushed-writes p count h few long)
+        after-next rule-sound rule-local (linkRule name es) l k a is x y e (record-inside p count h few long) q
+        (z ∙ linked-by name es (getD found k 0) x by-name) (pushed-writes p count h few long)
       where
         as-before : x ≡ ruleAt l k
         as-before = q ∙ after-read rule-sound rule-local (linkRule name es) l k a is
@@ -83,4 +83,4 @@ module _ (name : Rule → List ℕ) (es : List Entry) (l : List ℕ) where
     unfolding linkRules
     rules-all h g = after-all rule-sound rule-local (linkRule name es) l k a is count h g
 
-pub ruleset linking-rules = (needs, rules-none, rules-next, rules-all, pushed-length)
+pub ruleset linking-rules = (needs, rules-none, rules-all, pushed-length)

@@ -196,13 +196,20 @@ module _ (name : Rule → List ℕ) (names entries l : List ℕ) (count : ℕ) w
 
   module _ {k n : ℕ} {found used : List ℕ} (M : Matching name names entries l count k n found used) where
     module _ (h : k < count) (x : Rule) (is : x ≡ ruleAt l k) where
-      not-counted : isUnmapped name es x ≡ false → n ≡ length (numbers (passesAt ruleFormat (isUnmapped name es) l count) (k + 1))
-      not-counted e =
-          count-no _ k n (M .missing) (record-fails ruleFormat (isUnmapped name es) l count k h x is (isUnmapped name es x) refl (ap not e))
+      abbrev test : ℕ → Bool
+      test = passesAt ruleFormat (isUnmapped name es) l count
+
+      one-counted : isUnmapped name es x ≡ true → n + 1 ≡ length (numbers test (k + 1))
+      one-counted e =
+          count-yes test k n (M .missing) (record-passes ruleFormat (isUnmapped name es) l count k h x is (isUnmapped name es x) refl (ap not e))
+
+      none-counted : isUnmapped name es x ≡ false → n ≡ length (numbers test (k + 1))
+      none-counted e =
+          count-no test k n (M .missing) (record-fails ruleFormat (isUnmapped name es) l count k h x is (isUnmapped name es x) refl (ap not e))
 
       pub matching-unnamed : (x .named ≡ 1 → ⊥) → Matching name names entries l count (k + 1) n found used
       matching-unnamed d = record {
-        missing = not-counted (unnamed-mapped name es x d);
+        missing = none-counted (unnamed-mapped name es x d);
         kept = found-unnamed name es l (M .kept) x is d;
         marks = marked-kept name es l (M .marks) x is (λ j _. unnamed-lacks name es x d (nth es j .name));
       }
@@ -213,7 +220,7 @@ module _ (name : Rule → List ℕ) (names entries l : List ℕ) (count : ℕ) w
         matching-found g most =
             let inside : j < length es = omega (arith, g, entries-count names entries) in
             record {
-              missing = not-counted (found-mapped name es x named j at inside);
+              missing = none-counted (found-mapped name es x named j at inside);
               kept = found-set name es l (M .kept) x is j at (omega (arith, h, few));
               marks = marked-set name es l (M .marks) x is different named j at inside (omega (arith, most, entries-count names entries));
             }
@@ -222,9 +229,7 @@ module _ (name : Rule → List ℕ) (names entries l : List ℕ) (count : ℕ) w
         matching-missing g =
             let past : length es ≤ j = omega (arith, g, entries-count names entries) in
             record {
-              missing =
-                  count-yes _ k n (M .missing)
-                  (record-passes ruleFormat (isUnmapped name es) l count k h x is (isUnmapped name es x) refl (ap not (missing-unmapped name es x named j at past)));
+              missing = one-counted (missing-unmapped name es x named j at past);
               kept = found-set name es l (M .kept) x is j at (omega (arith, h, few));
               marks = marked-missing name es l (M .marks) x is different named j at past;
             }

@@ -20,7 +20,7 @@ linkTo es j x = cond (isNamed x) (withFound (idAt es j) x) x
 abbrev pub unmarked : List ℕ → ℕ → List ℕ
 unmarked used n = numbers (λ j. eqb (getD used j 0) 0) n
 
--- the entries of the named ones of the first k rules of an area
+-- what was found for the named ones of the first k rules of an area
 pub record EntriesFound (name : Rule → List ℕ) (es : List Entry) (l : List ℕ) (k : ℕ) (found : List ℕ) : Type 0 where
   pub long : length found ≡ mostRules
   pub each : (i : ℕ) → i < k → ruleAt l i .named ≡ 1 → getD found i 0 ≡ findEntry es (name (ruleAt l i))

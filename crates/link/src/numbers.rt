@@ -54,6 +54,7 @@ pub fn write_unlinked(area: &[u8], count: u16, into: &mut [u8])
     }
 }
 
+// How many of so many entries have no mark.
 pub fn count_unused(used: &[u8], most: usize) -> u16
     requires { ⌜ (most ≤ mostEntries) × (most ≤ length (now used)) ⌝ }
     ensures { λ r. ⌜ r ≡ length (unmarked (before used) most) ⌝ }
@@ -71,7 +72,7 @@ pub fn count_unused(used: &[u8], most: usize) -> u16
     n
 }
 
-// The entries that have no mark, into an area of zeros.
+// Their numbers, into an area of zeros.
 pub fn write_unused(used: &[u8], most: usize, into: &mut [u8])
     requires { ⌜ (most ≤ mostEntries) × (most ≤ length (now used)) ⌝ }
     requires { ⌜ now into ≡ zeros (length (now into)) ⌝ }

@@ -25,7 +25,7 @@ fn with_id(x: Rule, has: u16, id: u16) -> Rule
     y
 }
 
-// A rule whose entry is entry j of a map, or none where there is no entry j.
+// A named rule gets the id of entry j of a map, or none where there is no entry j.
 fn link_rule(names: &[u8], entries: &[u8], j: u16, x: Rule) -> Rule
     ensures { λ r. ⌜ r ≡ linkTo (mapIn names entries) j x ⌝ }
 {
@@ -40,8 +40,8 @@ fn link_rule(names: &[u8], entries: &[u8], j: u16, x: Rule) -> Rule
     with_id(x, 0, 0)
 }
 
-// The rules by the entries that were found. Every rule is written back whole, so that an area holds the linked rules. The source stands for the
-// contract alone.
+// The rules by the entries that were found. Every rule is written back whole, so that an area holds the linked rules. The source and the names
+// stand for the contracts alone.
 pub fn link_rules(
     src: &[u8],
     area: &mut [u8],

@@ -101,8 +101,9 @@ match-rules-requires c κs =
 returns : tie.Need-returns
 returns c =
     let s = matched-start (over-used2 c) in
+    let missing = matched-match-rules (over-used2 c) .match-rules .ensures .missing in
     short-7 (name s) (rules s) (es s) (s .args .area2 .now) (s .args .area7 .now) (s .args .area8 .now)
-    (count-over (unmapped (name s) (es s) (rules s)) (s .args .area7 .now) _ (matched-match-rules (over-used2 c) .match-rules .ensures .missing) (c .if1 .taken))
+    (count-over (unmapped (name s) (es s) (rules s)) (s .args .area7 .now) _ missing (c .if1 .taken))
 
 count-unused-requires : tie.Need-count-unused-requires
 count-unused-requires c κs =

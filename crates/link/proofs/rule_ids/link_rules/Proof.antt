@@ -17,27 +17,26 @@ Inv-loop src area₀ count names entries found k₀ area k =
 abbrev μ-loop : tie.MeasureT-loop
 μ-loop src area₀ count names entries found k₀ area k = count - k
 
--- the loop, and what is lent
-module _ (c : tie.After-read-rule Inv-loop μ-loop) where
-  abbrev at : tie.At-loop Inv-loop μ-loop
-  at = c .before .before .before
-
-  abbrev lent : tie.Start Inv-loop μ-loop
-  lent = at .before .before .before .before .before .before
+-- what is lent
+abbrev lent : tie.At-loop Inv-loop μ-loop → tie.Start Inv-loop μ-loop
+lent l = l .before .before .before .before .before .before
 
 shared-slice-read-j : tie.Need-shared-slice-read-j Inv-loop μ-loop
-shared-slice-read-j c = omega (arith, c .before .before .before .loop-test .taken, lent (c .before) .pre .0 .0, lent (c .before) .pre .1 .long)
+shared-slice-read-j c =
+    let inside = c .before .before .before in
+    let pre = lent (inside .before) .pre in
+    omega (arith, inside .loop-test .taken, pre .0 .0, pre .1 .long)
 
 loop-again : tie.Need-loop-again Inv-loop μ-loop
 loop-again c =
     let push = c .before .before in
     let read = push .before .before .before .before in
-    let l = at read .loop in
-    let s = lent read in (
+    let l = read .before .before .before in
+    let s = lent l in (
       search linking-rules,
       search linking-rules,
-      rules-next (nameOf (s .args .src .now)) (entriesOf (s .args .names .now) (s .args .entries .now)) (s .args .area .now) (l .k) (s .args .count) _
-          (l .inv .2) (search needs) (s .pre .0 .0) (omega (arith, s .pre .0 .1, l .inv .1)) _ (s .pre .1) _ _ _ _
+      rules-next (nameOf (s .args .src .now)) (entriesOf (s .args .names .now) (s .args .entries .now)) (s .args .area .now) (l .loop .k) (s .args .count) _
+          (l .loop .inv .2) (search needs) (s .pre .0 .0) (omega (arith, s .pre .0 .1, l .loop .inv .1)) _ (s .pre .1) _ _ _ _
           (read .read-rule .ensures) (push .before .link-rule .ensures) (push .push-rule .ensures),
     )
 
