@@ -5,5 +5,5 @@ pub mod Outcomes
 pub mod LinkLaws
 pub mod Homes
 pub mod Probing
-pub mod Slotting
+pub mod Matching
 pub mod LinkWords

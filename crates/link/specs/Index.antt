@@ -1,19 +1,15 @@
 -- An index of names; 01 has none. A slot has the number of an entry, counted from 1, or 0: then it is free. A name is looked for from its home
 -- on, slot by slot, up to a free one; an entry is put into the free one.
-use Prim.Native.Nat.{ℕ, _+_, _*_, _%_, _≤_, _<_}
+use Prim.Native.Nat.{ℕ, _+_, _≤_, _<_}
 use mathlib.Core.Path.{_≡_}
 use mathlib.Core.Bool.{Bool, true, false}
-use mathlib.Core.List.{List, [], _∷_}
+use mathlib.Core.List.{List}
 use lib.Dec.{eqb}
 use lib.ListN.{length, getD}
 use Rattle.text.specs.Range.{sameBytes}
-use Rattle.area.specs.declared.Rule.{Rule}
-use Rattle.area.specs.Records.{nthRule}
-use Rattle.area.specs.Contents.{contents, ruleFormat}
 use Rattle.link.specs.declared.index.Probed.{Probed}
 use Rattle.link.specs.declared.index.Probed.the-variants.{Free, Found, Exhausted}
 use Rattle.link.specs.Map.{entryCount, Entry, entriesOf, nth, findEntry, distinct, mapCheck}
-use Rattle.link.specs.Link.{isNamed}
 use Rattle.link.specs.Home.{homeOf}
 
 -- how many slots there are
@@ -76,38 +72,3 @@ pub record EntryIndex (names entries l : List ℕ) : Type 0 where
 pub record MapChecked (names entries : List ℕ) (r : Bool) (l : List ℕ) : Type 0 where
   pub is : r ≡ mapCheck names entries
   pub index : r ≡ true → EntryIndex names entries l
-
--- ---- rules
-
--- how many slots the rules have
-abbrev pub ruleSlotCount : ℕ
-ruleSlotCount = 32768
-
--- the slot of bytes that follow others, whose slot is h
-unfoldable pub slotFrom : ℕ → List ℕ → ℕ
-slotFrom h [] = h
-slotFrom h (x ∷ xs) = slotFrom ((h * 179 + x) % ruleSlotCount) xs
-
--- the slot of a name
-unfoldable pub slotOf : List ℕ → ℕ
-slotOf name = slotFrom 0 name
-
--- r is the slot of the name, and one of the slots
-pub record Slot (name : List ℕ) (r : ℕ) : Type 0 where
-  pub is : r ≡ slotOf name
-  pub small : r < ruleSlotCount
-
--- of the first n names, the slots of those that pass the test are not 0; a slot has a number of one of them, counted from 1, or 0
-pub record Slots (test : ℕ → Bool) (name : ℕ → List ℕ) (n : ℕ) (slots : List ℕ) : Type 0 where
-  pub long : length slots ≡ ruleSlotCount
-  pub marked : (i : ℕ) → i < n → test i ≡ true → 0 < getD slots (slotOf (name i)) 0
-  pub low : (h : ℕ) → getD slots h 0 ≤ n
-
--- the named ones of the first k of the rules of an area
-abbrev pub RuleSlots : (Rule → List ℕ) → List ℕ → ℕ → ℕ → List ℕ → Type 0
-RuleSlots name l count k slots =
-    Slots (λ j. isNamed (nthRule (contents ruleFormat l count) j)) (λ j. name (nthRule (contents ruleFormat l count) j)) k slots
-
--- the slots of the named rules of an area
-pub record RuleIndex (name : Rule → List ℕ) (area : List ℕ) (count : ℕ) (l : List ℕ) : Type 0 where
-  pub slots : RuleSlots name area count count l

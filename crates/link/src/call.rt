@@ -8,22 +8,24 @@ ghost use Rattle.area.specs.Contents.{contents, ruleFormat};
 ghost use Rattle.link.specs.declared.LinkAnswer.the-variants.{Linked};
 ghost use Rattle.names.specs.Names.{nameOf};
 ghost use Rattle.link.specs.Map.{mostEntries, entryCount, entriesOf};
-ghost use Rattle.link.specs.Index.{EntryIndex, RuleIndex};
-ghost use Rattle.link.specs.Link.{unmapped, unused, fits, linkLeft, linkAll, linkChecked, linkCall};
+ghost use Rattle.link.specs.Index.{EntryIndex};
+ghost use Rattle.link.specs.Link.{unmapped, fits, linkLeft, linkAll, linkChecked, linkCall};
+ghost use Rattle.link.specs.Matches.{Matched, unmarked};
 ghost use Rattle.sheet_check.specs.Contracts.{sheetIn};
 ghost use Rattle.area.specs.Contracts.{before, after};
 ghost use Rattle.link.specs.Contracts.{mapIn, rulesIn, ruleNamesIn};
 use crate::LinkAnswer;
-use crate::index::RULE_SLOTS;
+use crate::index::MOST_ENTRIES;
 use crate::index::SLOTS;
 use crate::index::check_map;
-use crate::index::index_rules;
+use crate::map::MAP_WIDTH;
+use crate::matches::match_rules;
 use crate::numbers::NUMBER_WIDTH;
-use crate::numbers::count_unmapped;
 use crate::numbers::count_unused;
 use crate::numbers::write_unlinked;
 use crate::numbers::write_unused;
 use crate::rule_ids::link_rules;
+use area::MOST_RULES;
 use area::clear;
 use sheet_check::check::check;
 
@@ -32,15 +34,15 @@ const UNMAPPED_AREA: u16 = 7;
 
 const UNUSED_AREA: u16 = 8;
 
-// Area 8 while the rules are as they were; then the rules; then area 7 from what they have become.
+// Area 8, the rules, and then area 7 from what the rules have become.
 fn write_all(
     src: &[u8],
     area2: &mut [u8],
     rules: u16,
     names: &[u8],
     entries: &[u8],
-    entry_slots: &[u16],
-    rule_slots: &[u16],
+    found: &[u16],
+    used: &[u8],
     area7: &mut [u8],
     area8: &mut [u8],
     unmapped_count: u16,
@@ -48,24 +50,20 @@ fn write_all(
 ) -> LinkAnswer
     requires { ⌜ (rules ≤ mostRules) × (rules * ruleWidth ≤ length (now area2)) ⌝ }
     requires { ⌜ entryCount (now entries) ≤ mostEntries ⌝ }
-    requires { ⌜ EntryIndex (now names) (now entries) (now «entry_slots») ⌝ }
-    requires { ⌜ RuleIndex (nameOf (now src)) (now area2) rules (now «rule_slots») ⌝ }
+    requires { ⌜ Matched (nameOf (now src)) (now names) (now entries) (now area2) rules «unmapped_count» (now found) (now used) ⌝ }
     requires { ⌜
         fits (unmapped (nameOf (now src)) (entriesOf (now names) (now entries)) (contents ruleFormat (now area2) rules)) (now area7)
         ≡ true
         ⌝ }
-    requires { ⌜
-        fits (unused (nameOf (now src)) (entriesOf (now names) (now entries)) (contents ruleFormat (now area2) rules)) (now area8)
-        ≡ true
-        ⌝ }
+    requires { ⌜ fits (unmarked (now used) (entryCount (now entries))) (now area8) ≡ true ⌝ }
     ensures { λ r. ⌜
         linkLeft r (after area2) (after area7) (after area8)
         ≡ linkAll (ruleNamesIn src) (Linked «unmapped_count» «unused_count») (rulesIn area2 rules) (mapIn names entries) (before area2) (before area7) (before area8)
         ⌝ }
 {
     clear(area8);
-    write_unused(src, area2, rules, rule_slots, names, entries, area8);
-    link_rules(src, area2, rules, names, entries, entry_slots);
+    write_unused(used, entries.len() / MAP_WIDTH, area8);
+    link_rules(src, area2, rules, names, entries, found);
     clear(area7);
     write_unlinked(area2, rules, area7);
     LinkAnswer::Linked(unmapped_count, unused_count)
@@ -90,13 +88,22 @@ fn link_checked(
         ≡ linkChecked (ruleNamesIn src) (rulesIn area2 rules) (mapIn names entries) (before area2) (before area7) (before area8)
         ⌝ }
 {
-    let unmapped_count = count_unmapped(src, area2, rules, names, entries, entry_slots);
+    let mut found = [0; MOST_RULES];
+    let mut used = [0; MOST_ENTRIES];
+    let unmapped_count = match_rules(
+        src,
+        area2,
+        rules,
+        names,
+        entries,
+        entry_slots,
+        &mut found,
+        &mut used,
+    );
     if area7.len() < unmapped_count as usize * NUMBER_WIDTH {
         return LinkAnswer::AreaFull(UNMAPPED_AREA);
     }
-    let mut rule_slots = [0; RULE_SLOTS];
-    index_rules(src, area2, rules, &mut rule_slots);
-    let unused_count = count_unused(src, area2, rules, &rule_slots, names, entries);
+    let unused_count = count_unused(&used, entries.len() / MAP_WIDTH);
     if area8.len() < unused_count as usize * NUMBER_WIDTH {
         return LinkAnswer::AreaFull(UNUSED_AREA);
     }
@@ -106,8 +113,8 @@ fn link_checked(
         rules,
         names,
         entries,
-        entry_slots,
-        &rule_slots,
+        &found,
+        &used,
         area7,
         area8,
         unmapped_count,

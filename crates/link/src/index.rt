@@ -6,14 +6,10 @@ ghost use Prim.Native.Nat.{_+_, _*_, _%_, _≤_, _<_, min};
 ghost use lib.ListN.{length, getD, replicate};
 ghost use Rattle.characters.specs.Walk.{Between};
 ghost use Rattle.text.specs.Range.{part};
-ghost use Rattle.area.specs.Records.{ruleWidth};
 ghost use Rattle.area.specs.Contracts.{before, after};
-ghost use Rattle.names.specs.Names.{nameOf};
 ghost use Rattle.link.specs.Map.{mostEntries, entryCount, entriesOf, nth, findEntry};
-ghost use Rattle.link.specs.Link.{isUnused};
 ghost use Rattle.link.specs.Index.{slotCount, EntrySlots, Probes, EntryIndexed, EntriesIndexed, EntryIndex, MapChecked};
-ghost use Rattle.link.specs.Index.{ruleSlotCount, Slot, RuleIndex};
-ghost use Rattle.link.specs.Contracts.{mapIn, rulesIn, ruleNamesIn};
+ghost use Rattle.link.specs.Contracts.{mapIn};
 use crate::home::home_of;
 use crate::map::MAP_WIDTH;
 use crate::map::find_entry;
@@ -21,16 +17,12 @@ use crate::map::has_name;
 use crate::map::is_first;
 use crate::map::names_inside;
 use crate::map::read_map_entry;
-use crate::numbers::has_that_name;
-use crate::numbers::is_unused;
-use area::Rule;
-use area::read_rule;
 
 // How many slots there are. A home is below 4,096, so that few searches come to the end of the slots.
 pub const SLOTS: usize = 4608;
 
 // How many entries a map may have.
-const MOST_ENTRIES: usize = 2048;
+pub const MOST_ENTRIES: usize = 2048;
 
 // What the search for a name comes to: a slot that is free for it, the entry that has it, or the end of the slots.
 enum Probed {
@@ -150,100 +142,4 @@ pub fn find_by(
         Probed::Found(j) => j,
         Probed::Exhausted => find_entry(names, entries, text, a, e),
     }
-}
-
-// ---- rules: an index with one slot for each value that the bytes of a name can give
-
-// How many slots the rules have.
-pub const RULE_SLOTS: usize = 32768;
-
-fn smaller(a: usize, b: usize) -> usize
-    ensures { λ r. ⌜ r ≡ min a b ⌝ }
-{
-    if a < b {
-        return a;
-    }
-    b
-}
-
-fn next_slot(h: usize, b: u8) -> usize
-    requires { ⌜ h < ruleSlotCount ⌝ }
-    ensures { λ r. ⌜ r ≡ (h * 179 + b) % ruleSlotCount ⌝ }
-{
-    (h * 179 + b as usize) % RULE_SLOTS
-}
-
-// The slot of the bytes of a text from a to e.
-fn slot_of(text: &[u8], a: usize, e: usize) -> usize
-    ensures { λ r. ⌜ Slot (part (before text) a e) r ⌝ }
-{
-    let end = smaller(e, text.len());
-    let mut h = 0;
-    let mut i = a;
-    while i < end {
-        h = next_slot(h, text[i]);
-        i += 1;
-    }
-    h
-}
-
-fn entry_slot(names: &[u8], entries: &[u8], j: usize) -> usize
-    requires { ⌜ j < entryCount (now entries) ⌝ }
-    ensures { λ r. ⌜ Slot (nth (mapIn names entries) j .name) r ⌝ }
-{
-    let x = read_map_entry(entries, j);
-    let from = x.name_from as usize;
-    slot_of(names, from, from + x.name_length as usize)
-}
-
-fn rule_slot(src: &[u8], x: Rule) -> usize
-    ensures { λ r. ⌜ Slot (ruleNamesIn src x) r ⌝ }
-{
-    let from = x.name_from as usize;
-    slot_of(src, from, from + x.name_length as usize)
-}
-
-// The slots of the named rules of an area.
-pub fn index_rules(src: &[u8], area: &[u8], count: u16, slots: &mut [u16])
-    requires { ⌜ count * ruleWidth ≤ length (now area) ⌝ }
-    requires { ⌜ now slots ≡ replicate ruleSlotCount 0 ⌝ }
-    ensures { λ _. ⌜ RuleIndex (ruleNamesIn src) (before area) count (after slots) ⌝ }
-{
-    let mut k = 0;
-    while k < count {
-        let x = read_rule(area, k as usize);
-        k += 1;
-        if x.named != 1 {
-            continue;
-        }
-        let at = rule_slot(src, x);
-        slots[at] = k;
-    }
-}
-
-// Whether no rule has the name of entry j.
-pub fn is_unused_by(
-    src: &[u8],
-    area: &[u8],
-    count: u16,
-    slots: &[u16],
-    names: &[u8],
-    entries: &[u8],
-    j: usize,
-) -> bool
-    requires { ⌜ count * ruleWidth ≤ length (now area) ⌝ }
-    requires { ⌜ RuleIndex (nameOf (now src)) (now area) count (now slots) ⌝ }
-    requires { ⌜ j < entryCount (now entries) ⌝ }
-    ensures { λ r. ⌜ r ≡ isUnused (ruleNamesIn src) (rulesIn area count) (nth (mapIn names entries) j .name) ⌝ }
-{
-    let at = entry_slot(names, entries, j);
-    let number = read_slot(slots, at);
-    if number == 0 {
-        return true;
-    }
-    let x = read_rule(area, (number - 1) as usize);
-    if has_that_name(src, x, names, entries, j) {
-        return false;
-    }
-    is_unused(src, area, count, names, entries, j)
 }

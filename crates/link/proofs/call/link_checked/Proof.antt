@@ -1,9 +1,11 @@
 -- `link::call::link_checked` meets its contract: each way out is the definition's.
-use mathlib.Core.Path.{_≡_, refl, _∙_}
+use mathlib.Core.Path.{_≡_, refl, ap, _∙_}
 use mathlib.Core.Bool.{true}
 use mathlib.Core.List.{List}
 use Prim.Native.Nat.{ℕ}
+use native.Mathlib.Omega.{arith}
 use borrow.Author.Needs.{needs}
+use lib.ListN.{length}
 use Rattle.area.specs.declared.Rule.{Rule}
 use Rattle.area.specs.Contents.{contents, ruleFormat}
 use Rattle.names.specs.Names.{nameOf}
@@ -24,45 +26,30 @@ module _ (s : tie.Start) where
   abbrev es : List Entry
   es = entriesOf (s .args .names .now) (s .args .entries .now)
 
--- places short7 of returns: count-unmapped start
+-- places asking of match-rules-requires: start
+module _ (c : tie.After-used) where
+  abbrev asking-start : tie.Start
+  asking-start = c .before .before .before .before .before .before .before .before .before .before
+
+-- places over of returns: used2
 module _ (c : tie.Then1) where
-  abbrev short7-count-unmapped : tie.After-count-unmapped
-  short7-count-unmapped = c .before
+  abbrev over-used2 : tie.After-used2
+  over-used2 = c .before
 
-  abbrev short7-start : tie.Start
-  short7-start = short7-count-unmapped .before .before .before .before .before .before .before .before .before
+-- places counted of count-unused-requires: if1
+module _ (c : tie.After-used3) where
+  abbrev counted-if1 : tie.Else1
+  counted-if1 = c .before
 
--- places counted of count-unused-requires: index-rules start
-module _ (c : tie.After-rule-slots3) where
-  abbrev counted-index-rules : tie.After-index-rules
-  counted-index-rules = c .before .before .before
-
-  abbrev counted-start : tie.Start
-  counted-start = counted-index-rules .before .before .before .before .before .before .before .before .before .before .before .before .before
-
--- places short8 of returns-2: count-unused if1
-module _ (c : tie.Then2) where
-  abbrev short8-count-unused : tie.After-count-unused
-  short8-count-unused = c .before
-
-  abbrev short8-if1 : tie.Else1
-  short8-if1 = short8-count-unused .before .before .before .before .before .before .before
-
--- places asked of write-all-requires: if2 count-unused index-rules if1
+-- places asked of write-all-requires: if2 count-unused
 module _ (c : tie.After-write-all-arg3) where
   abbrev asked-if2 : tie.Else2
-  asked-if2 = c .before .before .before .before
+  asked-if2 = c .before .before .before .before .before
 
   abbrev asked-count-unused : tie.After-count-unused
   asked-count-unused = asked-if2 .before
 
-  abbrev asked-index-rules : tie.After-index-rules
-  asked-index-rules = asked-count-unused .before .before .before .before
-
-  abbrev asked-if1 : tie.Else1
-  asked-if1 = asked-index-rules .before .before .before
-
--- places written of returns-3: area8 area7 area2 write-all if2 count-unused if1
+-- places written of returns-3: area8 area7 area2 write-all if2 count-unused
 module _ (c : tie.After-slice-known6) where
   abbrev written-area8 : tie.After-area8
   written-area8 = c .before
@@ -77,94 +64,108 @@ module _ (c : tie.After-slice-known6) where
   written-write-all = written-area2 .before
 
   abbrev written-if2 : tie.Else2
-  written-if2 = written-write-all .before .before .before .before .before
+  written-if2 = written-write-all .before .before .before .before .before .before
 
   abbrev written-count-unused : tie.After-count-unused
   written-count-unused = written-if2 .before
 
-  abbrev written-if1 : tie.Else1
-  written-if1 = written-count-unused .before .before .before .before .before .before .before
+-- places all from count-unused: if1
+module _ (c : tie.After-count-unused) where
+  abbrev all-if1 : tie.Else1
+  all-if1 = c .before .before
 
--- places mapped from Else1: count-unmapped start
-module _ (c : tie.Else1) where
-  abbrev mapped-count-unmapped : tie.After-count-unmapped
-  mapped-count-unmapped = c .before
+-- places matched from used2: match-rules start
+module _ (c : tie.After-used2) where
+  abbrev matched-match-rules : tie.After-match-rules
+  matched-match-rules = c .before .before
 
-  abbrev mapped-start : tie.Start
-  mapped-start = mapped-count-unmapped .before .before .before .before .before .before .before .before .before
+  abbrev matched-start : tie.Start
+  matched-start = matched-match-rules .before .before .before .before .before .before .before .before .before .before .before
 
 -- area 7 has room
 module _ (c : tie.Else1) where
+  abbrev match : tie.After-match-rules
+  match = matched-match-rules (c .before)
+
   abbrev lent : tie.Start
-  lent = mapped-start c
+  lent = matched-start (c .before)
 
   fits-7 : fits (unmapped (name lent) (es lent) (rules lent)) (lent .args .area7 .now) ≡ true
-  fits-7 = count-fits (unmapped (name lent) (es lent) (rules lent)) (lent .args .area7 .now) _ (mapped-count-unmapped c .count-unmapped .ensures) (c .if1 .left)
+  fits-7 = count-fits (unmapped (name lent) (es lent) (rules lent)) (lent .args .area7 .now) _ (match .match-rules .ensures .missing) (c .if1 .left)
+
+match-rules-requires : tie.Need-match-rules-requires
+match-rules-requires c κs =
+    let pre = asking-start c .pre in
+    (pre .0, (pre .1 .0, (pre .1 .1, (search needs, search needs))))
 
 returns : tie.Need-returns
 returns c =
-    let s = short7-start c in
+    let s = matched-start (over-used2 c) in
+    let missing = matched-match-rules (over-used2 c) .match-rules .ensures .missing in
     short-7 (name s) (rules s) (es s) (s .args .area2 .now) (s .args .area7 .now) (s .args .area8 .now)
-    (count-over (unmapped (name s) (es s) (rules s)) (s .args .area7 .now) _ (short7-count-unmapped c .count-unmapped .ensures) (c .if1 .taken))
+    (count-over (unmapped (name s) (es s) (rules s)) (s .args .area7 .now) _ missing (c .if1 .taken))
 
 count-unused-requires : tie.Need-count-unused-requires
 count-unused-requires c κs =
-    let pre = counted-start c .pre in
-    (counted-index-rules c .index-rules .ensures, (pre .1 .0 .1, pre .1 .1))
+    let few = lent (counted-if1 c) .pre .1 .1 in
+    (few, omega (arith, few, match (counted-if1 c) .match-rules .ensures .long))
+
+-- the unused entries are counted
+module _ (c : tie.After-count-unused) where
+  abbrev room : tie.Else1
+  room = all-if1 c
+
+  idle : c .count-unused .result ≡ length (unused (name (lent room)) (es (lent room)) (rules (lent room)))
+  idle = c .count-unused .ensures ∙ ap length (match room .match-rules .ensures .idle)
 
 returns-2 : tie.Need-returns-2
 returns-2 c =
-    let s = lent (short8-if1 c) in
-    short-8 (name s) (rules s) (es s) (s .args .area2 .now) (s .args .area7 .now) (s .args .area8 .now) (fits-7 (short8-if1 c))
-    (count-over (unused (name s) (es s) (rules s)) (s .args .area8 .now) _ (short8-count-unused c .count-unused .ensures) (c .if2 .taken))
+    let s = lent (room (c .before)) in
+    short-8 (name s) (rules s) (es s) (s .args .area2 .now) (s .args .area7 .now) (s .args .area8 .now) (fits-7 (room (c .before)))
+    (count-over (unused (name s) (es s) (rules s)) (s .args .area8 .now) _ (idle (c .before)) (c .if2 .taken))
 
 write-all-requires : tie.Need-write-all-requires
 write-all-requires c κs =
-    let s = lent (asked-if1 c) in
-    let pre = s .pre in (
-      pre .1 .0,
+    let counts = asked-count-unused c in
+    let s = lent (room counts) in (
+      s .pre .1 .0,
       (
-        pre .1 .1,
+        s .pre .1 .1,
         (
-          pre .0,
-          (
-            asked-index-rules c .index-rules .ensures,
-            (
-              fits-7 (asked-if1 c),
-              count-fits (unused (name s) (es s) (rules s)) (s .args .area8 .now) _ (asked-count-unused c .count-unused .ensures) (asked-if2 c .if2 .left),
-            ),
-          ),
+          match (room counts) .match-rules .ensures,
+          (fits-7 (room counts), count-fits _ (s .args .area8 .now) _ (counts .count-unused .ensures) (asked-if2 c .if2 .left)),
         ),
       ),
     )
 
 returns-3 : tie.Need-returns-3
 returns-3 c =
-    let s = lent (written-if1 c) in
-    let missing = mapped-count-unmapped (written-if1 c) .count-unmapped in
-    let idle = written-count-unused c .count-unused in
+    let counts = written-count-unused c in
+    let s = lent (room counts) in
+    let missing = match (room counts) .match-rules in
     written-write-all c .write-all .ensures
-    ∙ none-short (name s) (rules s) (es s) (s .args .area2 .now) (s .args .area7 .now) (s .args .area8 .now) (fits-7 (written-if1 c))
-    (count-fits (unused (name s) (es s) (rules s)) (s .args .area8 .now) (idle .result) (idle .ensures) (written-if2 c .if2 .left))
-    (missing .result) (idle .result) (missing .ensures) (idle .ensures)
+    ∙ none-short (name s) (rules s) (es s) (s .args .area2 .now) (s .args .area7 .now) (s .args .area8 .now) (fits-7 (room counts))
+    (count-fits (unused (name s) (es s) (rules s)) (s .args .area8 .now) _ (idle counts) (written-if2 c .if2 .left))
+    (missing .result) (counts .count-unused .result) (missing .ensures .missing) (idle counts)
 
 pub link-checked-spec : {M : Type 1} → statement M
 link-checked-spec =
     tie.close
     (tie.spec
-    (λ c κs. search needs)
+    (λ c. search needs)
+    (λ c. search needs)
+    match-rules-requires
     (λ c. search needs)
     (λ c. search needs)
     (λ c. refl)
     returns
-    (λ c. search needs)
-    (λ c κs. search needs)
     (λ c. search needs)
     count-unused-requires
     (λ c. search needs)
     (λ c. search needs)
     (λ c. refl)
     returns-2
+    (λ c. search needs)
     (λ c. search needs)
     write-all-requires
     (λ c. written-area2 c .area2 .given)

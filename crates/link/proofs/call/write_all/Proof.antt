@@ -2,12 +2,13 @@
 use mathlib.Core.Path.{ap, _∙_}
 use mathlib.Core.List.{List}
 use Prim.Native.Nat.{ℕ}
+use native.Mathlib.Omega.{arith}
 use borrow.Author.Needs.{needs}
 use Rattle.area.specs.declared.Rule.{Rule}
-use Rattle.area.specs.Contents.{contents, ruleFormat}
+use Rattle.area.specs.Contents.{entryFormat, laid}
 use Rattle.names.specs.Names.{nameOf}
 use Rattle.link.specs.Map.{Entry, entriesOf}
-use Rattle.link.specs.Link.{unused, fits}
+use Rattle.link.specs.Link.{fits}
 use Rattle.link.proofs.Outcomes.{cleared-zeros, cleared-fits, unlinked-left, all-written}
 use Rattle.link.proofs.call.write_all.Statement.{statement}
 use Rattle.link.proofs.call.write_all.Tie as tie
@@ -21,12 +22,17 @@ module _ (s : tie.Start) where
   es = entriesOf (s .args .names .now) (s .args .entries .now)
 
 -- places first of write-unused-requires: clear start
-module _ (c : tie.After-write-unused-arg2) where
+module _ (c : tie.After-write-unused-arg) where
   abbrev first-clear : tie.After-clear
-  first-clear = c .before .before .before .before
+  first-clear = c .before .before .before
 
   abbrev first-start : tie.Start
   first-start = first-clear .before .before .before .before .before .before .before .before .before .before
+
+-- places linked of link-rules-requires: start
+module _ (c : tie.After-link-rules-arg) where
+  abbrev linked-start : tie.Start
+  linked-start = c .before .before .before .before .before .before .before .before .before .before .before .before .before .before .before .before .before
 
 -- places last of write-unlinked-requires: clear2 link-rules start
 module _ (c : tie.After-write-unlinked-arg2) where
@@ -37,7 +43,7 @@ module _ (c : tie.After-write-unlinked-arg2) where
   last-link-rules = last-clear2 .before .before .before .before
 
   abbrev last-start : tie.Start
-  last-start = last-link-rules .before .before .before .before .before .before .before .before .before .before .before .before .before .before .before .before .before .before .before
+  last-start = last-link-rules .before .before .before .before .before .before .before .before .before .before .before .before .before .before .before .before .before .before
 
 -- places done of returns: area72 write-unlinked area7 clear2 area2 link-rules area82 write-unused area8 clear start
 module _ (c : tie.After-slice-known8) where
@@ -66,7 +72,7 @@ module _ (c : tie.After-slice-known8) where
   done-write-unused = done-area82 .before
 
   abbrev done-area8 : tie.After-area8
-  done-area8 = done-write-unused .before .before .before .before
+  done-area8 = done-write-unused .before .before .before
 
   abbrev done-clear : tie.After-clear
   done-clear = done-area8 .before
@@ -78,17 +84,13 @@ write-unused-requires : tie.Need-write-unused-requires
 write-unused-requires c κs =
     let s = first-start c in
     let pre = s .pre in
-    let cleared = first-clear c .clear .ensures in
-    let ns = unused (name s) (es s) (contents ruleFormat (s .args .area2 .now) (s .args .rules)) in (
-      pre .1 .1 .1 .0,
-      (
-        pre .0 .1,
-        (
-          pre .1 .0,
-          (cleared-zeros (s .args .area8 .now) _ cleared, cleared-fits (s .args .area8 .now) _ cleared ns (pre .1 .1 .1 .1 .1)),
-        ),
-      ),
+    let cleared = first-clear c .clear .ensures in (
+      (pre .1 .0, omega (arith, pre .1 .0, pre .1 .1 .0 .long)),
+      (cleared-zeros (s .args .area8 .now) _ cleared, cleared-fits (s .args .area8 .now) _ cleared _ (pre .1 .1 .1 .1)),
     )
+
+link-rules-requires : tie.Need-link-rules-requires
+link-rules-requires c κs = (linked-start c .pre .0, linked-start c .pre .1 .1 .0 .kept)
 
 write-unlinked-requires : tie.Need-write-unlinked-requires
 write-unlinked-requires c κs =
@@ -96,14 +98,14 @@ write-unlinked-requires c κs =
     let l = s .args .area7 .now in
     let cleared = last-clear2 c .clear2 .ensures in
     let left = unlinked-left (name s) (es s) (s .args .area2 .now) (s .args .rules) _ (last-link-rules c .link-rules .ensures) in
-    (search needs, (cleared-zeros l _ cleared, cleared-fits l _ cleared _ (ap (λ ns. fits ns l) left ∙ s .pre .1 .1 .1 .1 .0)))
+    (search needs, (cleared-zeros l _ cleared, cleared-fits l _ cleared _ (ap (λ ns. fits ns l) left ∙ s .pre .1 .1 .1 .0)))
 
 returns : tie.Need-returns
 returns c =
     let s = done-start c in
+    let idle = done-write-unused c .write-unused .ensures ∙ ap (laid entryFormat _) (s .pre .1 .1 .0 .idle) in
     all-written (name s) (es s) (s .args .area2 .now) (s .args .rules) _ (done-link-rules c .link-rules .ensures) _ (s .args .area7 .now) (s .args .area8 .now)
-    _ _ _ _ (done-clear2 c .clear2 .ensures) (done-clear c .clear .ensures) (done-write-unlinked c .write-unlinked .ensures)
-    (done-write-unused c .write-unused .ensures)
+    _ _ _ _ (done-clear2 c .clear2 .ensures) (done-clear c .clear .ensures) (done-write-unlinked c .write-unlinked .ensures) idle
 
 pub write-all-spec : {M : Type 1} → statement M
 write-all-spec =
@@ -111,7 +113,7 @@ write-all-spec =
     (tie.spec
     (λ c κs. search needs)
     write-unused-requires
-    (λ c κs. search needs)
+    link-rules-requires
     (λ c κs. search needs)
     write-unlinked-requires
     (λ c. done-area2 c .area2 .given)

@@ -1,4 +1,4 @@
--- `link::rule_ids::link_rule` meets its contract: an unnamed rule is kept, a named one gets the id of its entry or none.
+-- `link::rule_ids::link_rule` meets its contract: an unnamed rule is kept, a named one gets the id of entry j or none.
 use Rattle.link.proofs.LinkedRules.{linking-rule}
 use Rattle.link.proofs.rule_ids.link_rule.Statement.{statement}
 use Rattle.link.proofs.rule_ids.link_rule.Tie as tie
@@ -8,7 +8,6 @@ link-rule-spec =
     tie.close
     (tie.spec
     (λ c. search linking-rule)
-    (λ c κs. search linking-rule)
     (λ c κs. search linking-rule)
     (λ c κs. search linking-rule)
     (λ c. search linking-rule)

@@ -11,24 +11,33 @@ use Rattle.link.proofs.rule_ids.link_rules.Statement.{statement}
 use Rattle.link.proofs.rule_ids.link_rules.Tie as tie
 
 abbrev Inv-loop : tie.InvT-loop
-Inv-loop src area₀ count names entries slots k₀ area k =
+Inv-loop src area₀ count names entries found k₀ area k =
     (k ≤ count) × (length area ≡ length area₀) × (area ≡ linkedTo (nameOf src) (entriesOf names entries) area₀ k)
 
 abbrev μ-loop : tie.MeasureT-loop
-μ-loop src area₀ count names entries slots k₀ area k = count - k
+μ-loop src area₀ count names entries found k₀ area k = count - k
 
-link-rule-requires : tie.Need-link-rule-requires Inv-loop μ-loop
-link-rule-requires c κs = c .before .before .before .before .before .before .before .before .before .before .pre .0
+-- what is lent
+abbrev lent : tie.At-loop Inv-loop μ-loop → tie.Start Inv-loop μ-loop
+lent l = l .before .before .before .before .before .before
+
+shared-slice-read-j : tie.Need-shared-slice-read-j Inv-loop μ-loop
+shared-slice-read-j c =
+    let inside = c .before .before .before in
+    let pre = lent (inside .before) .pre in
+    omega (arith, inside .loop-test .taken, pre .0 .0, pre .1 .long)
 
 loop-again : tie.Need-loop-again Inv-loop μ-loop
 loop-again c =
-    let l = c .before .before .before .before .before .before .before .before in
-    let s = l .before .before .before .before .before .before in (
+    let push = c .before .before in
+    let read = push .before .before .before .before in
+    let l = read .before .before .before in
+    let s = lent l in (
       search linking-rules,
       search linking-rules,
       rules-next (nameOf (s .args .src .now)) (entriesOf (s .args .names .now) (s .args .entries .now)) (s .args .area .now) (l .loop .k) (s .args .count) _
-          (l .loop .inv .2) (search needs) (s .pre .1 .0) (omega (arith, s .pre .1 .1, l .loop .inv .1)) _ _ _ _
-          (c .before .before .before .before .before .read-rule .ensures) (c .before .before .before .link-rule .ensures) (c .before .before .push-rule .ensures),
+          (l .loop .inv .2) (search needs) (s .pre .0 .0) (omega (arith, s .pre .0 .1, l .loop .inv .1)) _ (s .pre .1) _ _ _ _
+          (read .read-rule .ensures) (push .before .link-rule .ensures) (push .push-rule .ensures),
     )
 
 pub link-rules-spec : {M : Type 1} → statement M
@@ -40,7 +49,10 @@ link-rules-spec =
     (λ c. search linking-rules)
     (λ c. search linking-rules)
     (λ c κs. search linking-rules)
-    link-rule-requires
+    (λ c. search linking-rules)
+    (λ c. search linking-rules)
+    shared-slice-read-j
+    (λ c κs. search linking-rules)
     (λ c κs. search linking-rules)
     (λ c. search linking-rules)
     (λ c. search linking-rules)

@@ -1,8 +1,8 @@
--- `link::rule_ids::entry_of` meets its contract: the range that is looked for is the rule's name.
+-- `link::matches::entry_of` meets its contract: the range that is looked for is the rule's name.
 use Rattle.names.specs.Names.{nameOf}
 use Rattle.link.proofs.LinkedRules.{linking-rule}
-use Rattle.link.proofs.rule_ids.entry_of.Statement.{statement}
-use Rattle.link.proofs.rule_ids.entry_of.Tie as tie
+use Rattle.link.proofs.matches.entry_of.Statement.{statement}
+use Rattle.link.proofs.matches.entry_of.Tie as tie
 
 returns : tie.Need-returns
 unfolding nameOf
