@@ -1,27 +1,24 @@
 -- Slots of the rules. Where the slot of a name is 0, none of the names has its bytes, for the same bytes give the same slot; so a search that is
 -- spared would have found nothing.
 use mathlib.Core.Path.{_≡_, refl, sym, ap, subst, _∙_}
-use mathlib.Core.Bool.{Bool, true, false, not, _&&_, true≢false, false≢true}
+use mathlib.Core.Bool.{Bool, true, false, not, _&&_, true≢false}
 use mathlib.Core.List.{List, _∷_}
 use mathlib.Core.Logic.{_⊎_, ⊎-elim}
 use Prim.Native.Nat.{ℕ, suc, _+_, _*_, _-_, _%_, _≤_, _<_, min}
 use native.Mathlib.Numerals.{add-one}
 use native.Mathlib.Omega.{arith}
 use borrow.Author.Needs.{needs}
-use borrow.Author.Tests.{eqb-true, eqb-false, eq-eqb, ne-eqb}
+use borrow.Author.Tests.{eqb-true, eqb-false, ne-eqb}
 use lib.Dec.{eqb}
 use lib.ListN.{length, getD, set, drop, replicate, length-drop, length-set, length-replicate, getD-replicate, List·getD-eq-default}
 use lib.Seq.{drop-cons, take-all, getD-set-same, getD-set-other}
 use Rattle.characters.specs.Whitespace.{byte}
-use Rattle.characters.specs.Walk.{first, Between}
 use Rattle.text.specs.Range.{part, sameBytes}
 use Rattle.characters.proofs.Tests.{le-or-lt}
-use Rattle.text.proofs.Ranges.{part-none, same-equal, same-self}
-use Rattle.characters.proofs.Walks.{first-here, first-over}
+use Rattle.text.proofs.Ranges.{part-none}
 use Rattle.area.specs.declared.Rule.{Rule}
 use Rattle.area.specs.Records.{nthRule, ruleAt}
 use Rattle.area.specs.Contents.{contents, ruleFormat}
-use Rattle.area.specs.Lists.{allBelow}
 use Rattle.area.proofs.Contents.{contents-count, contents-read}
 use Rattle.area.proofs.All.{all-from}
 use Rattle.link.specs.declared.MapEntry.{MapEntry}
