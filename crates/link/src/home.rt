@@ -1,5 +1,5 @@
 // The home of a name: the slot of the index at which the search for it begins. Equal names have the same home, and nothing else is used of it.
-// It comes from Fletcher's checksum, which has to wait for no multiplication between two numbers of a long name.
+// It is made of Fletcher's checksum of the bytes: over a long name, additions are quicker than multiplications one after the other.
 ghost use mathlib.Core.Path.{_≡_};
 ghost use Prim.Native.Nat.{_+_, _*_, _-_, _≤_};
 ghost use lib.ListN.{length};

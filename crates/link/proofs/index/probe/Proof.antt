@@ -1,5 +1,5 @@
 -- `link::index::probe` meets its contract: the slots that it has passed are taken by entries of other names.
-use mathlib.Core.Path.{_≡_, sym, _∙_}
+use mathlib.Core.Path.{sym, _∙_}
 use Prim.Native.Nat.{_-_}
 use native.Mathlib.Omega.{arith}
 use borrow.Author.Needs.{needs}
