@@ -12,7 +12,7 @@ use Rattle.area.specs.Records.{entryWidth}
 use Rattle.area.specs.Contents.{contents, ruleFormat}
 use Rattle.area.specs.Lists.{numbers}
 use Rattle.area.proofs.Numbers.{count-none, passesAt, records-numbered}
-use Rattle.link.specs.Map.{Entry}
+use Rattle.name_map.specs.Map.{Entry}
 use Rattle.link.specs.Link.{isUnmapped, isUnlinked, unmapped, unlinked, fits}
 
 -- whether the list fits, as a fact about numbers

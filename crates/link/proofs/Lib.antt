@@ -1,9 +1,6 @@
-pub mod Maps
 pub mod LinkedRules
 pub mod Counting
 pub mod Outcomes
 pub mod LinkLaws
-pub mod Homes
-pub mod Probing
 pub mod Matching
 pub mod LinkWords

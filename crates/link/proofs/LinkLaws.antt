@@ -24,9 +24,9 @@ use Rattle.area.proofs.All.{all-map}
 use Rattle.sheet_check.proofs.Checked.{GoodRecords, good-rule, checked-sizes, checked-long, checked-records, rules-count}
 use Rattle.link.specs.declared.LinkAnswer.{LinkAnswer}
 use Rattle.link.specs.declared.LinkAnswer.the-variants.{Linked, BrokenSheet, BrokenMap, AreaFull}
-use Rattle.link.specs.Map.{Entry, entriesOf, nth, idAt, idOf, distinct, mapCheck}
+use Rattle.name_map.specs.Map.{Entry, entriesOf, nth, idAt, idOf, distinct, mapCheck}
 use Rattle.link.specs.Link.{isNamed, withId, withFound, linkRule, linkRules, LinkLeft, linkLeft, fits, unmapped, unused, linkAll, linkChecked, linkCall}
-use Rattle.link.proofs.Maps.{entry-first}
+use Rattle.name_map.proofs.Maps.{entry-first}
 use Rattle.link.proofs.Outcomes.{link-count, link-at, rules-read-back}
 
 -- ---- a rule

@@ -16,11 +16,11 @@ use Rattle.area.specs.Contents.{contents, ruleFormat, relaid}
 use Rattle.area.proofs.Areas.{pushed-length}
 use Rattle.area.proofs.Contents.{rule-sound}
 use Rattle.area.proofs.Relaid.{rule-local, after-none, after-read, after-next, after-all, record-inside, pushed-writes}
-use Rattle.link.specs.declared.MapEntry.{MapEntry}
-use Rattle.link.specs.Map.{mapEntryAt, entryCount, Entry, entryOf, entriesOf, nth, findEntry, idAt, idOf}
+use Rattle.name_map.specs.declared.MapEntry.{MapEntry}
+use Rattle.name_map.specs.Map.{mapEntryAt, entryCount, Entry, entryOf, entriesOf, nth, findEntry, idAt, idOf}
 use Rattle.link.specs.Link.{isNamed, withId, withFound, linkRule, linkRules}
 use Rattle.link.specs.Matches.{EntriesFound, linkTo}
-use Rattle.link.proofs.Maps.{entries-count, entries-at}
+use Rattle.name_map.proofs.Maps.{entries-count, entries-at}
 
 -- ---- a rule
 

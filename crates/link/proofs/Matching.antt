@@ -20,10 +20,10 @@ use Rattle.area.specs.Contents.{contents, ruleFormat}
 use Rattle.area.specs.Lists.{numbers}
 use Rattle.area.proofs.All.{all-none, all-next}
 use Rattle.area.proofs.Numbers.{count-none, count-yes, count-no, counted, passesAt, record-fails, record-passes}
-use Rattle.link.specs.Map.{mostEntries, entryCount, Entry, entriesOf, nth, findEntry, idAt, idOf, distinct}
+use Rattle.name_map.specs.Map.{mostEntries, entryCount, Entry, entriesOf, nth, findEntry, idAt, idOf, distinct}
 use Rattle.link.specs.Link.{isNone, isUnmapped, hasThatName, isUnused, unused}
 use Rattle.link.specs.Matches.{unmarked, EntriesFound, Matched}
-use Rattle.link.proofs.Maps.{entries-count, entry-first}
+use Rattle.name_map.proofs.Maps.{entries-count, entry-first}
 use Rattle.link.proofs.Counting.{unmapped-is}
 
 -- ---- an entry by a name

@@ -22,7 +22,7 @@ use Rattle.area.proofs.Numbers.{numbers-same}
 use Rattle.sheet_check.proofs.Checked.{checked-long, checked-counts}
 use Rattle.link.specs.declared.LinkAnswer.{LinkAnswer}
 use Rattle.link.specs.declared.LinkAnswer.the-variants.{Linked, BrokenSheet, BrokenMap, AreaFull}
-use Rattle.link.specs.Map.{mapWidth, mostEntries, mapFormat, entryCount, Entry, entriesOf, idOf, nameInside, distinct, mapCheck}
+use Rattle.name_map.specs.Map.{mapWidth, mostEntries, mapFormat, entryCount, Entry, entriesOf, idOf, nameInside, distinct, mapCheck}
 use Rattle.link.specs.Link.{isNamed, withId, withFound, linkRule, linkRules, isNone, isUnmapped, isUnlinked, unmapped, unlinked, unused, linkLeft, fits, linkAll, linkChecked, linkCall}
 
 -- ---- linked rules

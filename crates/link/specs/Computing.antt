@@ -6,27 +6,18 @@ use Rattle.area.specs.Computing.{computing as area-computing}
 use Rattle.names.specs.Computing.{computing as names-computing}
 use Rattle.parse.specs.Computing.{computing as parse-computing}
 use Rattle.sheet_check.specs.Computing.{computing as sheet-check-computing}
-use Rattle.link.specs.Home.{addNumber, addNumbers, checksum, homeBy, homeOf}
+use Rattle.name_map.specs.Computing.{computing as name-map-computing}
 use Rattle.link.specs.Link.{withId, withFound, isNone, isUnlinked, unlinked, linkRule, linkRules, isUnmapped, hasThatName, isUnused, unmapped, unused, fits, linkAll, linkChecked, linkCall, linkFields}
-use Rattle.link.specs.Map.{mapEntryFields, mapEntryOf, mapEntryAt, entryOf, entriesOf, findEntry, idAt, idOf, distinct, nameInside, mapCheck}
 use Rattle.link.specs.Matches.{linkTo}
-
-unfoldable home-file : Unit {0}
-unfolding addNumber addNumbers checksum homeBy homeOf
-home-file = tt
 
 unfoldable link-file : Unit {0}
 unfolding withId withFound isNone isUnlinked unlinked linkRule linkRules isUnmapped hasThatName isUnused unmapped unused fits linkAll linkChecked linkCall linkFields
 link-file = tt
-
-unfoldable map-file : Unit {0}
-unfolding mapEntryFields mapEntryOf mapEntryAt entryOf entriesOf findEntry idAt idOf distinct nameInside mapCheck
-map-file = tt
 
 unfoldable matches-file : Unit {0}
 unfolding linkTo
 matches-file = tt
 
 unfoldable pub computing : Unit {0}
-unfolding characters-computing text-computing area-computing names-computing parse-computing sheet-check-computing home-file link-file map-file matches-file
+unfolding characters-computing text-computing area-computing names-computing parse-computing sheet-check-computing name-map-computing link-file matches-file
 computing = tt

@@ -1,15 +1,10 @@
--- What the contracts of the code speak of: the map and the rules that are lent.
+-- What the contracts of the code speak of: the rules that are lent.
 use Prim.Native.Nat.{ℕ}
 use mathlib.Core.List.{List}
 use Rattle.area.specs.declared.Rule.{Rule}
 use Rattle.area.specs.Contents.{contents, ruleFormat}
 use Rattle.names.specs.Names.{nameOf}
 use Rattle.area.specs.Contracts.{Bytes, before}
-use Rattle.link.specs.Map.{Entry, entriesOf}
-
--- the map
-abbrev pub mapIn : Bytes → Bytes → List Entry
-mapIn names entries = entriesOf (before names) (before entries)
 
 -- so many rules of area 2
 abbrev pub rulesIn : Bytes → ℕ → List Rule

@@ -15,7 +15,7 @@ use Rattle.answers.specs.Words.{Fields, fields, word}
 use Rattle.sheet_check.specs.SheetCheck.{SheetBytes, nameIn, decoded, sheetCheck}
 use Rattle.link.specs.declared.LinkAnswer.{LinkAnswer}
 use Rattle.link.specs.declared.LinkAnswer.the-variants.{Linked, BrokenSheet, BrokenMap, AreaFull}
-use Rattle.link.specs.Map.{Entry, entry, entriesOf, idOf, mapCheck}
+use Rattle.name_map.specs.Map.{Entry, entry, entriesOf, idOf, mapCheck}
 
 -- ---- a rule
 

@@ -9,7 +9,7 @@ use Rattle.area.specs.declared.Rule.{Rule}
 use Rattle.area.specs.Records.{mostRules, ruleAt}
 use Rattle.area.specs.Contents.{contents, ruleFormat}
 use Rattle.area.specs.Lists.{numbers}
-use Rattle.link.specs.Map.{mostEntries, entryCount, Entry, entriesOf, findEntry, idAt}
+use Rattle.name_map.specs.Map.{mostEntries, entryCount, Entry, entriesOf, findEntry, idAt}
 use Rattle.link.specs.Link.{isNamed, withFound, unmapped, unused}
 
 -- a named rule gets the id of entry j or none, an unnamed one keeps its own

@@ -4,15 +4,16 @@ ghost use Prim.Native.Nat.{_*_, _≤_};
 ghost use lib.ListN.{length, replicate};
 ghost use Rattle.characters.specs.Walk.{Between};
 ghost use Rattle.area.specs.Records.{ruleWidth, mostRules};
-ghost use Rattle.link.specs.Map.{mostEntries, entryCount, findEntry};
-ghost use Rattle.link.specs.Index.{EntryIndex};
+ghost use Rattle.name_map.specs.Map.{mostEntries, entryCount, findEntry};
+ghost use Rattle.name_map.specs.Index.{EntryIndex};
 ghost use Rattle.link.specs.Matches.{Matched};
 ghost use Rattle.area.specs.Contracts.{before, after};
-ghost use Rattle.link.specs.Contracts.{mapIn, ruleNamesIn};
-use crate::index::find_by;
-use crate::map::MAP_WIDTH;
+ghost use Rattle.name_map.specs.Contracts.{mapIn};
+ghost use Rattle.link.specs.Contracts.{ruleNamesIn};
 use area::Rule;
 use area::read_rule;
+use name_map::index::find_by;
+use name_map::map::MAP_WIDTH;
 
 // The entry with a rule's name, or the number of entries.
 fn entry_of(src: &[u8], names: &[u8], entries: &[u8], slots: &[u16], x: Rule) -> usize

@@ -7,7 +7,7 @@ ghost use lib.Seq.{sets};
 ghost use Rattle.area.specs.Bytes.{zeros};
 ghost use Rattle.area.specs.Records.{ruleWidth, entryWidth, entryBytes};
 ghost use Rattle.area.specs.Contents.{contents, ruleFormat, entryFormat, laid};
-ghost use Rattle.link.specs.Map.{mostEntries};
+ghost use Rattle.name_map.specs.Map.{mostEntries};
 ghost use Rattle.link.specs.Link.{isUnlinked, unlinked, fits};
 ghost use Rattle.link.specs.Matches.{unmarked};
 ghost use Rattle.area.specs.Contracts.{before, after};

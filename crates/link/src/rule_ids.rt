@@ -5,16 +5,17 @@ ghost use lib.ListN.{length};
 ghost use Rattle.area.specs.Records.{ruleWidth, mostRules};
 ghost use Rattle.area.specs.Contents.{ruleFormat, relaid};
 ghost use Rattle.names.specs.Names.{nameOf};
-ghost use Rattle.link.specs.Map.{entriesOf};
+ghost use Rattle.name_map.specs.Map.{entriesOf};
 ghost use Rattle.link.specs.Link.{withId, linkRules};
 ghost use Rattle.link.specs.Matches.{EntriesFound, linkTo};
 ghost use Rattle.area.specs.Contracts.{before, after};
-ghost use Rattle.link.specs.Contracts.{mapIn, rulesIn, ruleNamesIn};
-use crate::map::MAP_WIDTH;
-use crate::map::read_map_entry;
+ghost use Rattle.name_map.specs.Contracts.{mapIn};
+ghost use Rattle.link.specs.Contracts.{rulesIn, ruleNamesIn};
 use area::Rule;
 use area::push_rule;
 use area::read_rule;
+use name_map::map::MAP_WIDTH;
+use name_map::map::read_map_entry;
 
 fn with_id(x: Rule, has: u16, id: u16) -> Rule
     ensures { λ r. ⌜ r ≡ withId has id x ⌝ }

@@ -26,10 +26,10 @@ use Rattle.sheet_check.specs.Pattern.{hasRule, partOf, patternPart, patternFiel
 use Rattle.area.proofs.Contents.{contents-count, contents-read}
 use Rattle.area.proofs.Numbers.{numbers-few}
 use Rattle.sheet_check.proofs.Checked.{rules-count, checked-counts}
-use Rattle.link.specs.Map.{Entry, nth, mapWidth, mostEntries, mapFormat, entryCount, entriesOf, nameInside, distinct, mapCheck}
+use Rattle.name_map.specs.Map.{Entry, nth, mapWidth, mostEntries, mapFormat, entryCount, entriesOf, nameInside, distinct, mapCheck}
 use Rattle.link.specs.Link as L
 use Rattle.link.specs.Link.{isUnmapped, isUnused, unmapped, unused, LinkLeft, linkAll, linkChecked, linkCall, linkFields}
-use Rattle.link.proofs.Maps.{entries-count}
+use Rattle.name_map.proofs.Maps.{entries-count}
 use Rattle.run.specs.declared.Begun.{Begun}
 use Rattle.run.specs.declared.Begun.the-variants.{Started, StartRefused}
 use Rattle.run.specs.declared.Step.{Step}

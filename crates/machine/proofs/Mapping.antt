@@ -9,8 +9,8 @@ use Rattle.text.specs.Range.{part}
 use Rattle.area.specs.Bytes.{fieldAt, fieldFrom}
 use Rattle.area.specs.Contents.{contents}
 use Rattle.area.proofs.Contents.{listOf-is}
-use Rattle.link.specs.declared.MapEntry.{MapEntry}
-use Rattle.link.specs.Map.{Entry, entry, mapWidth, mapFormat, mapEntryOf, mapEntryAt, entryOf, entryCount, entriesOf}
+use Rattle.name_map.specs.declared.MapEntry.{MapEntry}
+use Rattle.name_map.specs.Map.{Entry, entry, mapWidth, mapFormat, mapEntryOf, mapEntryAt, entryOf, entryCount, entriesOf}
 use Rattle.machine.specs.File.{number, mapOf}
 
 -- the first n entries

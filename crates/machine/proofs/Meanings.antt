@@ -14,7 +14,7 @@ use Rattle.characters.proofs.Tests.{by-test, and-left, and-right, or-true, or-c
 use Rattle.text.proofs.Ranges.{same-equal, same-self}
 use Rattle.area.specs.Lists.{all}
 use Rattle.area.proofs.All.{all-at}
-use Rattle.link.specs.Map.{Entry}
+use Rattle.name_map.specs.Map.{Entry}
 use Rattle.run.specs.declared.Step.the-variants.{RowMismatch, Done, Stopped}
 use Rattle.run.specs.Run.{Input}
 use Rattle.machine.specs.File.{FileState, FileRule}

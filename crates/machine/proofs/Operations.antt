@@ -15,7 +15,7 @@ use Rattle.area.specs.declared.Rule.{Rule}
 use Rattle.area.specs.Records.{entryWidth, nthRule}
 use Rattle.area.specs.Contents.{entryFormat, relaid}
 use Rattle.parse.specs.Parse.{Contents}
-use Rattle.link.specs.Map.{Entry, idOf}
+use Rattle.name_map.specs.Map.{Entry, idOf}
 use Rattle.link.specs.Link.{isNamed, withId, withFound, linkRule, linkRules}
 use Rattle.link.proofs.LinkLaws.{link-changes-ids}
 use Rattle.link.proofs.Outcomes.{link-at}

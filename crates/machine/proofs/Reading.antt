@@ -20,7 +20,7 @@ use Rattle.area.specs.Contents.{contents, entryFormat}
 use Rattle.area.proofs.Contents.{listOf-is}
 use Rattle.area.specs.Lists.{all}
 use Rattle.parse.specs.Parse.{Contents}
-use Rattle.link.specs.Map.{Entry, nth, findEntry, idAt, idOf}
+use Rattle.name_map.specs.Map.{Entry, nth, findEntry, idAt, idOf}
 use Rattle.run.specs.Winner.{findInList, inList, live}
 use Rattle.run.specs.Run.{goodRow}
 use Rattle.run_laws.proofs.Stacks.{entry-bytes}

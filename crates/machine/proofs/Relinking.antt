@@ -14,7 +14,7 @@ use Rattle.sheet_check.specs.SheetCheck.{SheetBytes, nameIn, decoded, sheetChec
 use Rattle.area.specs.Lists.{all}
 use Rattle.link.specs.declared.LinkAnswer.{LinkAnswer}
 use Rattle.link.specs.declared.LinkAnswer.the-variants.{Linked, BrokenSheet, BrokenMap, AreaFull}
-use Rattle.link.specs.Map.{Entry, entry, nth, mapWidth, mostEntries, mapFormat, entryCount, entriesOf, idOf, nameInside, distinct, mapCheck}
+use Rattle.name_map.specs.Map.{Entry, entry, nth, mapWidth, mostEntries, mapFormat, entryCount, entriesOf, idOf, nameInside, distinct, mapCheck}
 use Rattle.link.specs.Link.{LinkLeft, linkLeft, linkRules, fits, unmapped, unused, linkAll, linkChecked, linkCall}
 use Rattle.link.proofs.LinkLaws.{linked-contents, linked-passes, entry-id}
 use borrow.Author.Tests.{eqb-true}

@@ -12,7 +12,7 @@ use lib.ListN.{length, length-map}
 use Rattle.area.specs.declared.Rule.{Rule}
 use Rattle.area.specs.Records.{nthRule}
 use Rattle.parse.specs.Parse.{Contents}
-use Rattle.link.specs.Map.{Entry}
+use Rattle.name_map.specs.Map.{Entry}
 use Rattle.link.specs.Link.{linkRules}
 use Rattle.link.proofs.Outcomes.{link-count, link-at}
 use Rattle.run.specs.declared.Step.{Step}

@@ -14,7 +14,7 @@ use Rattle.sheet_check.specs.SheetCheck.{SheetBytes, nameIn, decoded}
 use Rattle.parsed_sheet.proofs.Accepting.{accepted-holds}
 use Rattle.parsed_sheet.proofs.Decoding.{accepted-decodes, accepted-checks, answer-accepted}
 use Rattle.parsed_sheet.proofs.Growing.{accepted-meaning}
-use Rattle.link.specs.Map.{Entry, entriesOf}
+use Rattle.name_map.specs.Map.{Entry, entriesOf}
 use Rattle.run.specs.declared.Begun.{Begun}
 use Rattle.run.specs.declared.Begun.the-variants.{Started}
 use Rattle.run.specs.Winner.{Lexer}

@@ -7,7 +7,7 @@ use lib.ListN.{length}
 use Rattle.area.specs.declared.Rule.{Rule}
 use Rattle.parse.specs.Parse.{Contents}
 use Rattle.sheet_check.specs.SheetCheck.{SheetBytes, decoded, sheetCheck}
-use Rattle.link.specs.Map.{Entry}
+use Rattle.name_map.specs.Map.{Entry}
 use Rattle.run.specs.declared.Step.{Step}
 use Rattle.run.specs.declared.Step.the-variants.{Unlinked}
 use Rattle.run.specs.Winner.{Lexer, lexerOf}

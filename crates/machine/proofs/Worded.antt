@@ -16,7 +16,7 @@ use Rattle.parse.specs.Parse.{parseFields, parseWord}
 use Rattle.sheet_check.specs.SheetCheck.{SheetBytes}
 use Rattle.link.specs.declared.LinkAnswer.{LinkAnswer}
 use Rattle.link.specs.declared.LinkAnswer.the-variants as L
-use Rattle.link.specs.Map.{Entry}
+use Rattle.name_map.specs.Map.{Entry}
 use Rattle.link.specs.Link.{linkFields, linkWord}
 use Rattle.run.specs.declared.Begun.{Begun}
 use Rattle.run.specs.declared.Begun.the-variants.{Started, StartRefused}

@@ -13,7 +13,7 @@ use Rattle.parse.specs.Parse.{Caps, parseCall}
 use Rattle.sheet_check.specs.SheetCheck.{SheetBytes, sheetBytes}
 use Rattle.parsed_sheet.specs.Accepted.{sheetLeftBy}
 use Rattle.link.specs.declared.LinkAnswer.the-variants.{Linked}
-use Rattle.link.specs.Map.{Entry}
+use Rattle.name_map.specs.Map.{Entry}
 use Rattle.link.specs.Link.{LinkLeft, linkCall}
 use Rattle.run.specs.declared.Run.{Run}
 use Rattle.run.specs.declared.Begun.{Begun}

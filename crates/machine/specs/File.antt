@@ -10,7 +10,7 @@ use Rattle.area.specs.declared.Rule.{Rule}
 use Rattle.section.specs.Request.{Request}
 use Rattle.parse.specs.Parse.{Contents, Outcome, longFile, unknownFlag, invalidUtf8, areaFull, faulty, accepted}
 use Rattle.parsed_sheet.specs.Meaning.{meaning}
-use Rattle.link.specs.Map.{Entry, entry}
+use Rattle.name_map.specs.Map.{Entry, entry}
 
 -- what a rule does to the stack: nothing, leave a state alone on it, add one at the end, drop the last
 pub data Operation : Type 0 where

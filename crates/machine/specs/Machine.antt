@@ -7,7 +7,7 @@ use lib.Dec.{eqb, ltb, leb}
 use lib.ListN.{length, getD, take}
 use Rattle.text.specs.Range.{sameBytes}
 use Rattle.area.specs.Lists.{all}
-use Rattle.link.specs.Map.{Entry}
+use Rattle.name_map.specs.Map.{Entry}
 use Rattle.run.specs.declared.Step.{Step}
 use Rattle.run.specs.declared.Step.the-variants.{RowMismatch, Done, Stopped, Unlinked, Skip, Token}
 use Rattle.run.specs.Run.{Input}

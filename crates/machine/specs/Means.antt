@@ -7,7 +7,7 @@ use mathlib.Core.List.{List, []}
 use mathlib.Core.Logic.{_⊎_}
 use mathlib.Core.Option.{none, some}
 use lib.ListN.{length, getD, getElem?}
-use Rattle.link.specs.Map.{Entry}
+use Rattle.name_map.specs.Map.{Entry}
 use Rattle.run.specs.declared.Step.{Step}
 use Rattle.run.specs.declared.Step.the-variants.{BrokenSheet, BrokenRun, RowMismatch, Done, Stopped, Unlinked, Skip, Token}
 use Rattle.run.specs.Run.{Input}

@@ -9,7 +9,7 @@ use lib.ListN.{length}
 use Rattle.area.specs.declared.Rule.{Rule}
 use Rattle.area.specs.Contents.{contents, ruleFormat}
 use Rattle.names.specs.Names.{nameOf}
-use Rattle.link.specs.Map.{Entry, entriesOf}
+use Rattle.name_map.specs.Map.{Entry, entriesOf}
 use Rattle.link.specs.Link.{unmapped, unused, fits}
 use Rattle.link.proofs.Outcomes.{count-fits, count-over, short-7, short-8, none-short}
 use Rattle.link.proofs.call.link_checked.Statement.{statement}

@@ -7,7 +7,7 @@ use borrow.Author.Needs.{needs}
 use Rattle.area.specs.declared.Rule.{Rule}
 use Rattle.area.specs.Contents.{entryFormat, laid}
 use Rattle.names.specs.Names.{nameOf}
-use Rattle.link.specs.Map.{Entry, entriesOf}
+use Rattle.name_map.specs.Map.{Entry, entriesOf}
 use Rattle.link.specs.Link.{fits}
 use Rattle.link.proofs.Outcomes.{cleared-zeros, cleared-fits, unlinked-left, all-written}
 use Rattle.link.proofs.call.write_all.Statement.{statement}

@@ -4,7 +4,7 @@ use Prim.Native.Nat.{ℕ, _≤_, _-_}
 use native.Mathlib.Omega.{arith}
 use lib.ListN.{length, length-replicate}
 use Rattle.names.specs.Names.{nameOf}
-use Rattle.link.specs.Map.{mostEntries}
+use Rattle.name_map.specs.Map.{mostEntries}
 use Rattle.link.proofs.Counting.{counting}
 use Rattle.link.proofs.Matching.{Matching, matching-none, matching-unnamed, matching-found, matching-missing, matched}
 use Rattle.link.proofs.matches.match_rules.Statement.{statement}

@@ -5,7 +5,7 @@ use native.Mathlib.Omega.{arith}
 use borrow.Author.Needs.{needs}
 use lib.ListN.{length}
 use Rattle.names.specs.Names.{nameOf}
-use Rattle.link.specs.Map.{entriesOf}
+use Rattle.name_map.specs.Map.{entriesOf}
 use Rattle.link.proofs.LinkedRules.{linking-rules, linkedTo, rules-next}
 use Rattle.link.proofs.rule_ids.link_rules.Statement.{statement}
 use Rattle.link.proofs.rule_ids.link_rules.Tie as tie

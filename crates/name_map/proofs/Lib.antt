@@ -1,0 +1,3 @@
+pub mod Maps
+pub mod Homes
+pub mod Probing
