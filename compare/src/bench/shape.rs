@@ -39,7 +39,7 @@ pub struct Work {
 pub enum Note {
     /// A walk that does less than a parse.
     BareWalk(Box<dyn Fn() -> Duration>),
-    /// The sheet check alone, which is a part of our time.
+    /// Another call that does the sheet check and little else.
     SheetCheck(Box<dyn Fn(&Library) -> Duration>),
 }
 

@@ -146,12 +146,9 @@ fn spread(times: &Spread) -> String {
 
 fn note_line(note: &Note, time: f64, times: &Times) -> String {
     let told = microseconds(time);
-    match (note, times.sides.last()) {
-        (Note::SheetCheck(_), Some(ours)) => {
-            let share = 100.0 * time / ours.median;
-            format!("of ours the sheet check, by pattern_test: {told} microseconds, {share:.0} of 100")
-        }
-        _ => {
+    match note {
+        Note::SheetCheck(_) => format!("pattern_test, which does little but the sheet check: {told} microseconds"),
+        Note::BareWalk(_) => {
             let ratio = times.original / time;
             format!("a bare walk, which does less than a parse: {told} microseconds, original ÷ it {ratio:.2}")
         }
