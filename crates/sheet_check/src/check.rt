@@ -1,7 +1,7 @@
-// The sheet check (01, Linking, the end). Every record is read once and its tests are joined without a branch, since the calls
-// of the run ask for the check at each step, and mostly of a sheet that passes.
+// The sheet check (01, Linking, the end). The run asks for it at each step, and mostly of a sheet that passes: the tests of a record are
+// joined without a branch, and the rules, the longest of the records, go by a quick test of eight fields at a time first.
 ghost use mathlib.Core.Path.{_≡_};
-ghost use Prim.Native.Nat.{_*_, _≤_};
+ghost use Prim.Native.Nat.{_*_, _≤_, min};
 ghost use lib.Dec.{leb};
 ghost use lib.ListN.{length};
 ghost use Rattle.area.specs.Records.{stateWidth, ruleWidth, entryWidth, expectedWidth};
@@ -11,6 +11,7 @@ ghost use Rattle.sheet_check.specs.SheetCheck.{sizesOf, goodCounts, good
 ghost use Rattle.sheet_check.specs.Contracts.{sheetIn, AreasLong};
 ghost use Rattle.area.specs.Contracts.{before};
 use crate::Sizes;
+use crate::lanes::quick_rules;
 use area::ENTRY_WIDTH;
 use area::EXPECTED_WIDTH;
 use area::Expected;
@@ -89,13 +90,14 @@ fn good_states(sizes: Sizes, area: &[u8]) -> bool
     ensures { λ r. ⌜ r ≡ all (goodState sizes) (contents stateFormat (before area) (sizes .states)) ⌝ }
 {
     let most = sizes.states as usize;
-    let mut good = true;
     let mut k = 0;
     while k < most {
-        good = good & good_state(sizes, read_state(area, k));
+        if !good_state(sizes, read_state(area, k)) {
+            return false;
+        }
         k += 1;
     }
-    good
+    true
 }
 
 fn good_rules(sizes: Sizes, area: &[u8]) -> bool
@@ -110,6 +112,35 @@ fn good_rules(sizes: Sizes, area: &[u8]) -> bool
         k += 1;
     }
     good
+}
+
+// A limit of a sum: at most 65,534, so that a sum that was cut is above it.
+fn sum_limit(n: usize) -> u16
+    ensures { λ r. ⌜ r ≡ min n 65534 ⌝ }
+{
+    if n < 65534 {
+        return n as u16;
+    }
+    65534
+}
+
+// The quick test first, which the rules of a sheet mostly pass.
+fn rules_pass(sizes: Sizes, area: &[u8]) -> bool
+    requires { ⌜ sizes .rules * ruleWidth ≤ length (now area) ⌝ }
+    requires { ⌜ 1 ≤ sizes .states ⌝ }
+    ensures { λ r. ⌜ r ≡ all (goodRule sizes) (contents ruleFormat (before area) (sizes .rules)) ⌝ }
+{
+    if quick_rules(
+        area,
+        sizes.rules,
+        sum_limit(sizes.source),
+        sizes.states - 1,
+        sum_limit(sizes.entries as usize),
+        sum_limit(sizes.text as usize),
+    ) {
+        return true;
+    }
+    good_rules(sizes, area)
 }
 
 // Also whether the ids in use on the stack of a run are declared.
@@ -172,6 +203,7 @@ fn good_sizes(sizes: Sizes) -> bool
 // Area 4 and the source are asked for their lengths alone.
 fn good_records(sizes: Sizes, area1: &[u8], area2: &[u8], area3: &[u8], area5: &[u8]) -> bool
     requires { ⌜ AreasLong sizes (now area1) (now area2) (now area3) (now area5) ⌝ }
+    requires { ⌜ 1 ≤ sizes .states ⌝ }
     ensures { λ r. ⌜
         r ≡ goodRecords sizes
         (contents stateFormat (before area1) (sizes .states))
@@ -180,11 +212,16 @@ fn good_records(sizes: Sizes, area1: &[u8], area2: &[u8], area3: &[u8], area5: &
         (contents expectedFormat (before area5) (sizes .expected))
         ⌝ }
 {
-    let states = good_states(sizes, area1);
-    let rules = good_rules(sizes, area2);
-    let entries = good_entries(area3, sizes.entries, sizes.states);
-    let names = good_names(sizes, area5);
-    states & rules & entries & names
+    if !good_states(sizes, area1) {
+        return false;
+    }
+    if !rules_pass(sizes, area2) {
+        return false;
+    }
+    if !good_entries(area3, sizes.entries, sizes.states) {
+        return false;
+    }
+    good_names(sizes, area5)
 }
 
 fn sizes_of(
