@@ -99,8 +99,8 @@ fn join(
     lower: &[u16; 8],
     sums: &[u16; 8],
     more: &[u16; 8],
-    fields: &mut [u16],
-    totals: &mut [u16],
+    fields: &mut [u16; 8],
+    totals: &mut [u16; 8],
 )
     requires { ⌜ at + ruleWidth ≤ length (now area) ⌝ }
     requires { ⌜ (length (now fields) ≡ laneCount) × (length (now totals) ≡ laneCount) ⌝ }
@@ -118,7 +118,7 @@ fn join(
     }
 }
 
-fn none(fields: &[u16], totals: &[u16]) -> bool
+fn none(fields: &[u16; 8], totals: &[u16; 8]) -> bool
     requires { ⌜ (length (now fields) ≡ laneCount) × (length (now totals) ≡ laneCount) ⌝ }
     ensures { λ r. ⌜ (r ≡ true → AllZero (before fields) (before totals)) ⌝ }
 {

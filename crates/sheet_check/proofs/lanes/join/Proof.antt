@@ -3,7 +3,6 @@ use mathlib.Core.Path.{_≡_}
 use Prim.Native.Nat.{_≤_, _-_}
 use native.Mathlib.Omega.{arith}
 use borrow.Author.Needs.{needs}
-use lib.ListN.{length}
 use Rattle.sheet_check.specs.Lanes.{laneCount, Joined}
 use Rattle.sheet_check.proofs.LaneLaws.{joined-none, joined-next, fields-at, sum-at, joined-all}
 use Rattle.sheet_check.proofs.lanes.join.Statement.{statement}
@@ -11,7 +10,7 @@ use Rattle.sheet_check.proofs.lanes.join.Tie as tie
 
 abbrev Inv-loop : tie.InvT-loop
 Inv-loop area at upper order lower sums more fields₀ totals₀ j₀ fields totals j =
-    (j ≤ laneCount) × (length fields ≡ length fields₀) × (length totals ≡ length totals₀)
+    (j ≤ laneCount)
     × Joined area (record { upper = upper; order = order; lower = lower; sums = sums; more = more }) at j fields₀ totals₀ fields totals
 
 abbrev μ-loop : tie.MeasureT-loop
@@ -19,16 +18,14 @@ abbrev μ-loop : tie.MeasureT-loop
 
 loop-holds : tie.Need-loop-holds Inv-loop μ-loop
 loop-holds c =
-    (search needs, search needs, search needs, record { fields = joined-none _ _ (search needs); totals = joined-none _ _ (search needs) })
+    (search needs, record { fields = joined-none _ _ (search needs); totals = joined-none _ _ (search needs) })
 
 loop-again : tie.Need-loop-again Inv-loop μ-loop
 loop-again c =
     let excess = c .before .before .before .before in
     let read = excess .before .before .before .before .before in
     let is = read .read-lane .ensures in
-    let joined = read .before .before .loop .inv .3 in (
-      search needs,
-      search needs,
+    let joined = read .before .before .loop .inv .1 in (
       search needs,
       record {
         fields = joined-next _ _ _ _ (joined .fields) (omega arith) _ (fields-at _ _ _ _ is _ _ _ _ (excess .field-excess .ensures));
@@ -37,7 +34,7 @@ loop-again c =
     )
 
 returns : tie.Need-returns Inv-loop μ-loop
-returns c = joined-all (omega arith) (c .before .loop .inv .3)
+returns c = joined-all (omega arith) (c .before .loop .inv .1)
 
 pub join-spec : {M : Type 1} → statement M
 join-spec =
@@ -70,6 +67,4 @@ join-spec =
     (λ c. search needs)
     (λ c. search needs)
     loop-again
-    (λ c. search needs)
-    (λ c. search needs)
     returns)

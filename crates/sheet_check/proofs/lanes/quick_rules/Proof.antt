@@ -24,9 +24,8 @@ join-requires c κs =
 
 loop-again : tie.Need-loop-again Inv-loop μ-loop
 loop-again c =
-    let called = c .before .before in
-    let joined = called .before .before .before .before .before .before .before .before .before .loop .inv .1 in
-    (search needs, rules-next joined (called .join .ensures))
+    let joined = c .before .before .before .before .before .before .before .before .before .loop .inv .1 in
+    (search needs, rules-next joined (c .join .ensures))
 
 none-requires : tie.Need-none-requires Inv-loop μ-loop
 none-requires c κs = let joined = c .before .before .before .loop .inv .1 in (joined .fields .long, joined .totals .long)
@@ -60,13 +59,9 @@ quick-rules-spec =
     (λ c κs. search needs)
     loop-holds
     (λ c. search needs)
-    (λ c. search needs)
-    (λ c. search needs)
     join-requires
     (λ c. search needs)
     (λ c. search needs)
     loop-again
-    (λ c. search needs)
-    (λ c. search needs)
     none-requires
     returns)
