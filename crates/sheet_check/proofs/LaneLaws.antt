@@ -1,4 +1,4 @@
--- The quick test of the rules is right where it passes. A number that bits are joined to is 0 only where it was 0 and they are (`or-none`),
+-- The quick tests are right where they pass. A number that bits are joined to is 0 only where it was 0 and they are (`or-none`),
 -- so at the end each lane of each rule keeps its limits, and limits that are read lane by lane are the plain facts of a good rule.
 use mathlib.Core.Path.{_≡_, refl, sym, ap, subst, _∙_}
 use mathlib.Core.Bool.{Bool, true, false}
@@ -6,19 +6,20 @@ use mathlib.Core.List.{List}
 use mathlib.Core.Logic.{⊎-elim}
 use Prim.Native.Nat.{ℕ, _+_, _*_, _-_, _%_, _≤_, _<_, min}
 use native.Mathlib.Omega.{arith}
-use borrow.Author.Tests.{eqb-true, eqb-false}
+use borrow.Author.Tests.{eqb-true, eqb-false, lt-ltb}
 use lib.Bits.{bitAnd, bitOr, or-add-and, and-le-l, and-le-r, and-zero-r, or-zero-l, or-zero-r}
 use lib.Dec.{eqb}
 use lib.ListN.{length, getD, set, length-set}
 use lib.Seq.{getD-set-same, getD-set-other}
 use Rattle.characters.proofs.Tests.{le-or-lt, by-test}
 use Rattle.area.specs.Bytes.{fieldAt, fieldFrom}
-use Rattle.area.specs.Records.{ruleAt, ruleOf, ruleWidth}
-use Rattle.area.specs.Contents.{ruleFormat}
+use Rattle.area.specs.Records.{ruleAt, ruleOf, ruleWidth, entryAt}
+use Rattle.area.specs.Contents.{contents, ruleFormat, entryFormat}
+use Rattle.area.specs.Lists.{all}
 use Rattle.sheet_check.specs.declared.Sizes.{Sizes}
 use Rattle.sheet_check.specs.declared.lanes.Lane.{Lane}
-use Rattle.sheet_check.specs.SheetCheck.{textBytes, goodRule}
-use Rattle.sheet_check.specs.Lanes.{laneCount, laneAt, FieldsWithin, SumWithin, Limits, FieldsAt, SumAt, JoinedTo, Joined, AllZero, RulesWithin}
+use Rattle.sheet_check.specs.SheetCheck.{declared, textBytes, goodRule}
+use Rattle.sheet_check.specs.Lanes.{laneCount, laneAt, FieldsWithin, SumWithin, Limits, FieldsAt, SumAt, JoinedTo, Joined, AllZero, RulesWithin, EntriesWithin}
 use Rattle.sheet_check.proofs.Judging.{records-pass}
 use Rattle.sheet_check.proofs.Checked.{GoodRule, rule-passes}
 
@@ -264,3 +265,35 @@ rules-within l limits count source last entries text f t joined zero small are =
       (λ k g. rule-passes z (ruleAt l k) (rule-good l limits source last entries text small are z hn hs he ht k
       (λ j w. joined .fields .each k j g w (zero .each j w .0)) (λ j w. joined .totals .each k j g w (zero .each j w .1))));
 }
+
+-- ---- the entries of an area
+
+module _ (l : List ℕ) (from last : ℕ) where
+  pub entries-none : EntriesWithin l from from last
+  entries-none = record { each = λ i h g. absurd (omega (arith, h, g)) }
+
+  pub entries-next : (k : ℕ) → EntriesWithin l from k last → entryAt l k ≤ last → EntriesWithin l from (k + 1) last
+  entries-next k before h = record {
+    each = λ i g w. ⊎-elim
+        (λ e. let z : k ≡ i = omega (arith, e, w) in subst (λ (n : ℕ). entryAt l n ≤ last) z h)
+        (λ e. before .each i g e)
+        (le-or-lt k i);
+  }
+
+  pub entries-to : (k n : ℕ) → k ≡ n → EntriesWithin l from k last → EntriesWithin l from n last
+  entries-to k n e before = subst (λ (m : ℕ). EntriesWithin l from m last) e before
+
+  pub entries-join : (k n : ℕ) → EntriesWithin l from k last → EntriesWithin l k n last → EntriesWithin l from n last
+  entries-join k n before behind = record { each = λ i g w. ⊎-elim (λ e. behind .each i e w) (λ e. before .each i g e) (le-or-lt k i) }
+
+  -- an excess is joined to those before
+  pub excess-next : (k excess a x : ℕ) → (excess ≡ 0 → EntriesWithin l from k last) → x ≡ entryAt l k → a ≡ x - last → bitOr excess a ≡ 0
+      → EntriesWithin l from (k + 1) last
+  excess-next k excess a x before read is e =
+      let z = or-none excess a e in
+      entries-next k (before (z .0)) (omega (arith, read, is, z .1))
+
+pub entries-declared : (l : List ℕ) (count last states : ℕ) → last < states → EntriesWithin l 0 count last
+    → all (declared states) (contents entryFormat l count) ≡ true
+entries-declared l count last states h within =
+    records-pass entryFormat (declared states) l count (λ k g. lt-ltb (entryAt l k) states (omega (arith, h, within .each k (omega arith) g)))

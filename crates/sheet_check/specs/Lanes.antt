@@ -7,6 +7,7 @@ use mathlib.Core.List.{List}
 use lib.Bits.{bitAnd, bitOr}
 use lib.ListN.{length, getD}
 use Rattle.area.specs.Bytes.{fieldFrom}
+use Rattle.area.specs.Records.{entryAt}
 use Rattle.area.specs.Contents.{contents, ruleFormat}
 use Rattle.area.specs.Contracts.{Bytes, before}
 use Rattle.area.specs.Lists.{all}
@@ -77,3 +78,7 @@ pub record AllZero (f t : List ℕ) : Type 0 where
 pub record RulesWithin (l : List ℕ) (count source last entries text : ℕ) : Type 0 where
   pub good : (z : Sizes) → source ≤ z .source → last < z .states → entries ≤ z .entries → text ≤ z .text
       → all (goodRule z) (contents ruleFormat l count) ≡ true
+
+-- the entries of an area from one number up to before another are at most last
+pub record EntriesWithin (l : List ℕ) (from to last : ℕ) : Type 0 where
+  pub each : (k : ℕ) → from ≤ k → k < to → entryAt l k ≤ last

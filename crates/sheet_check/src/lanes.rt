@@ -5,10 +5,11 @@ ghost use mathlib.Core.Path.{_≡_};
 ghost use mathlib.Core.Bool.{true};
 ghost use Prim.Native.Nat.{_+_, _*_, _-_, _%_, _≤_, min};
 ghost use lib.ListN.{length};
-ghost use Rattle.area.specs.Records.{ruleWidth};
+ghost use Rattle.area.specs.Records.{ruleWidth, entryWidth};
 ghost use Rattle.area.specs.Contracts.{before, after};
-ghost use Rattle.sheet_check.specs.Lanes.{laneCount, laneAt, FieldsWithin, SumWithin, Joined, limitsIn, AllZero, RulesWithin};
+ghost use Rattle.sheet_check.specs.Lanes.{laneCount, laneAt, FieldsWithin, SumWithin, Joined, limitsIn, AllZero, RulesWithin, EntriesWithin};
 use area::RULE_WIDTH;
+use area::read_entry;
 use area::read_field;
 use std::num::wrapping_add_u16;
 use std::num::wrapping_sub_u16;
@@ -162,4 +163,62 @@ pub fn quick_rules(area: &[u8], count: u16, source: u16, last: u16, entries: u16
         k += 1;
     }
     none(&fields, &totals)
+}
+
+// ---- the entries of an area
+
+// One loop of eight without a branch, which the compiler makes one vector.
+fn eight_within(area: &[u8], from: usize, last: u16) -> bool
+    requires { ⌜ (from + laneCount) * entryWidth ≤ length (now area) ⌝ }
+    ensures { λ r. ⌜ (r ≡ true → EntriesWithin (before area) from (from + laneCount) last) ⌝ }
+{
+    let mut excess = 0;
+    let mut j = 0;
+    while j < LANES {
+        excess = excess | saturating_sub(read_entry(area, from + j), last);
+        j += 1;
+    }
+    excess == 0
+}
+
+// It leaves at the first eight that do not pass, so that the compiler does not gather one entry of each eight.
+fn blocks_within(area: &[u8], blocks: usize, last: u16) -> bool
+    requires { ⌜ blocks * laneCount * entryWidth ≤ length (now area) ⌝ }
+    ensures { λ r. ⌜ (r ≡ true → EntriesWithin (before area) 0 (blocks * laneCount) last) ⌝ }
+{
+    let mut k = 0;
+    while k < blocks {
+        if !eight_within(area, k * LANES, last) {
+            return false;
+        }
+        k += 1;
+    }
+    true
+}
+
+fn rest_within(area: &[u8], from: usize, most: usize, last: u16) -> bool
+    requires { ⌜ (from ≤ most) × (most * entryWidth ≤ length (now area)) ⌝ }
+    ensures { λ r. ⌜ (r ≡ true → EntriesWithin (before area) from most last) ⌝ }
+{
+    let mut k = from;
+    while k < most {
+        if last < read_entry(area, k) {
+            return false;
+        }
+        k += 1;
+    }
+    true
+}
+
+pub fn entries_within(area: &[u8], count: u16, last: u16) -> bool
+    requires { ⌜ count * entryWidth ≤ length (now area) ⌝ }
+    ensures { λ r. ⌜ (r ≡ true → EntriesWithin (before area) 0 count last) ⌝ }
+{
+    let most = count as usize;
+    let blocks = most / LANES;
+    let rest = blocks * LANES;
+    if blocks_within(area, blocks, last) {
+        return rest_within(area, rest, most, last);
+    }
+    false
 }

@@ -1,5 +1,4 @@
 -- `sheet_check::lanes::join` meets its contract: the lanes so far are joined.
-use mathlib.Core.Path.{_≡_}
 use Prim.Native.Nat.{_≤_, _-_}
 use native.Mathlib.Omega.{arith}
 use borrow.Author.Needs.{needs}
