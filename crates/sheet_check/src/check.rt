@@ -1,6 +1,7 @@
 // The sheet check (01, Linking, the end). The run asks for it at each step, and mostly of a sheet that passes: the tests of a record are
 // joined without a branch, and the rules, the longest of the records, go by a quick test of eight fields at a time first.
 ghost use mathlib.Core.Path.{_≡_};
+ghost use mathlib.Core.Bool.{true};
 ghost use Prim.Native.Nat.{_*_, _≤_, min};
 ghost use lib.Dec.{leb};
 ghost use lib.ListN.{length};
@@ -11,6 +12,7 @@ ghost use Rattle.sheet_check.specs.SheetCheck.{sizesOf, goodCounts, good
 ghost use Rattle.sheet_check.specs.Contracts.{sheetIn, AreasLong};
 ghost use Rattle.area.specs.Contracts.{before};
 use crate::Sizes;
+use crate::lanes::entries_within;
 use crate::lanes::quick_rules;
 use area::ENTRY_WIDTH;
 use area::EXPECTED_WIDTH;
@@ -265,6 +267,70 @@ pub fn check(
     let sizes = sizes_of(src, area1, area2, area3, area4, area5, counts);
     if good_sizes(sizes) {
         return good_records(sizes, area1, area2, area3, area5);
+    }
+    false
+}
+
+// ---- the sheet, asked at every move
+
+// The quick tests alone: where they pass, every record is good.
+fn quick_records(sizes: Sizes, area1: &[u8], area2: &[u8], area3: &[u8], area5: &[u8]) -> bool
+    requires { ⌜ AreasLong sizes (now area1) (now area2) (now area3) (now area5) ⌝ }
+    requires { ⌜ 1 ≤ sizes .states ⌝ }
+    ensures { λ r. ⌜ (
+        r ≡ true
+        → goodRecords sizes
+        (contents stateFormat (before area1) (sizes .states))
+        (contents ruleFormat (before area2) (sizes .rules))
+        (contents entryFormat (before area3) (sizes .entries))
+        (contents expectedFormat (before area5) (sizes .expected))
+        ≡ true)
+        ⌝ }
+{
+    if !good_states(sizes, area1) {
+        return false;
+    }
+    if !quick_rules(
+        area2,
+        sizes.rules,
+        sum_limit(sizes.source),
+        sizes.states - 1,
+        sum_limit(sizes.entries as usize),
+        sum_limit(sizes.text as usize),
+    ) {
+        return false;
+    }
+    if !entries_within(area3, sizes.entries, sizes.states - 1) {
+        return false;
+    }
+    good_names(sizes, area5)
+}
+
+// Whether what the host hands in is a sheet, as `check` says, for the step alone, which asks at every move: with one caller it becomes part
+// of that caller. The slices have new names on the way to `check`, so that the quick way keeps them in registers.
+pub fn quick_check(
+    src: &[u8],
+    area1: &[u8],
+    area2: &[u8],
+    area3: &[u8],
+    area4: &[u8],
+    area5: &[u8],
+    counts: &[u16; 6],
+) -> bool
+    ensures { λ r. ⌜ r ≡ sheetCheck (sheetIn src area1 area2 area3 area4 area5 counts) ⌝ }
+{
+    let sizes = sizes_of(src, area1, area2, area3, area4, area5, counts);
+    if good_sizes(sizes) {
+        if quick_records(sizes, area1, area2, area3, area5) {
+            return true;
+        }
+        let s = src;
+        let a1 = area1;
+        let a2 = area2;
+        let a3 = area3;
+        let a4 = area4;
+        let a5 = area5;
+        return check(s, a1, a2, a3, a4, a5, counts);
     }
     false
 }
