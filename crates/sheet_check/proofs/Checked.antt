@@ -1,25 +1,23 @@
 -- What a sheet that passed the check may be used for: the tests of its records as plain facts, and each record by its number, as the bytes
 -- give it and as the lists do. The tests are joined, so each law takes the joint apart from its end.
-use mathlib.Core.Path.{_≡_, sym, ap, _∙_, subst}
+use mathlib.Core.Path.{_≡_, subst}
 use mathlib.Core.Bool.{Bool, true, cond, _&&_}
 use mathlib.Core.List.{List}
 use Prim.Native.Nat.{ℕ, _+_, _≤_, _<_}
-use native.Mathlib.Omega.{arith}
 use lib.Dec.{leb}
 use lib.ListN.{length}
-use borrow.Author.Tests.{leb-true, ltb-true, eq-eqb, ne-eqb}
+use borrow.Author.Tests.{leb-true, ltb-true, le-leb, lt-ltb, eq-eqb, ne-eqb}
 use Rattle.characters.proofs.Tests.{and-left, and-right}
 use Rattle.area.specs.declared.State.{State}
 use Rattle.area.specs.declared.Rule.{Rule}
 use Rattle.area.specs.declared.Expected.{Expected}
 use Rattle.area.specs.Records.{mostStates, mostRules, stateAt, ruleAt, entryAt, expectedAt}
-use Rattle.area.specs.Contents.{Format, contents, stateFormat, ruleFormat, entryFormat, textFormat, expectedFormat}
-use Rattle.area.proofs.Contents.{contents-count, contents-read}
+use Rattle.area.specs.Contents.{stateFormat, ruleFormat, entryFormat, textFormat, expectedFormat}
+use Rattle.area.proofs.Contents.{contents-count}
 use Rattle.sheet_check.specs.declared.Sizes.{Sizes}
-use Rattle.sheet_check.specs.SheetCheck.{SheetBytes, count, decoded, sizesOf, longEnough, goodCounts, goodSizes, ordered, within, declared, mark, textBytes, goodState, goodRule, goodExpected, goodRecords, sheetCheck}
+use Rattle.sheet_check.specs.SheetCheck.{SheetBytes, count, decoded, sizesOf, goodSizes, ordered, within, declared, mark, textBytes, goodState, goodRule, goodExpected, goodRecords, sheetCheck}
 use Rattle.area.specs.Lists.{all}
-use Rattle.area.proofs.All.{all-at}
-use Rattle.sheet_check.proofs.Judging.{Long, sizes-long}
+use Rattle.sheet_check.proofs.Judging.{Long, sizes-long, sizes-counts, record-at}
 
 -- ---- a record that passed, as plain facts
 
@@ -98,6 +96,23 @@ module _ (z : Sizes) where
         target = ltb-true (x .target) (z .states) (t9 .1);
       }
 
+-- a rule of which the plain facts hold passes
+pub rule-passes : (z : Sizes) (x : Rule) → GoodRule z x → goodRule z x ≡ true
+unfolding goodRule
+rule-passes z x g =
+    rw (
+      le-leb (x .«has_id») 1 (g .has-id),
+      le-leb (x .named) 1 (g .named),
+      le-leb (x .place) 1 (g .place),
+      le-leb (x .«span_start») (x .«span_end») (g .span-ordered),
+      le-leb (x .«span_end») (z .source) (g .span-inside),
+      le-leb (x .«name_from» + x .«name_length») (z .source) (g .name-inside),
+      le-leb (x .«text_from» + x .«text_length») (textBytes z (x .place)) (g .text-inside),
+      le-leb (x .«list_from» + x .«list_count») (z .entries) (g .list-inside),
+      le-leb (x .operation) 3 (g .operation),
+      lt-ltb (x .target) (z .states) (g .target),
+    )
+
 -- the text of a rule stands in the rewritten text at place 1, and in the source at any other
 module _ {z : Sizes} {x : Rule} (g : GoodRule z x) where
   pub text-rewritten : x .place ≡ 1 → x .«text_from» + x .«text_length» ≤ z .text
@@ -105,12 +120,6 @@ module _ {z : Sizes} {x : Rule} (g : GoodRule z x) where
 
   pub text-source : (x .place ≡ 1 → ⊥) → x .«text_from» + x .«text_length» ≤ z .source
   text-source h = subst (λ (t : Bool). x .«text_from» + x .«text_length» ≤ cond t (z .text) (z .source)) (ne-eqb (x .place) 1 h) (g .text-inside)
-
--- ---- record k of a list
-
-record-at : {A : Type 0} (F : Format A) (test : A → Bool) (l : List ℕ) (n k : ℕ) → all test (contents F l n) ≡ true → k < n → test (F .read l k) ≡ true
-record-at F test l n k e h =
-    ap test (sym (contents-read F l n k h)) ∙ all-at test (contents F l n) (F .blank) k e (omega (arith, contents-count F l n))
 
 -- ---- records that are good
 
@@ -167,11 +176,7 @@ module _ (b : SheetBytes) where
     checked-long = sizes-long z checked-sizes
 
     pub checked-counts : (1 ≤ count b 1) × (count b 1 ≤ mostStates) × (count b 2 ≤ mostRules)
-    unfolding goodSizes goodCounts
-    checked-counts =
-        let t = both (leb 1 (z .states) && leb (z .states) mostStates) (leb (z .rules) mostRules) (and-right (longEnough z) (goodCounts (z .states) (z .rules)) checked-sizes) in
-        let f = both (leb 1 (z .states)) (leb (z .states) mostStates) (t .0) in
-        (leb-true 1 (z .states) (f .0), leb-true (z .states) mostStates (f .1), leb-true (z .rules) mostRules (t .1))
+    checked-counts = sizes-counts z checked-sizes
 
     pub checked-records : GoodRecords z (decoded b .states) (decoded b .rules) (decoded b .lists) (decoded b .expected)
     checked-records = good-records z (decoded b .states) (decoded b .rules) (decoded b .lists) (decoded b .expected) (checked .1)

@@ -1,4 +1,5 @@
 pub mod SheetCheck
 pub mod Contracts
 pub mod Pattern
+pub mod Lanes
 pub mod Computing

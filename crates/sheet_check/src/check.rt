@@ -1,7 +1,8 @@
-// The sheet check (01, Linking, the end). Every record is read once and its tests are joined without a branch, since the calls
-// of the run ask for the check at each step, and mostly of a sheet that passes.
+// The sheet check (01, Linking, the end). The run asks for it at each step, and mostly of a sheet that passes: the tests of a record are
+// joined without a branch, and the rules, the longest of the records, go by a quick test of eight fields at a time first.
 ghost use mathlib.Core.Path.{_≡_};
-ghost use Prim.Native.Nat.{_*_, _≤_};
+ghost use mathlib.Core.Bool.{true};
+ghost use Prim.Native.Nat.{_*_, _≤_, min};
 ghost use lib.Dec.{leb};
 ghost use lib.ListN.{length};
 ghost use Rattle.area.specs.Records.{stateWidth, ruleWidth, entryWidth, expectedWidth};
@@ -11,6 +12,8 @@ ghost use Rattle.sheet_check.specs.SheetCheck.{sizesOf, goodCounts, good
 ghost use Rattle.sheet_check.specs.Contracts.{sheetIn, AreasLong};
 ghost use Rattle.area.specs.Contracts.{before};
 use crate::Sizes;
+use crate::lanes::entries_within;
+use crate::lanes::quick_rules;
 use area::ENTRY_WIDTH;
 use area::EXPECTED_WIDTH;
 use area::Expected;
@@ -89,13 +92,14 @@ fn good_states(sizes: Sizes, area: &[u8]) -> bool
     ensures { λ r. ⌜ r ≡ all (goodState sizes) (contents stateFormat (before area) (sizes .states)) ⌝ }
 {
     let most = sizes.states as usize;
-    let mut good = true;
     let mut k = 0;
     while k < most {
-        good = good & good_state(sizes, read_state(area, k));
+        if !good_state(sizes, read_state(area, k)) {
+            return false;
+        }
         k += 1;
     }
-    good
+    true
 }
 
 fn good_rules(sizes: Sizes, area: &[u8]) -> bool
@@ -110,6 +114,35 @@ fn good_rules(sizes: Sizes, area: &[u8]) -> bool
         k += 1;
     }
     good
+}
+
+// A limit of a sum: at most 65,534, so that a sum that was cut is above it.
+fn sum_limit(n: usize) -> u16
+    ensures { λ r. ⌜ r ≡ min n 65534 ⌝ }
+{
+    if n < 65534 {
+        return n as u16;
+    }
+    65534
+}
+
+// The quick test first, which the rules of a sheet mostly pass.
+fn rules_pass(sizes: Sizes, area: &[u8]) -> bool
+    requires { ⌜ sizes .rules * ruleWidth ≤ length (now area) ⌝ }
+    requires { ⌜ 1 ≤ sizes .states ⌝ }
+    ensures { λ r. ⌜ r ≡ all (goodRule sizes) (contents ruleFormat (before area) (sizes .rules)) ⌝ }
+{
+    if quick_rules(
+        area,
+        sizes.rules,
+        sum_limit(sizes.source),
+        sizes.states - 1,
+        sum_limit(sizes.entries as usize),
+        sum_limit(sizes.text as usize),
+    ) {
+        return true;
+    }
+    good_rules(sizes, area)
 }
 
 // Also whether the ids in use on the stack of a run are declared.
@@ -172,6 +205,7 @@ fn good_sizes(sizes: Sizes) -> bool
 // Area 4 and the source are asked for their lengths alone.
 fn good_records(sizes: Sizes, area1: &[u8], area2: &[u8], area3: &[u8], area5: &[u8]) -> bool
     requires { ⌜ AreasLong sizes (now area1) (now area2) (now area3) (now area5) ⌝ }
+    requires { ⌜ 1 ≤ sizes .states ⌝ }
     ensures { λ r. ⌜
         r ≡ goodRecords sizes
         (contents stateFormat (before area1) (sizes .states))
@@ -180,11 +214,16 @@ fn good_records(sizes: Sizes, area1: &[u8], area2: &[u8], area3: &[u8], area5: &
         (contents expectedFormat (before area5) (sizes .expected))
         ⌝ }
 {
-    let states = good_states(sizes, area1);
-    let rules = good_rules(sizes, area2);
-    let entries = good_entries(area3, sizes.entries, sizes.states);
-    let names = good_names(sizes, area5);
-    states & rules & entries & names
+    if !good_states(sizes, area1) {
+        return false;
+    }
+    if !rules_pass(sizes, area2) {
+        return false;
+    }
+    if !good_entries(area3, sizes.entries, sizes.states) {
+        return false;
+    }
+    good_names(sizes, area5)
 }
 
 fn sizes_of(
@@ -228,6 +267,70 @@ pub fn check(
     let sizes = sizes_of(src, area1, area2, area3, area4, area5, counts);
     if good_sizes(sizes) {
         return good_records(sizes, area1, area2, area3, area5);
+    }
+    false
+}
+
+// ---- the sheet, asked at every move
+
+// The quick tests alone: where they pass, every record is good.
+fn quick_records(sizes: Sizes, area1: &[u8], area2: &[u8], area3: &[u8], area5: &[u8]) -> bool
+    requires { ⌜ AreasLong sizes (now area1) (now area2) (now area3) (now area5) ⌝ }
+    requires { ⌜ 1 ≤ sizes .states ⌝ }
+    ensures { λ r. ⌜ (
+        r ≡ true
+        → goodRecords sizes
+        (contents stateFormat (before area1) (sizes .states))
+        (contents ruleFormat (before area2) (sizes .rules))
+        (contents entryFormat (before area3) (sizes .entries))
+        (contents expectedFormat (before area5) (sizes .expected))
+        ≡ true)
+        ⌝ }
+{
+    if !good_states(sizes, area1) {
+        return false;
+    }
+    if !quick_rules(
+        area2,
+        sizes.rules,
+        sum_limit(sizes.source),
+        sizes.states - 1,
+        sum_limit(sizes.entries as usize),
+        sum_limit(sizes.text as usize),
+    ) {
+        return false;
+    }
+    if !entries_within(area3, sizes.entries, sizes.states - 1) {
+        return false;
+    }
+    good_names(sizes, area5)
+}
+
+// Whether what the host hands in is a sheet, as `check` says, for the step alone, which asks at every move: with one caller it becomes part
+// of that caller. The slices have new names on the way to `check`, so that the quick way keeps them in registers.
+pub fn quick_check(
+    src: &[u8],
+    area1: &[u8],
+    area2: &[u8],
+    area3: &[u8],
+    area4: &[u8],
+    area5: &[u8],
+    counts: &[u16; 6],
+) -> bool
+    ensures { λ r. ⌜ r ≡ sheetCheck (sheetIn src area1 area2 area3 area4 area5 counts) ⌝ }
+{
+    let sizes = sizes_of(src, area1, area2, area3, area4, area5, counts);
+    if good_sizes(sizes) {
+        if quick_records(sizes, area1, area2, area3, area5) {
+            return true;
+        }
+        let s = src;
+        let a1 = area1;
+        let a2 = area2;
+        let a3 = area3;
+        let a4 = area4;
+        let a5 = area5;
+        return check(s, a1, a2, a3, a4, a5, counts);
     }
     false
 }

@@ -1,7 +1,7 @@
 -- `sheet_check::check::check` meets its contract: the sizes and the records are good, or they are not.
 use borrow.Author.Needs.{needs}
 use Rattle.sheet_check.specs.SheetCheck.{SheetBytes, sheetBytes}
-use Rattle.sheet_check.proofs.Judging.{check-long, check-good, check-short}
+use Rattle.sheet_check.proofs.Judging.{check-long, check-some, check-good, check-short}
 use Rattle.sheet_check.proofs.check.check.Statement.{statement}
 use Rattle.sheet_check.proofs.check.check.Tie as tie
 
@@ -15,7 +15,11 @@ abbrev start : tie.Then1 → tie.Start
 start c = c .before .before .before .before .before .before .before .before .before
 
 good-records-requires : tie.Need-good-records-requires
-good-records-requires c κs = check-long (sheet (start c)) _ (c .before .before .sizes-of .ensures) _ (c .before .good-sizes .ensures) (c .if1 .taken)
+good-records-requires c κs =
+    let sized = c .before in
+    let of = sized .before .sizes-of .ensures in
+    let good = sized .good-sizes .ensures in
+    (check-long (sheet (start c)) _ of _ good (c .if1 .taken), check-some (sheet (start c)) _ of _ good (c .if1 .taken))
 
 pub check-spec : {M : Type 1} → statement M
 check-spec =

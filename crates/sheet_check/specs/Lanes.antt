@@ -1,0 +1,84 @@
+-- The quick tests of a sheet's records: what a lane of eight fields is asked, and what a rule's limits are. 01 has none of it: a record is
+-- good by its tests in SheetCheck, and where a quick test passes every record is.
+use Prim.Native.Nat.{ℕ, _+_, _*_, _%_, _≤_, _<_, min}
+use mathlib.Core.Path.{_≡_}
+use mathlib.Core.Bool.{true}
+use mathlib.Core.List.{List}
+use lib.Bits.{bitAnd, bitOr}
+use lib.ListN.{length, getD}
+use Rattle.area.specs.Bytes.{fieldFrom}
+use Rattle.area.specs.Records.{entryAt}
+use Rattle.area.specs.Contents.{contents, ruleFormat}
+use Rattle.area.specs.Contracts.{Bytes, before}
+use Rattle.area.specs.Lists.{all}
+use Rattle.sheet_check.specs.declared.Sizes.{Sizes}
+use Rattle.sheet_check.specs.declared.lanes.Lane.{Lane}
+use Rattle.sheet_check.specs.SheetCheck.{goodRule}
+
+-- how many lanes there are
+abbrev pub laneCount : ℕ
+laneCount = 8
+
+-- lane j of the rule at a place: its field j, and those 1, 4, 5 and 6 behind it
+unfoldable pub laneAt : List ℕ → ℕ → ℕ → Lane
+laneAt l at j = record {
+  here = fieldFrom l at j;
+  next = fieldFrom l at (j + 1);
+  place = fieldFrom l at (j + 4);
+  from = fieldFrom l at (j + 5);
+  last = fieldFrom l at (j + 6);
+}
+
+-- two fields keep their limits; the first limit is the next field where upper is 0 and order has every bit
+pub record FieldsWithin (x : Lane) (upper order lower : ℕ) : Type 0 where
+  pub here : x .here ≤ bitOr upper (bitAnd (x .next) order)
+  pub last : x .last ≤ lower
+
+-- a sum of two fields, cut at 65,535, keeps its limit, which wraps at 65,536: sums at place 0, and that with more at place 1
+pub record SumWithin (x : Lane) (sums more : ℕ) : Type 0 where
+  pub inside : min (x .from + x .last) 65535 ≤ (sums + (x .place * more) % 65536) % 65536
+
+-- the limits of the lanes, eight of each
+pub record Limits : Type 0 where
+  pub upper : List ℕ
+  pub order : List ℕ
+  pub lower : List ℕ
+  pub sums : List ℕ
+  pub more : List ℕ
+
+-- the limits, as they are lent
+abbrev pub limitsIn : Bytes → Bytes → Bytes → Bytes → Bytes → Limits
+limitsIn upper order lower sums more =
+    record { upper = before upper; order = before order; lower = before lower; sums = before sums; more = before more }
+
+-- lane j of the rule at a place keeps its limits
+module _ (l : List ℕ) (limits : Limits) (at j : ℕ) where
+  abbrev pub FieldsAt : Type 0
+  FieldsAt = FieldsWithin (laneAt l at j) (getD (limits .upper) j 0) (getD (limits .order) j 0) (getD (limits .lower) j 0)
+
+  abbrev pub SumAt : Type 0
+  SumAt = SumWithin (laneAt l at j) (getD (limits .sums) j 0) (getD (limits .more) j 0)
+
+-- eight numbers y, of which the first m are joined to those of x: one is 0 only where it was, and where its lane has what is asked
+pub record JoinedTo (Asked : ℕ → Type 0) (m : ℕ) (x y : List ℕ) : Type 0 where
+  pub long : length y ≡ laneCount
+  pub kept : (j : ℕ) → getD y j 0 ≡ 0 → getD x j 0 ≡ 0
+  pub done : (j : ℕ) → j < m → getD y j 0 ≡ 0 → Asked j
+
+-- the first m lanes of the rule at a place are joined to the numbers f of fields and t of sums
+pub record Joined (l : List ℕ) (limits : Limits) (at m : ℕ) (f t f′ t′ : List ℕ) : Type 0 where
+  pub fields : JoinedTo (FieldsAt l limits at) m f f′
+  pub totals : JoinedTo (SumAt l limits at) m t t′
+
+-- each of the numbers is 0
+pub record AllZero (f t : List ℕ) : Type 0 where
+  pub each : (j : ℕ) → j < laneCount → (getD f j 0 ≡ 0) × (getD t j 0 ≡ 0)
+
+-- the first rules of an area are good in every sheet that has at least these sizes
+pub record RulesWithin (l : List ℕ) (count source last entries text : ℕ) : Type 0 where
+  pub good : (z : Sizes) → source ≤ z .source → last < z .states → entries ≤ z .entries → text ≤ z .text
+      → all (goodRule z) (contents ruleFormat l count) ≡ true
+
+-- the entries of an area from one number up to before another are at most last
+pub record EntriesWithin (l : List ℕ) (from to last : ℕ) : Type 0 where
+  pub each : (k : ℕ) → from ≤ k → k < to → entryAt l k ≤ last
