@@ -22,7 +22,7 @@ use crate::moves::won_by;
 use area::ENTRY_WIDTH;
 use area::read_entry;
 use area::read_rule;
-use sheet_check::check::check;
+use sheet_check::check::quick_check;
 
 // Begins a run over an entry of n bytes.
 pub fn start(n: u64, r: Run, stack: &mut [u8]) -> BegunRun
@@ -154,7 +154,7 @@ pub fn step(
         ≡ stepCall (sheetIn src area1 area2 area3 area4 area5 counts) (running r (before stack)) (input (before row))
         ⌝ }
 {
-    if check(src, area1, area2, area3, area4, area5, counts) {
+    if quick_check(src, area1, area2, area3, area4, area5, counts) {
         return step_run(
             area1,
             area2,

@@ -4,15 +4,15 @@ use Rattle.run.proofs.Stepping.{sheet-refused, sheet-stepped, sheet-rea
 use Rattle.run.proofs.call.step.Statement.{statement}
 use Rattle.run.proofs.call.step.Tie as tie
 
--- places passed of step-run-requires: if1 check
+-- places passed of step-run-requires: if1 quick-check
 module _ (c : tie.After-step-run-arg4) where
   abbrev passed-if1 : tie.Then1
   passed-if1 = c .before .before .before .before
 
-  abbrev passed-check : tie.After-check
-  passed-check = passed-if1 .before
+  abbrev passed-quick-check : tie.After-quick-check
+  passed-quick-check = passed-if1 .before
 
--- places stepped of returns: step-run if1 check
+-- places stepped of returns: step-run if1 quick-check
 module _ (c : tie.After-slice-known2) where
   abbrev stepped-step-run : tie.After-step-run
   stepped-step-run = c .before .before
@@ -20,17 +20,17 @@ module _ (c : tie.After-slice-known2) where
   abbrev stepped-if1 : tie.Then1
   stepped-if1 = stepped-step-run .before .before .before .before .before
 
-  abbrev stepped-check : tie.After-check
-  stepped-check = stepped-if1 .before
+  abbrev stepped-quick-check : tie.After-quick-check
+  stepped-quick-check = stepped-if1 .before
 
 step-run-requires : tie.Need-step-run-requires
-step-run-requires c κs = sheet-readable _ _ (passed-check c .check .ensures) (passed-if1 c .if1 .taken)
+step-run-requires c κs = sheet-readable _ _ (passed-quick-check c .quick-check .ensures) (passed-if1 c .if1 .taken)
 
 returns : tie.Need-returns
-returns c = sheet-stepped _ _ _ _ _ (stepped-check c .check .ensures) _ (stepped-if1 c .if1 .taken) (stepped-step-run c .step-run .ensures)
+returns c = sheet-stepped _ _ _ _ _ (stepped-quick-check c .quick-check .ensures) _ (stepped-if1 c .if1 .taken) (stepped-step-run c .step-run .ensures)
 
 returns-2 : tie.Need-returns-2
-returns-2 c = sheet-refused _ _ _ _ _ (c .before .check .ensures) (c .if1 .left)
+returns-2 c = sheet-refused _ _ _ _ _ (c .before .quick-check .ensures) (c .if1 .left)
 
 pub step-spec : {M : Type 1} → statement M
 step-spec =
