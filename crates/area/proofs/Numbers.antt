@@ -65,10 +65,12 @@ module _ (test : ℕ → Bool) where
       one true = omega arith
       one false = omega arith
 
-pub numbers-same : (f g : ℕ → Bool) → ((k : ℕ) → f k ≡ g k) → (n : ℕ) → numbers f n ≡ numbers g n
+-- tests that agree pass the same numbers
+pub numbers-same : (f g : ℕ → Bool) (n : ℕ) → ((k : ℕ) → k < n → f k ≡ g k) → numbers f n ≡ numbers g n
 unfolding numbers
-numbers-same f g e zero = refl
-numbers-same f g e (suc n) = ap₂ (λ (ns : List ℕ) (b : Bool). ns ++ cond b (n ∷ []) []) (numbers-same f g e n) (e n)
+numbers-same f g zero e = refl
+numbers-same f g (suc n) e =
+    ap₂ (λ (ns : List ℕ) (b : Bool). ns ++ cond b (n ∷ []) []) (numbers-same f g n (λ k h. e k (omega arith))) (e n (omega arith))
 
 -- the count of all of them
 pub counted : (test : ℕ → Bool) (n k m : ℕ) (ns : List ℕ) → numbers test m ≡ ns → m ≤ k → k ≤ m → n ≡ length (numbers test k) → n ≡ length ns

@@ -1,13 +1,13 @@
 -- One pass over the rules. The names of a map are distinct, so an entry has a rule's name exactly if it is the entry that was found for it. A named
 -- rule marks that entry alone; so the entries without a mark are the unused ones.
-use mathlib.Core.Path.{_≡_, refl, sym, ap, ap₂, subst, _∙_}
-use mathlib.Core.Bool.{Bool, true, false, cond, not, _&&_, and-true}
-use mathlib.Core.List.{List, [], _∷_, _++_}
+use mathlib.Core.Path.{_≡_, refl, sym, ap, subst, _∙_}
+use mathlib.Core.Bool.{Bool, true, false, not, _&&_, and-true}
+use mathlib.Core.List.{List}
 use mathlib.Core.Logic.{⊎-elim}
-use Prim.Native.Nat.{ℕ, zero, suc, _+_, _≤_, _<_}
+use Prim.Native.Nat.{ℕ, _+_, _≤_, _<_}
 use native.Mathlib.Omega.{arith}
 use borrow.Author.Tests.{eqb-true, eqb-false, eq-eqb, ne-eqb, lt-ltb, le-ltb}
-use lib.Dec.{eqb, ltb}
+use lib.Dec.{eqb}
 use lib.ListN.{length, getD, set, replicate, length-set, length-replicate, getD-replicate}
 use lib.Seq.{getD-set-same, getD-set-other}
 use Rattle.characters.proofs.Tests.{le-or-lt, and-false}
@@ -19,7 +19,7 @@ use Rattle.area.specs.Records.{mostRules, ruleAt}
 use Rattle.area.specs.Contents.{contents, ruleFormat}
 use Rattle.area.specs.Lists.{numbers}
 use Rattle.area.proofs.All.{all-none, all-next}
-use Rattle.area.proofs.Numbers.{count-none, count-yes, count-no, counted, passesAt, record-fails, record-passes}
+use Rattle.area.proofs.Numbers.{numbers-same, count-none, count-yes, count-no, counted, passesAt, record-fails, record-passes}
 use Rattle.name_map.specs.Map.{mostEntries, entryCount, Entry, entriesOf, nth, findEntry, idAt, idOf, distinct}
 use Rattle.link.specs.Link.{isNone, isUnmapped, hasThatName, isUnused, unused}
 use Rattle.link.specs.Matches.{unmarked, EntriesFound, Matched}
@@ -159,20 +159,13 @@ module _ (name : Rule → List ℕ) (es : List Entry) (l : List ℕ) where
       marked-missing : length es ≤ j → EntriesMarked name es l (k + 1) used
       marked-missing h = marked-kept (λ i g. named-has name es x named j at different i g ∙ ne-eqb j i (λ q. omega (arith, h, g, q)))
 
--- tests that agree pass the same numbers
-numbers-agree : (f g : ℕ → Bool) (n : ℕ) → ((k : ℕ) → k < n → f k ≡ g k) → numbers f n ≡ numbers g n
-unfolding numbers
-numbers-agree f g zero e = refl
-numbers-agree f g (suc n) e =
-    ap₂ (λ (ns : List ℕ) (b : Bool). ns ++ cond b (n ∷ []) []) (numbers-agree f g n (λ k h. e k (omega arith))) (e n (omega arith))
-
 -- the entries without a mark are the unused ones
 unmarked-unused : (name : Rule → List ℕ) (names entries l : List ℕ) (k : ℕ) (used : List ℕ) → EntriesMarked name (entriesOf names entries) l k used
     → unmarked used (entryCount entries) ≡ unused name (entriesOf names entries) (contents ruleFormat l k)
 unfolding unused
 unmarked-unused name names entries l k used U =
     ap (unmarked used) (sym (entries-count names entries))
-    ∙ numbers-agree (λ j. eqb (getD used j 0) 0) (λ j. isUnused name (contents ruleFormat l k) (nth (entriesOf names entries) j .name))
+    ∙ numbers-same (λ j. eqb (getD used j 0) 0) (λ j. isUnused name (contents ruleFormat l k) (nth (entriesOf names entries) j .name))
     (length (entriesOf names entries)) (U .each)
 
 -- ---- the loop over the rules

@@ -62,7 +62,7 @@ module _ (name : Rule → List ℕ) (es : List Entry) where
   unfolding unlinked unmapped
   unlinked-rules xs =
       numbers-same (λ k. isUnlinked (nthRule (linkRules name es xs) k)) (λ k. isUnmapped name es (nthRule xs k))
-      (λ k. ap isUnlinked (link-at xs k) ∙ unlinked-rule (nthRule xs k)) (length (linkRules name es xs))
+      (length (linkRules name es xs)) (λ k h. ap isUnlinked (link-at xs k) ∙ unlinked-rule (nthRule xs k))
       ∙ ap (numbers (λ k. isUnmapped name es (nthRule xs k))) (link-count xs)
 
 -- ---- the three areas
