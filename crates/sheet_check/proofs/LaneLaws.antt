@@ -283,8 +283,9 @@ module _ (l : List ℕ) (from last : ℕ) where
   pub entries-to : (k n : ℕ) → k ≡ n → EntriesWithin l from k last → EntriesWithin l from n last
   entries-to k n e before = subst (λ (m : ℕ). EntriesWithin l from m last) e before
 
-  pub entries-join : (k n : ℕ) → EntriesWithin l from k last → EntriesWithin l k n last → EntriesWithin l from n last
-  entries-join k n before behind = record { each = λ i g w. ⊎-elim (λ e. behind .each i e w) (λ e. before .each i g e) (le-or-lt k i) }
+  pub entries-join : (k m n : ℕ) → EntriesWithin l from k last → EntriesWithin l m n last → m ≤ k → EntriesWithin l from n last
+  entries-join k m n before behind h =
+      record { each = λ i g w. ⊎-elim (λ e. behind .each i (omega (arith, h, e)) w) (λ e. before .each i g e) (le-or-lt k i) }
 
   -- an excess is joined to those before
   pub excess-next : (k excess a x : ℕ) → (excess ≡ 0 → EntriesWithin l from k last) → x ≡ entryAt l k → a ≡ x - last → bitOr excess a ≡ 0

@@ -181,21 +181,6 @@ fn eight_within(area: &[u8], from: usize, last: u16) -> bool
     excess == 0
 }
 
-// It leaves at the first eight that do not pass, so that the compiler does not gather one entry of each eight.
-fn blocks_within(area: &[u8], blocks: usize, last: u16) -> bool
-    requires { ⌜ blocks * laneCount * entryWidth ≤ length (now area) ⌝ }
-    ensures { λ r. ⌜ (r ≡ true → EntriesWithin (before area) 0 (blocks * laneCount) last) ⌝ }
-{
-    let mut k = 0;
-    while k < blocks {
-        if !eight_within(area, k * LANES, last) {
-            return false;
-        }
-        k += 1;
-    }
-    true
-}
-
 fn rest_within(area: &[u8], from: usize, most: usize, last: u16) -> bool
     requires { ⌜ (from ≤ most) × (most * entryWidth ≤ length (now area)) ⌝ }
     ensures { λ r. ⌜ (r ≡ true → EntriesWithin (before area) from most last) ⌝ }
@@ -210,6 +195,7 @@ fn rest_within(area: &[u8], from: usize, most: usize, last: u16) -> bool
     true
 }
 
+// It leaves at the first eight that do not pass, so that the compiler does not gather one entry of each eight.
 pub fn entries_within(area: &[u8], count: u16, last: u16) -> bool
     requires { ⌜ count * entryWidth ≤ length (now area) ⌝ }
     ensures { λ r. ⌜ (r ≡ true → EntriesWithin (before area) 0 count last) ⌝ }
@@ -217,8 +203,12 @@ pub fn entries_within(area: &[u8], count: u16, last: u16) -> bool
     let most = count as usize;
     let blocks = most / LANES;
     let rest = blocks * LANES;
-    if blocks_within(area, blocks, last) {
-        return rest_within(area, rest, most, last);
+    let mut k = 0;
+    while k < blocks {
+        if !eight_within(area, k * LANES, last) {
+            return false;
+        }
+        k += 1;
     }
-    false
+    rest_within(area, rest, most, last)
 }
