@@ -13,7 +13,7 @@ use lib.Dec.{eqb}
 use Rattle.characters.specs.Walk.{firstOf, first, lastOf, last, repeat, skip}
 use Rattle.characters.specs.declared.Found.{Found}
 use Rattle.characters.specs.declared.Found.the-variants.{At, Nothing}
-use Rattle.characters.proofs.Tests.{answer, answer-not, answer-yes, answer-no, unequal, equal, by-test}
+use Rattle.characters.proofs.Tests.{answer, answer-not, answer-yes, answer-no, by-test}
 
 -- ---- the first position that passes
 

@@ -235,5 +235,5 @@ module _ (name : Rule → List ℕ) (names entries l : List ℕ) (count : ℕ) w
           missing = counted _ n k count _ (unmapped-is l count name es) h g (M .missing);
           kept = subst (λ (m : ℕ). EntriesFound name es l m found) q (M .kept);
           long = marks .long;
-          idle = unmarked-unused name names entries l count used marks;
+          without-mark = unmarked-unused name names entries l count used marks;
         }

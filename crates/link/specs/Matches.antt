@@ -30,4 +30,4 @@ pub record Matched (name : Rule → List ℕ) (names entries l : List ℕ) (coun
   pub missing : n ≡ length (unmapped name (entriesOf names entries) (contents ruleFormat l count))
   pub kept : EntriesFound name (entriesOf names entries) l count found
   pub long : length used ≡ mostEntries
-  pub idle : unmarked used (entryCount entries) ≡ unused name (entriesOf names entries) (contents ruleFormat l count)
+  pub without-mark : unmarked used (entryCount entries) ≡ unused name (entriesOf names entries) (contents ruleFormat l count)

@@ -10,10 +10,10 @@ use borrow.Author.Tests.{eqb-true, eqb-false, eq-eqb, ne-eqb}
 use lib.Dec.{eqb}
 use lib.ListN.{length, getD, set, replicate, length-set, length-replicate, getD-replicate, List·getD-eq-default}
 use lib.Seq.{getD-set-same, getD-set-other}
-use Rattle.characters.specs.Walk.{first, Between}
+use Rattle.characters.specs.Walk.{Between}
 use Rattle.text.specs.Range.{part, sameBytes}
 use Rattle.characters.proofs.Tests.{le-or-lt}
-use Rattle.text.proofs.Ranges.{same-equal, same-self}
+use Rattle.text.proofs.Ranges.{same-equal, same-self, same-not}
 use Rattle.characters.proofs.Walks.{first-over}
 use Rattle.characters.proofs.Firsts.{first-low, first-only}
 use Rattle.area.specs.Lists.{allBelow}
@@ -25,13 +25,6 @@ use Rattle.name_map.specs.Map.{mapEntryAt, entryCount, Entry, entriesOf,
 use Rattle.name_map.specs.Home.{homeOf, Home}
 use Rattle.name_map.specs.Index.{slotCount, Taken, HasSlot, EntrySlots, FreeFor, Probes, EntryIndexed, EntriesIndexed, EntryIndex, MapChecked}
 use Rattle.name_map.proofs.Maps.{entries-count, name-at, has, entry-missing, entry-first, distinct-read}
-
-pub same-not : (xs ys : List ℕ) → (xs ≡ ys → ⊥) → sameBytes xs ys ≡ false
-same-not xs ys d = go (sameBytes xs ys) refl
-  where
-    go : (t : Bool) → sameBytes xs ys ≡ t → t ≡ false
-    go true e = absurd (d (same-equal xs ys e))
-    go false e = refl
 
 -- ---- the search; the loop stands at p
 

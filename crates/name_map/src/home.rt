@@ -80,5 +80,6 @@ pub fn home_of(text: &[u8], a: usize, e: usize) -> usize
     };
     let words = add_words(text, a, n / 4, start);
     let c = add_bytes(text, a + 4 * (n / 4), n % 4, words);
+    // the highest 12 of 32 bits, which the multiplier mixes best
     (mix(mix(c.sum, c.sums), 0) / 1048576) as usize
 }

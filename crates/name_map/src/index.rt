@@ -2,12 +2,12 @@
 // from 1, or 0 where they are free. A name's search begins at the slot that its bytes give, its home, and goes on slot by slot up to a free one
 // (linear probing); where the slots end before that, all names are compared.
 ghost use mathlib.Core.Path.{_≡_};
-ghost use Prim.Native.Nat.{_+_, _*_, _%_, _≤_, _<_, min};
+ghost use Prim.Native.Nat.{_≤_, _<_};
 ghost use lib.ListN.{length, getD, replicate};
 ghost use Rattle.characters.specs.Walk.{Between};
 ghost use Rattle.text.specs.Range.{part};
 ghost use Rattle.area.specs.Contracts.{before, after};
-ghost use Rattle.name_map.specs.Map.{mostEntries, entryCount, entriesOf, nth, findEntry};
+ghost use Rattle.name_map.specs.Map.{mostEntries, entryCount, entriesOf, findEntry};
 ghost use Rattle.name_map.specs.Index.{slotCount, EntrySlots, Probes, EntryIndexed, EntriesIndexed, EntryIndex, MapChecked};
 ghost use Rattle.name_map.specs.Contracts.{mapIn};
 use crate::home::home_of;

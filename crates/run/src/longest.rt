@@ -122,7 +122,7 @@ fn find_length(row: &[u8], from: usize, end: usize, bytes: u16) -> usize
     k
 }
 
-// The first live rule that has a length other than 0. A rule is read only where the row has the length.
+// The first live rule whose length is `top`, which is not 0. A rule is read only where the row has that length.
 fn first_longest(
     area1: &[u8],
     area2: &[u8],

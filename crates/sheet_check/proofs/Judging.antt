@@ -17,7 +17,8 @@ use Rattle.area.specs.Records.{stateWidth, ruleWidth, entryWidth, expectedWidth
 use Rattle.area.specs.Contents.{Format, contents, stateFormat, ruleFormat, entryFormat, expectedFormat}
 use Rattle.characters.proofs.Tests.{and-left, and-right}
 use Rattle.sheet_check.specs.declared.Sizes.{Sizes}
-use Rattle.sheet_check.specs.SheetCheck.{SheetBytes, sizesOf, longEnough, goodCounts, goodSizes, ordered, within, declared, textBytes, goodState, goodRule, goodExpected, goodRecords, decoded, sheetCheck}
+use Rattle.sheet_check.specs.SheetCheck.{SheetBytes, sizesOf, longEnough, goodCounts, goodSizes, ordered, within, declared, textBytes}
+use Rattle.sheet_check.specs.SheetCheck.{goodState, goodRule, goodExpected, goodRecords, decoded, sheetCheck}
 use Rattle.sheet_check.specs.Contracts.{AreasLong}
 use Rattle.area.specs.Lists.{all}
 use Rattle.area.proofs.All.{all-at, all-from, all-next}

@@ -40,9 +40,9 @@ lane-made l at j here next place from last e0 e1 e4 e5 e6 =
     λ i. record { here = e0 i; next = n i; place = p i; from = f i; last = s i }
 
 module _ (x : Lane) where
-  pub fields-within : (upper order lower a b : ℕ) → a ≡ x .here - bitOr upper (bitAnd (x .next) order) → b ≡ x .last - lower
-      → bitOr a b ≡ 0 → FieldsWithin x upper order lower
-  fields-within upper order lower a b p q e =
+  pub fields-within : (heres order lasts a b : ℕ) → a ≡ x .here - bitOr heres (bitAnd (x .next) order) → b ≡ x .last - lasts
+      → bitOr a b ≡ 0 → FieldsWithin x heres order lasts
+  fields-within heres order lasts a b p q e =
       let z = or-none a b e in
       record { here = omega (arith, p, z .0); last = omega (arith, q, z .1) }
 
@@ -86,8 +86,8 @@ module _ (Asked : ℕ → Type 0) where
 
 -- the lane that was read is the one at its place
 module _ (l : List ℕ) (at j : ℕ) (x : Lane) (is : x ≡ laneAt l at j) (r : ℕ) where
-  pub fields-at : (upper order lower : ℕ) → (r ≡ 0 → FieldsWithin x upper order lower) → r ≡ 0 → FieldsWithin (laneAt l at j) upper order lower
-  fields-at upper order lower f e = subst (λ (y : Lane). FieldsWithin y upper order lower) is (f e)
+  pub fields-at : (heres order lasts : ℕ) → (r ≡ 0 → FieldsWithin x heres order lasts) → r ≡ 0 → FieldsWithin (laneAt l at j) heres order lasts
+  fields-at heres order lasts f e = subst (λ (y : Lane). FieldsWithin y heres order lasts) is (f e)
 
   pub sum-at : (sums more : ℕ) → (r ≡ 0 → SumWithin x sums more) → r ≡ 0 → SumWithin (laneAt l at j) sums more
   sum-at sums more f e = subst (λ (y : Lane). SumWithin y sums more) is (f e)
@@ -154,17 +154,17 @@ module _ {l : List ℕ} {limits : Limits} where
 
 -- ---- limits as plain facts
 
--- without an order the limit is upper alone
-upper-limit : (x upper order next n : ℕ) → (upper ≡ n) × (order ≡ 0) → x ≤ bitOr upper (bitAnd next order) → x ≤ n
-upper-limit x upper order next n e h =
+-- without an order the limit is heres alone
+upper-limit : (x heres order next n : ℕ) → (heres ≡ n) × (order ≡ 0) → x ≤ bitOr heres (bitAnd next order) → x ≤ n
+upper-limit x heres order next n e h =
     let none : bitAnd next order ≡ 0 = ap (bitAnd next) (e .1) ∙ and-zero-r next in
-    let g : bitOr upper (bitAnd next order) ≡ upper = ap (bitOr upper) none ∙ or-zero-r upper in
+    let g : bitOr heres (bitAnd next order) ≡ heres = ap (bitOr heres) none ∙ or-zero-r heres in
     omega (arith, h, g, e .0)
 
--- with an order and no upper it is at most the next field
-next-limit : (x upper order next : ℕ) → upper ≡ 0 → x ≤ bitOr upper (bitAnd next order) → x ≤ next
-next-limit x upper order next e h =
-    let g : bitOr upper (bitAnd next order) ≡ bitAnd next order = ap (λ (v : ℕ). bitOr v (bitAnd next order)) e ∙ or-zero-l (bitAnd next order) in
+-- with an order and no heres it is at most the next field
+next-limit : (x heres order next : ℕ) → heres ≡ 0 → x ≤ bitOr heres (bitAnd next order) → x ≤ next
+next-limit x heres order next e h =
+    let g : bitOr heres (bitAnd next order) ≡ bitAnd next order = ap (λ (v : ℕ). bitOr v (bitAnd next order)) e ∙ or-zero-l (bitAnd next order) in
     omega (arith, h, g, and-le-l next order)
 
 -- a limit of a sum is sums at place 0, and at any place where there is no more; a sum that keeps a limit below 65,535 was not cut
@@ -190,14 +190,14 @@ module _ (a b place sums more n : ℕ) (small : n ≤ 65534) (keeps : min (a + b
 -- ---- rules that keep their limits are good
 
 -- limits by which a rule is good in a sheet of these sizes: of its fields, and of its sums
-pub record RuleLimits (limits : Limits) (source last entries text : ℕ) : Type 0 where
-  pub has-id : (getD (limits .upper) 0 0 ≡ 1) × (getD (limits .order) 0 0 ≡ 0)
-  pub named : (getD (limits .upper) 2 0 ≡ 1) × (getD (limits .order) 2 0 ≡ 0)
-  pub place : (getD (limits .upper) 7 0 ≡ 1) × (getD (limits .order) 7 0 ≡ 0)
-  pub span-start : getD (limits .upper) 3 0 ≡ 0
-  pub span-end : (getD (limits .upper) 4 0 ≡ source) × (getD (limits .order) 4 0 ≡ 0)
-  pub operation : getD (limits .lower) 6 0 ≡ 3
-  pub target : getD (limits .lower) 7 0 ≡ last
+pub record RuleLimits (limits : Limits) (source highest entries text : ℕ) : Type 0 where
+  pub has-id : (getD (limits .heres) 0 0 ≡ 1) × (getD (limits .order) 0 0 ≡ 0)
+  pub named : (getD (limits .heres) 2 0 ≡ 1) × (getD (limits .order) 2 0 ≡ 0)
+  pub place : (getD (limits .heres) 7 0 ≡ 1) × (getD (limits .order) 7 0 ≡ 0)
+  pub span-start : getD (limits .heres) 3 0 ≡ 0
+  pub span-end : (getD (limits .heres) 4 0 ≡ source) × (getD (limits .order) 4 0 ≡ 0)
+  pub operation : getD (limits .lasts) 6 0 ≡ 3
+  pub target : getD (limits .lasts) 7 0 ≡ highest
   pub name : (getD (limits .sums) 0 0 ≡ source) × (getD (limits .more) 0 0 ≡ 0)
   pub source-text : getD (limits .sums) 3 0 ≡ source
   pub rewritten-text : (getD (limits .more) 3 0 + getD (limits .sums) 3 0) % 65536 ≡ text
@@ -207,24 +207,24 @@ pub record RuleLimits (limits : Limits) (source last entries text : ℕ) : Type 
 abbrev pub Small : ℕ → ℕ → ℕ → Type 0
 Small source entries text = (source ≤ 65534) × (entries ≤ 65534) × (text ≤ 65534)
 
-module _ (l : List ℕ) (limits : Limits) (source last entries text : ℕ) (small : Small source entries text)
-    (are : RuleLimits limits source last entries text) (z : Sizes) (hn : source ≤ z .source) (hs : last < z .states)
+module _ (l : List ℕ) (limits : Limits) (source highest entries text : ℕ) (small : Small source entries text)
+    (are : RuleLimits limits source highest entries text) (z : Sizes) (hn : source ≤ z .source) (hs : highest < z .states)
     (he : entries ≤ z .entries) (ht : text ≤ z .text) (k : ℕ) (f : (j : ℕ) → j < laneCount → FieldsAt l limits (k * ruleWidth) j)
     (s : (j : ℕ) → j < laneCount → SumAt l limits (k * ruleWidth) j) where
   abbrev at : ℕ → ℕ
   at j = fieldFrom l (k * ruleWidth) j
 
-  field-limit : (j : ℕ) → j < laneCount → (n : ℕ) → (getD (limits .upper) j 0 ≡ n) × (getD (limits .order) j 0 ≡ 0) → at j ≤ n
+  field-limit : (j : ℕ) → j < laneCount → (n : ℕ) → (getD (limits .heres) j 0 ≡ n) × (getD (limits .order) j 0 ≡ 0) → at j ≤ n
   unfolding laneAt
-  field-limit j h n e = upper-limit (at j) (getD (limits .upper) j 0) (getD (limits .order) j 0) (at (j + 1)) n e (f j h .here)
+  field-limit j h n e = upper-limit (at j) (getD (limits .heres) j 0) (getD (limits .order) j 0) (at (j + 1)) n e (f j h .here)
 
-  last-limit : (j : ℕ) → j < laneCount → at (j + 6) ≤ getD (limits .lower) j 0
+  last-limit : (j : ℕ) → j < laneCount → at (j + 6) ≤ getD (limits .lasts) j 0
   unfolding laneAt
   last-limit j h = f j h .last
 
   span-ordered : at 3 ≤ at 4
   unfolding laneAt
-  span-ordered = next-limit (at 3) (getD (limits .upper) 3 0) (getD (limits .order) 3 0) (at 4) (are .span-start) (f 3 (omega arith) .here)
+  span-ordered = next-limit (at 3) (getD (limits .heres) 3 0) (getD (limits .order) 3 0) (at 4) (are .span-start) (f 3 (omega arith) .here)
 
   range-inside : (j : ℕ) → j < laneCount → (n : ℕ) → n ≤ 65534 → (getD (limits .sums) j 0 ≡ n) × (getD (limits .more) j 0 ≡ 0)
       → at (j + 5) + at (j + 6) ≤ n
@@ -258,43 +258,43 @@ module _ (l : List ℕ) (limits : Limits) (source last entries text : ℕ) (smal
     target = omega (arith, hs, last-limit 7 (omega arith), are .target);
   }
 
-pub rules-within : (l : List ℕ) (limits : Limits) (count source last entries text : ℕ) (f t : List ℕ) → RulesJoined l limits count f t
-    → AllZero f t → Small source entries text → RuleLimits limits source last entries text → RulesWithin l count source last entries text
-rules-within l limits count source last entries text f t joined zero small are = record {
+pub rules-within : (l : List ℕ) (limits : Limits) (count source highest entries text : ℕ) (f t : List ℕ) → RulesJoined l limits count f t
+    → AllZero f t → Small source entries text → RuleLimits limits source highest entries text → RulesWithin l count source highest entries text
+rules-within l limits count source highest entries text f t joined zero small are = record {
   good = λ z hn hs he ht. records-pass ruleFormat (goodRule z) l count
-      (λ k g. rule-passes z (ruleAt l k) (rule-good l limits source last entries text small are z hn hs he ht k
+      (λ k g. rule-passes z (ruleAt l k) (rule-good l limits source highest entries text small are z hn hs he ht k
       (λ j w. joined .fields .each k j g w (zero .each j w .0)) (λ j w. joined .totals .each k j g w (zero .each j w .1))));
 }
 
 -- ---- the entries of an area
 
-module _ (l : List ℕ) (from last : ℕ) where
-  pub entries-none : EntriesWithin l from from last
+module _ (l : List ℕ) (from highest : ℕ) where
+  pub entries-none : EntriesWithin l from from highest
   entries-none = record { each = λ i h g. absurd (omega (arith, h, g)) }
 
-  pub entries-next : (k : ℕ) → EntriesWithin l from k last → entryAt l k ≤ last → EntriesWithin l from (k + 1) last
+  pub entries-next : (k : ℕ) → EntriesWithin l from k highest → entryAt l k ≤ highest → EntriesWithin l from (k + 1) highest
   entries-next k before h = record {
     each = λ i g w. ⊎-elim
-        (λ e. let z : k ≡ i = omega (arith, e, w) in subst (λ (n : ℕ). entryAt l n ≤ last) z h)
+        (λ e. let z : k ≡ i = omega (arith, e, w) in subst (λ (n : ℕ). entryAt l n ≤ highest) z h)
         (λ e. before .each i g e)
         (le-or-lt k i);
   }
 
-  pub entries-to : (k n : ℕ) → k ≡ n → EntriesWithin l from k last → EntriesWithin l from n last
-  entries-to k n e before = subst (λ (m : ℕ). EntriesWithin l from m last) e before
+  pub entries-to : (k n : ℕ) → k ≡ n → EntriesWithin l from k highest → EntriesWithin l from n highest
+  entries-to k n e before = subst (λ (m : ℕ). EntriesWithin l from m highest) e before
 
-  pub entries-join : (k m n : ℕ) → EntriesWithin l from k last → EntriesWithin l m n last → m ≤ k → EntriesWithin l from n last
+  pub entries-join : (k m n : ℕ) → EntriesWithin l from k highest → EntriesWithin l m n highest → m ≤ k → EntriesWithin l from n highest
   entries-join k m n before behind h =
       record { each = λ i g w. ⊎-elim (λ e. behind .each i (omega (arith, h, e)) w) (λ e. before .each i g e) (le-or-lt k i) }
 
   -- an excess is joined to those before
-  pub excess-next : (k excess a x : ℕ) → (excess ≡ 0 → EntriesWithin l from k last) → x ≡ entryAt l k → a ≡ x - last → bitOr excess a ≡ 0
-      → EntriesWithin l from (k + 1) last
+  pub excess-next : (k excess a x : ℕ) → (excess ≡ 0 → EntriesWithin l from k highest) → x ≡ entryAt l k → a ≡ x - highest → bitOr excess a ≡ 0
+      → EntriesWithin l from (k + 1) highest
   excess-next k excess a x before read is e =
       let z = or-none excess a e in
       entries-next k (before (z .0)) (omega (arith, read, is, z .1))
 
-pub entries-declared : (l : List ℕ) (count last states : ℕ) → last < states → EntriesWithin l 0 count last
+pub entries-declared : (l : List ℕ) (count highest states : ℕ) → highest < states → EntriesWithin l 0 count highest
     → all (declared states) (contents entryFormat l count) ≡ true
-entries-declared l count last states h within =
+entries-declared l count highest states h within =
     records-pass entryFormat (declared states) l count (λ k g. lt-ltb (entryAt l k) states (omega (arith, h, within .each k (omega arith) g)))

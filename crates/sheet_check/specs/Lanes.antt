@@ -29,10 +29,10 @@ laneAt l at j = record {
   last = fieldFrom l at (j + 6);
 }
 
--- two fields keep their limits; the first limit is the next field where upper is 0 and order has every bit
-pub record FieldsWithin (x : Lane) (upper order lower : ℕ) : Type 0 where
-  pub here : x .here ≤ bitOr upper (bitAnd (x .next) order)
-  pub last : x .last ≤ lower
+-- two fields keep their limits; the first limit is the next field where heres is 0 and order has every bit
+pub record FieldsWithin (x : Lane) (heres order lasts : ℕ) : Type 0 where
+  pub here : x .here ≤ bitOr heres (bitAnd (x .next) order)
+  pub last : x .last ≤ lasts
 
 -- a sum of two fields, cut at 65,535, keeps its limit, which wraps at 65,536: sums at place 0, and that with more at place 1
 pub record SumWithin (x : Lane) (sums more : ℕ) : Type 0 where
@@ -40,21 +40,21 @@ pub record SumWithin (x : Lane) (sums more : ℕ) : Type 0 where
 
 -- the limits of the lanes, eight of each
 pub record Limits : Type 0 where
-  pub upper : List ℕ
+  pub heres : List ℕ
   pub order : List ℕ
-  pub lower : List ℕ
+  pub lasts : List ℕ
   pub sums : List ℕ
   pub more : List ℕ
 
 -- the limits, as they are lent
 abbrev pub limitsIn : Bytes → Bytes → Bytes → Bytes → Bytes → Limits
-limitsIn upper order lower sums more =
-    record { upper = before upper; order = before order; lower = before lower; sums = before sums; more = before more }
+limitsIn heres order lasts sums more =
+    record { heres = before heres; order = before order; lasts = before lasts; sums = before sums; more = before more }
 
 -- lane j of the rule at a place keeps its limits
 module _ (l : List ℕ) (limits : Limits) (at j : ℕ) where
   abbrev pub FieldsAt : Type 0
-  FieldsAt = FieldsWithin (laneAt l at j) (getD (limits .upper) j 0) (getD (limits .order) j 0) (getD (limits .lower) j 0)
+  FieldsAt = FieldsWithin (laneAt l at j) (getD (limits .heres) j 0) (getD (limits .order) j 0) (getD (limits .lasts) j 0)
 
   abbrev pub SumAt : Type 0
   SumAt = SumWithin (laneAt l at j) (getD (limits .sums) j 0) (getD (limits .more) j 0)
@@ -75,10 +75,10 @@ pub record AllZero (f t : List ℕ) : Type 0 where
   pub each : (j : ℕ) → j < laneCount → (getD f j 0 ≡ 0) × (getD t j 0 ≡ 0)
 
 -- the first rules of an area are good in every sheet that has at least these sizes
-pub record RulesWithin (l : List ℕ) (count source last entries text : ℕ) : Type 0 where
-  pub good : (z : Sizes) → source ≤ z .source → last < z .states → entries ≤ z .entries → text ≤ z .text
+pub record RulesWithin (l : List ℕ) (count source highest entries text : ℕ) : Type 0 where
+  pub good : (z : Sizes) → source ≤ z .source → highest < z .states → entries ≤ z .entries → text ≤ z .text
       → all (goodRule z) (contents ruleFormat l count) ≡ true
 
--- the entries of an area from one number up to before another are at most last
-pub record EntriesWithin (l : List ℕ) (from to last : ℕ) : Type 0 where
-  pub each : (k : ℕ) → from ≤ k → k < to → entryAt l k ≤ last
+-- the entries of an area from one number up to before another are at most highest
+pub record EntriesWithin (l : List ℕ) (from to highest : ℕ) : Type 0 where
+  pub each : (k : ℕ) → from ≤ k → k < to → entryAt l k ≤ highest

@@ -116,14 +116,16 @@ fn good_rules(sizes: Sizes, area: &[u8]) -> bool
     good
 }
 
-// A limit of a sum: at most 65,534, so that a sum that was cut is above it.
+// The greatest limit of a sum, so that one that was cut at 65,535 is above every limit.
+const MOST_SUM: u16 = 65534;
+
 fn sum_limit(n: usize) -> u16
     ensures { λ r. ⌜ r ≡ min n 65534 ⌝ }
 {
-    if n < 65534 {
+    if n < MOST_SUM as usize {
         return n as u16;
     }
-    65534
+    MOST_SUM
 }
 
 // The quick test first, which the rules of a sheet mostly pass.
@@ -273,7 +275,8 @@ pub fn check(
 
 // ---- the sheet, asked at every move
 
-// The quick tests alone: where they pass, every record is good.
+// The quick tests alone: where they pass, every record is good. The limits of the rules go as numbers, for `sizes` would be laid out in memory
+// to be lent.
 fn quick_records(sizes: Sizes, area1: &[u8], area2: &[u8], area3: &[u8], area5: &[u8]) -> bool
     requires { ⌜ AreasLong sizes (now area1) (now area2) (now area3) (now area5) ⌝ }
     requires { ⌜ 1 ≤ sizes .states ⌝ }
@@ -307,7 +310,7 @@ fn quick_records(sizes: Sizes, area1: &[u8], area2: &[u8], area3: &[u8], area5: 
 }
 
 // Whether what the host hands in is a sheet, as `check` says, for the step alone, which asks at every move: with one caller it becomes part
-// of that caller. The slices have new names on the way to `check`, so that the quick way keeps them in registers.
+// of that caller. The slices are bound anew on the way to `check`, so that the quick way need not lay them out in memory.
 pub fn quick_check(
     src: &[u8],
     area1: &[u8],
@@ -324,13 +327,13 @@ pub fn quick_check(
         if quick_records(sizes, area1, area2, area3, area5) {
             return true;
         }
-        let s = src;
-        let a1 = area1;
-        let a2 = area2;
-        let a3 = area3;
-        let a4 = area4;
-        let a5 = area5;
-        return check(s, a1, a2, a3, a4, a5, counts);
+        let source = src;
+        let states = area1;
+        let rules = area2;
+        let lists = area3;
+        let text = area4;
+        let expected = area5;
+        return check(source, states, rules, lists, text, expected, counts);
     }
     false
 }

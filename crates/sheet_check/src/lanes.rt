@@ -72,11 +72,11 @@ fn read_lane(area: &[u8], at: usize, j: usize) -> Lane
     }
 }
 
-// 0 only where two fields keep their limits. The first limit is the next field where `upper` is 0 and `order` has every bit.
-fn field_excess(x: Lane, upper: u16, order: u16, lower: u16) -> u16
-    ensures { λ r. ⌜ (r ≡ 0 → FieldsWithin x upper order lower) ⌝ }
+// 0 only where two fields keep their limits. The first limit is the next field where `heres` is 0 and `order` has every bit.
+fn field_excess(x: Lane, heres: u16, order: u16, lasts: u16) -> u16
+    ensures { λ r. ⌜ (r ≡ 0 → FieldsWithin x heres order lasts) ⌝ }
 {
-    saturating_sub(x.here, upper | (x.next & order)) | saturating_sub(x.last, lower)
+    saturating_sub(x.here, heres | (x.next & order)) | saturating_sub(x.last, lasts)
 }
 
 // 0 only where the sum of two fields keeps its limit: `sums` where the place is 0, and `more` beyond it where the place is 1.
@@ -95,9 +95,9 @@ fn sum_excess(x: Lane, sums: u16, more: u16) -> u16
 fn join(
     area: &[u8],
     at: usize,
-    upper: &[u16; 8],
+    heres: &[u16; 8],
     order: &[u16; 8],
-    lower: &[u16; 8],
+    lasts: &[u16; 8],
     sums: &[u16; 8],
     more: &[u16; 8],
     fields: &mut [u16; 8],
@@ -106,20 +106,21 @@ fn join(
     requires { ⌜ at + ruleWidth ≤ length (now area) ⌝ }
     requires { ⌜ (length (now fields) ≡ laneCount) × (length (now totals) ≡ laneCount) ⌝ }
     ensures { λ _. ⌜
-        Joined (before area) (limitsIn upper order lower sums more) at laneCount
+        Joined (before area) (limitsIn heres order lasts sums more) at laneCount
         (before fields) (before totals) (after fields) (after totals)
         ⌝ }
 {
     let mut j = 0;
     while j < LANES {
         let x = read_lane(area, at, j);
-        fields[j] = fields[j] | field_excess(x, upper[j], order[j], lower[j]);
+        fields[j] = fields[j] | field_excess(x, heres[j], order[j], lasts[j]);
         totals[j] = totals[j] | sum_excess(x, sums[j], more[j]);
         j += 1;
     }
 }
 
-fn none(fields: &[u16; 8], totals: &[u16; 8]) -> bool
+// Whether each number of both is 0.
+fn all_zero(fields: &[u16; 8], totals: &[u16; 8]) -> bool
     requires { ⌜ (length (now fields) ≡ laneCount) × (length (now totals) ≡ laneCount) ⌝ }
     ensures { λ r. ⌜ (r ≡ true → AllZero (before fields) (before totals)) ⌝ }
 {
@@ -132,16 +133,24 @@ fn none(fields: &[u16; 8], totals: &[u16; 8]) -> bool
     joint == 0
 }
 
-// Lane 3 of `upper` is the order of a span: its start is at most the next field, its end. Lane 3 of `sums` is a text, whose place is 0 in
+// `heres` has the limits of the field at a place, `lasts` those of the field 6 behind it. Lane 3 of `heres` is the order of a span: its start
+// is at most the next field, its end. Lane 3 of `sums` is a text, whose place is 0 in
 // the source and 1 in the rewritten text.
-pub fn quick_rules(area: &[u8], count: u16, source: u16, last: u16, entries: u16, text: u16) -> bool
+pub fn quick_rules(
+    area: &[u8],
+    count: u16,
+    source: u16,
+    highest: u16,
+    entries: u16,
+    text: u16,
+) -> bool
     requires { ⌜ count * ruleWidth ≤ length (now area) ⌝ }
     requires { ⌜ (source ≤ 65534) × (entries ≤ 65534) × (text ≤ 65534) ⌝ }
-    ensures { λ r. ⌜ (r ≡ true → RulesWithin (before area) count source last entries text) ⌝ }
+    ensures { λ r. ⌜ (r ≡ true → RulesWithin (before area) count source highest entries text) ⌝ }
 {
-    let upper = [1, ANY, 1, 0, source, ANY, ANY, 1];
+    let heres = [1, ANY, 1, 0, source, ANY, ANY, 1];
     let order = [0, 0, 0, ANY, 0, 0, 0, 0];
-    let lower = [ANY, ANY, ANY, ANY, ANY, ANY, 3, last];
+    let lasts = [ANY, ANY, ANY, ANY, ANY, ANY, 3, highest];
     let sums = [source, ANY, ANY, source, ANY, entries, ANY, ANY];
     let more = [0, 0, 0, wrapping_sub_u16(text, source), 0, 0, 0, 0];
     let mut fields = [0; 8];
@@ -152,9 +161,9 @@ pub fn quick_rules(area: &[u8], count: u16, source: u16, last: u16, entries: u16
         join(
             area,
             k * RULE_WIDTH,
-            &upper,
+            &heres,
             &order,
-            &lower,
+            &lasts,
             &sums,
             &more,
             &mut fields,
@@ -162,32 +171,32 @@ pub fn quick_rules(area: &[u8], count: u16, source: u16, last: u16, entries: u16
         );
         k += 1;
     }
-    none(&fields, &totals)
+    all_zero(&fields, &totals)
 }
 
 // ---- the entries of an area
 
 // One loop of eight without a branch, which the compiler makes one vector.
-fn eight_within(area: &[u8], from: usize, last: u16) -> bool
+fn eight_within(area: &[u8], from: usize, highest: u16) -> bool
     requires { ⌜ (from + laneCount) * entryWidth ≤ length (now area) ⌝ }
-    ensures { λ r. ⌜ (r ≡ true → EntriesWithin (before area) from (from + laneCount) last) ⌝ }
+    ensures { λ r. ⌜ (r ≡ true → EntriesWithin (before area) from (from + laneCount) highest) ⌝ }
 {
     let mut excess = 0;
     let mut j = 0;
     while j < LANES {
-        excess = excess | saturating_sub(read_entry(area, from + j), last);
+        excess = excess | saturating_sub(read_entry(area, from + j), highest);
         j += 1;
     }
     excess == 0
 }
 
-fn rest_within(area: &[u8], from: usize, most: usize, last: u16) -> bool
+fn rest_within(area: &[u8], from: usize, most: usize, highest: u16) -> bool
     requires { ⌜ (from ≤ most) × (most * entryWidth ≤ length (now area)) ⌝ }
-    ensures { λ r. ⌜ (r ≡ true → EntriesWithin (before area) from most last) ⌝ }
+    ensures { λ r. ⌜ (r ≡ true → EntriesWithin (before area) from most highest) ⌝ }
 {
     let mut k = from;
     while k < most {
-        if last < read_entry(area, k) {
+        if highest < read_entry(area, k) {
             return false;
         }
         k += 1;
@@ -196,19 +205,19 @@ fn rest_within(area: &[u8], from: usize, most: usize, last: u16) -> bool
 }
 
 // It leaves at the first eight that do not pass, so that the compiler does not gather one entry of each eight.
-pub fn entries_within(area: &[u8], count: u16, last: u16) -> bool
+pub fn entries_within(area: &[u8], count: u16, highest: u16) -> bool
     requires { ⌜ count * entryWidth ≤ length (now area) ⌝ }
-    ensures { λ r. ⌜ (r ≡ true → EntriesWithin (before area) 0 count last) ⌝ }
+    ensures { λ r. ⌜ (r ≡ true → EntriesWithin (before area) 0 count highest) ⌝ }
 {
     let most = count as usize;
     let blocks = most / LANES;
     let rest = blocks * LANES;
     let mut k = 0;
     while k < blocks {
-        if !eight_within(area, k * LANES, last) {
+        if !eight_within(area, k * LANES, highest) {
             return false;
         }
         k += 1;
     }
-    rest_within(area, rest, most, last)
+    rest_within(area, rest, most, highest)
 }

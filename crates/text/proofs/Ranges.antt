@@ -32,12 +32,15 @@ unfolding sameBytes
 same-self [] = refl
 same-self (x ∷ xs) = rw (eq-eqb x x refl) (same-self xs)
 
-pub same-lengths : (xs ys : List ℕ) → (length xs ≡ length ys → ⊥) → false ≡ sameBytes xs ys
-same-lengths xs ys d = go (sameBytes xs ys) refl
+pub same-not : (xs ys : List ℕ) → (xs ≡ ys → ⊥) → sameBytes xs ys ≡ false
+same-not xs ys d = go (sameBytes xs ys) refl
   where
-    go : (t : Bool) → sameBytes xs ys ≡ t → false ≡ t
-    go true e = absurd (d (ap length (same-equal xs ys e)))
+    go : (t : Bool) → sameBytes xs ys ≡ t → t ≡ false
+    go true e = absurd (d (same-equal xs ys e))
     go false e = refl
+
+pub same-lengths : (xs ys : List ℕ) → (length xs ≡ length ys → ⊥) → false ≡ sameBytes xs ys
+same-lengths xs ys d = sym (same-not xs ys (λ q. d (ap length q)))
 
 -- what stands behind lists of one length is compared by itself
 same-append : (xs ys us vs : List ℕ) → length xs ≡ length ys → sameBytes (xs ++ us) (ys ++ vs) ≡ sameBytes xs ys && sameBytes us vs

@@ -115,14 +115,14 @@ module _ (c : tie.After-count-unused) where
   abbrev room : tie.Else1
   room = all-if1 c
 
-  idle : c .count-unused .result ≡ length (unused (name (lent room)) (es (lent room)) (rules (lent room)))
-  idle = c .count-unused .ensures ∙ ap length (match room .match-rules .ensures .idle)
+  unused-count : c .count-unused .result ≡ length (unused (name (lent room)) (es (lent room)) (rules (lent room)))
+  unused-count = c .count-unused .ensures ∙ ap length (match room .match-rules .ensures .without-mark)
 
 returns-2 : tie.Need-returns-2
 returns-2 c =
     let s = lent (room (c .before)) in
     short-8 (name s) (rules s) (es s) (s .args .area2 .now) (s .args .area7 .now) (s .args .area8 .now) (fits-7 (room (c .before)))
-    (count-over (unused (name s) (es s) (rules s)) (s .args .area8 .now) _ (idle (c .before)) (c .if2 .taken))
+    (count-over (unused (name s) (es s) (rules s)) (s .args .area8 .now) _ (unused-count (c .before)) (c .if2 .taken))
 
 write-all-requires : tie.Need-write-all-requires
 write-all-requires c κs =
@@ -145,8 +145,8 @@ returns-3 c =
     let missing = match (room counts) .match-rules in
     written-write-all c .write-all .ensures
     ∙ none-short (name s) (rules s) (es s) (s .args .area2 .now) (s .args .area7 .now) (s .args .area8 .now) (fits-7 (room counts))
-    (count-fits (unused (name s) (es s) (rules s)) (s .args .area8 .now) _ (idle counts) (written-if2 c .if2 .left))
-    (missing .result) (counts .count-unused .result) (missing .ensures .missing) (idle counts)
+    (count-fits (unused (name s) (es s) (rules s)) (s .args .area8 .now) _ (unused-count counts) (written-if2 c .if2 .left))
+    (missing .result) (counts .count-unused .result) (missing .ensures .missing) (unused-count counts)
 
 pub link-checked-spec : {M : Type 1} → statement M
 link-checked-spec =

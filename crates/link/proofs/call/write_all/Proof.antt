@@ -103,9 +103,9 @@ write-unlinked-requires c κs =
 returns : tie.Need-returns
 returns c =
     let s = done-start c in
-    let idle = done-write-unused c .write-unused .ensures ∙ ap (laid entryFormat _) (s .pre .1 .1 .0 .idle) in
+    let unused-laid = done-write-unused c .write-unused .ensures ∙ ap (laid entryFormat _) (s .pre .1 .1 .0 .without-mark) in
     all-written (name s) (es s) (s .args .area2 .now) (s .args .rules) _ (done-link-rules c .link-rules .ensures) _ (s .args .area7 .now) (s .args .area8 .now)
-    _ _ _ _ (done-clear2 c .clear2 .ensures) (done-clear c .clear .ensures) (done-write-unlinked c .write-unlinked .ensures) idle
+    _ _ _ _ (done-clear2 c .clear2 .ensures) (done-clear c .clear .ensures) (done-write-unlinked c .write-unlinked .ensures) unused-laid
 
 pub write-all-spec : {M : Type 1} → statement M
 write-all-spec =

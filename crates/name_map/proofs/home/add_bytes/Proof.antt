@@ -1,4 +1,4 @@
--- `link::home::add_bytes` meets its contract: the loop has added the bytes so far.
+-- `name_map::home::add_bytes` meets its contract: the loop has added the bytes so far.
 use mathlib.Core.Path.{_≡_, refl}
 use Prim.Native.Nat.{_+_, _≤_, _-_}
 use native.Mathlib.Omega.{arith}

@@ -1,4 +1,4 @@
--- `link::home::add_number` meets its contract: both sums wrap.
+-- `name_map::home::add_number` meets its contract: both sums wrap.
 use borrow.Author.Needs.{needs}
 use Rattle.name_map.proofs.Homes.{number-added}
 use Rattle.name_map.proofs.home.add_number.Statement.{statement}

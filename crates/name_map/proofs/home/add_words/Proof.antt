@@ -1,4 +1,4 @@
--- `link::home::add_words` meets its contract: the loop has added the words so far.
+-- `name_map::home::add_words` meets its contract: the loop has added the words so far.
 use mathlib.Core.Path.{_≡_}
 use Prim.Native.Nat.{_≤_, _-_}
 use native.Mathlib.Omega.{arith}

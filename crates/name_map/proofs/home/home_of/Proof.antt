@@ -1,4 +1,4 @@
--- `link::home::home_of` meets its contract: the checksum of the range is that of its bytes as a list.
+-- `name_map::home::home_of` meets its contract: the checksum of the range is that of its bytes as a list.
 use borrow.Author.Needs.{needs}
 use Rattle.name_map.proofs.Homes.{home-made}
 use Rattle.name_map.proofs.home.home_of.Statement.{statement}

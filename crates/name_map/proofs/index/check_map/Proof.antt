@@ -1,4 +1,4 @@
--- `link::index::check_map` meets its contract: each test that fails makes it false, and a map that passes has its slots.
+-- `name_map::index::check_map` meets its contract: each test that fails makes it false, and a map that passes has its slots.
 use borrow.Author.Needs.{needs}
 use Rattle.name_map.proofs.Maps.{map-ragged, map-large, map-outside, map-inside}
 use Rattle.name_map.proofs.Probing.{checked-no, checked-yes}

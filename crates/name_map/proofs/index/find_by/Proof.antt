@@ -1,4 +1,4 @@
--- `link::index::find_by` meets its contract: by each answer of the search. Of distinct names one entry at most has the name.
+-- `name_map::index::find_by` meets its contract: by each answer of the search. Of distinct names one entry at most has the name.
 use borrow.Author.Needs.{needs}
 use Rattle.name_map.proofs.Probing.{find-free, find-found}
 use Rattle.name_map.proofs.index.find_by.Statement.{statement}

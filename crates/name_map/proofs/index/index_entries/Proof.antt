@@ -1,4 +1,4 @@
--- `link::index::index_entries` meets its contract: the entries so far are in the slots, and each is the first of its name.
+-- `name_map::index::index_entries` meets its contract: the entries so far are in the slots, and each is the first of its name.
 use mathlib.Core.Path.{_≡_}
 use mathlib.Core.Bool.{true}
 use Prim.Native.Nat.{_≤_, _-_}

@@ -1,4 +1,4 @@
--- `link::index::index_entry` meets its contract: by each answer of the search for the entry's own name.
+-- `name_map::index::index_entry` meets its contract: by each answer of the search for the entry's own name.
 use native.Mathlib.Omega.{arith}
 use borrow.Author.Needs.{needs}
 use Rattle.name_map.proofs.Probing.{Searched, searched, free-inside, indexed-free, indexed-found, indexed-exhausted}

@@ -1,4 +1,4 @@
--- `link::index::probe` meets its contract: the slots that it has passed are taken by entries of other names.
+-- `name_map::index::probe` meets its contract: the slots that it has passed are taken by entries of other names.
 use mathlib.Core.Path.{sym, _∙_}
 use Prim.Native.Nat.{_-_}
 use native.Mathlib.Omega.{arith}

@@ -1,4 +1,4 @@
--- `link::map::find_entry` meets its contract: from where the loop stands the first entry of the name is the same.
+-- `name_map::map::find_entry` meets its contract: from where the loop stands the first entry of the name is the same.
 use mathlib.Core.Path.{_≡_}
 use Prim.Native.Nat.{_≤_, _-_}
 use Rattle.characters.specs.Walk.{first}

@@ -1,4 +1,4 @@
--- `link::map::has_name` meets its contract: the range that the entry gives is its name.
+-- `name_map::map::has_name` meets its contract: the range that the entry gives is its name.
 use Rattle.name_map.proofs.Maps.{mapping}
 use Rattle.name_map.proofs.map.has_name.Statement.{statement}
 use Rattle.name_map.proofs.map.has_name.Tie as tie

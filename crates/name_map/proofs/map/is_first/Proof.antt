@@ -1,4 +1,4 @@
--- `link::map::is_first` meets its contract: the name that is looked for is that of entry j.
+-- `name_map::map::is_first` meets its contract: the name that is looked for is that of entry j.
 use Rattle.name_map.proofs.Maps.{first-asked}
 use Rattle.name_map.proofs.map.is_first.Statement.{statement}
 use Rattle.name_map.proofs.map.is_first.Tie as tie

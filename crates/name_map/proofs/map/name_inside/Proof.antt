@@ -1,4 +1,4 @@
--- `link::map::name_inside` meets its contract: a sum of two fields cannot wrap.
+-- `name_map::map::name_inside` meets its contract: a sum of two fields cannot wrap.
 use borrow.Author.Needs.{needs}
 use Rattle.name_map.specs.Map.{nameInside}
 use Rattle.name_map.proofs.map.name_inside.Statement.{statement}

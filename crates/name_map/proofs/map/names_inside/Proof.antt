@@ -1,4 +1,4 @@
--- `link::map::names_inside` meets its contract: the tests so far are those of the entries so far.
+-- `name_map::map::names_inside` meets its contract: the tests so far are those of the entries so far.
 use mathlib.Core.Path.{_≡_}
 use Prim.Native.Nat.{_≤_, _-_}
 use Rattle.area.specs.Contents.{contents}

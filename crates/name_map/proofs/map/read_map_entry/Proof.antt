@@ -1,4 +1,4 @@
--- `link::map::read_map_entry` meets its contract: the fields that it read make the entry.
+-- `name_map::map::read_map_entry` meets its contract: the fields that it read make the entry.
 use borrow.Author.Needs.{needs}
 use Rattle.name_map.proofs.Maps.{map-entry-made}
 use Rattle.name_map.proofs.map.read_map_entry.Statement.{statement}

@@ -1,4 +1,4 @@
--- `run::longest::is_live` meets its contract: an empty list has no state, and by another alone the rule is live.
+-- `run::longest::is_live` meets its contract: without a list the state is asked, and with one the search in it alone.
 use Rattle.run.proofs.Winning.{living}
 use Rattle.run.proofs.longest.is_live.Statement.{statement}
 use Rattle.run.proofs.longest.is_live.Tie as tie

@@ -10,10 +10,10 @@ use Rattle.sheet_check.proofs.lanes.eight_within.Statement.{statement}
 use Rattle.sheet_check.proofs.lanes.eight_within.Tie as tie
 
 abbrev Inv-loop : tie.InvT-loop
-Inv-loop area from last excess₀ j₀ excess j = (j ≤ laneCount) × (excess ≡ 0 → EntriesWithin area from (from + j) last)
+Inv-loop area from highest excess₀ j₀ excess j = (j ≤ laneCount) × (excess ≡ 0 → EntriesWithin area from (from + j) highest)
 
 abbrev μ-loop : tie.MeasureT-loop
-μ-loop area from last excess₀ j₀ excess j = laneCount - j
+μ-loop area from highest excess₀ j₀ excess j = laneCount - j
 
 loop-holds : tie.Need-loop-holds Inv-loop μ-loop
 loop-holds c = (search needs, λ e. entries-to _ _ _ _ _ (omega arith) (entries-none _ _ _))

@@ -10,10 +10,10 @@ use Rattle.sheet_check.proofs.lanes.entries_within.Statement.{statement
 use Rattle.sheet_check.proofs.lanes.entries_within.Tie as tie
 
 abbrev Inv-loop : tie.InvT-loop
-Inv-loop area count last most blocks rest k₀ k = (k ≤ blocks) × EntriesWithin area 0 (k * laneCount) last
+Inv-loop area count highest most blocks rest k₀ k = (k ≤ blocks) × EntriesWithin area 0 (k * laneCount) highest
 
 abbrev μ-loop : tie.MeasureT-loop
-μ-loop area count last most blocks rest k₀ k = blocks - k
+μ-loop area count highest most blocks rest k₀ k = blocks - k
 
 loop-holds : tie.Need-loop-holds Inv-loop μ-loop
 loop-holds c = (search needs, entries-none _ _ _)

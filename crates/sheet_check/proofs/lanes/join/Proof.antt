@@ -8,12 +8,12 @@ use Rattle.sheet_check.proofs.lanes.join.Statement.{statement}
 use Rattle.sheet_check.proofs.lanes.join.Tie as tie
 
 abbrev Inv-loop : tie.InvT-loop
-Inv-loop area at upper order lower sums more fields₀ totals₀ j₀ fields totals j =
+Inv-loop area at heres order lasts sums more fields₀ totals₀ j₀ fields totals j =
     (j ≤ laneCount)
-    × Joined area (record { upper = upper; order = order; lower = lower; sums = sums; more = more }) at j fields₀ totals₀ fields totals
+    × Joined area (record { heres = heres; order = order; lasts = lasts; sums = sums; more = more }) at j fields₀ totals₀ fields totals
 
 abbrev μ-loop : tie.MeasureT-loop
-μ-loop area at upper order lower sums more fields₀ totals₀ j₀ fields totals j = laneCount - j
+μ-loop area at heres order lasts sums more fields₀ totals₀ j₀ fields totals j = laneCount - j
 
 loop-holds : tie.Need-loop-holds Inv-loop μ-loop
 loop-holds c =

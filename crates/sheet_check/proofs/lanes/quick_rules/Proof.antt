@@ -8,11 +8,11 @@ use Rattle.sheet_check.proofs.lanes.quick_rules.Statement.{statement}
 use Rattle.sheet_check.proofs.lanes.quick_rules.Tie as tie
 
 abbrev Inv-loop : tie.InvT-loop
-Inv-loop area count source last entries text upper order lower sums more fields₀ totals₀ most k₀ fields totals k =
-    (k ≤ count) × RulesJoined area (record { upper = upper; order = order; lower = lower; sums = sums; more = more }) k fields totals
+Inv-loop area count source highest entries text heres order lasts sums more fields₀ totals₀ most k₀ fields totals k =
+    (k ≤ count) × RulesJoined area (record { heres = heres; order = order; lasts = lasts; sums = sums; more = more }) k fields totals
 
 abbrev μ-loop : tie.MeasureT-loop
-μ-loop area count source last entries text upper order lower sums more fields₀ totals₀ most k₀ fields totals k = count - k
+μ-loop area count source highest entries text heres order lasts sums more fields₀ totals₀ most k₀ fields totals k = count - k
 
 loop-holds : tie.Need-loop-holds Inv-loop μ-loop
 loop-holds c = (search needs, rules-none _ _ refl refl)
@@ -27,15 +27,15 @@ loop-again c =
     let joined = c .before .before .before .before .before .before .before .before .before .loop .inv .1 in
     (search needs, rules-next joined (c .join .ensures))
 
-none-requires : tie.Need-none-requires Inv-loop μ-loop
-none-requires c κs = let joined = c .before .before .before .loop .inv .1 in (joined .fields .long, joined .totals .long)
+all-zero-requires : tie.Need-all-zero-requires Inv-loop μ-loop
+all-zero-requires c κs = let joined = c .before .before .before .loop .inv .1 in (joined .fields .long, joined .totals .long)
 
 returns : tie.Need-returns Inv-loop μ-loop
 returns c passed =
     let ended = c .before .before .before .before in
     let start = ended .before .before .before in
     let all : ended .loop .k ≡ start .args .count = omega arith in
-    rules-within _ _ _ _ _ _ _ _ _ (rules-all all (ended .loop .inv .1)) (c .none .ensures passed) (start .pre .1)
+    rules-within _ _ _ _ _ _ _ _ _ (rules-all all (ended .loop .inv .1)) (c .all-zero .ensures passed) (start .pre .1)
     (record {
       has-id = (refl, refl);
       named = (refl, refl);
@@ -63,5 +63,5 @@ quick-rules-spec =
     (λ c. search needs)
     (λ c. search needs)
     loop-again
-    none-requires
+    all-zero-requires
     returns)

@@ -9,10 +9,10 @@ use Rattle.sheet_check.proofs.lanes.rest_within.Statement.{statement}
 use Rattle.sheet_check.proofs.lanes.rest_within.Tie as tie
 
 abbrev Inv-loop : tie.InvT-loop
-Inv-loop area from most last k₀ k = (k ≤ most) × EntriesWithin area from k last
+Inv-loop area from most highest k₀ k = (k ≤ most) × EntriesWithin area from k highest
 
 abbrev μ-loop : tie.MeasureT-loop
-μ-loop area from most last k₀ k = most - k
+μ-loop area from most highest k₀ k = most - k
 
 loop-holds : tie.Need-loop-holds Inv-loop μ-loop
 loop-holds c = (search needs, entries-none _ _ _)

@@ -1,7 +1,6 @@
 -- `text::range::past_same` meets its contract: from where the loop stands the comparison of the rests answers the same.
-use mathlib.Core.Path.{_≡_}
 use borrow.Author.Needs.{needs}
-use Prim.Native.Nat.{_+_, _-_, _≤_}
+use Prim.Native.Nat.{_-_, _≤_}
 use Rattle.text.specs.Range.{SameRests}
 use Rattle.text.proofs.Ranges.{block-same}
 use Rattle.text.proofs.range.past_same.Statement.{statement}

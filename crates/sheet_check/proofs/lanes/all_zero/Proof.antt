@@ -1,4 +1,4 @@
--- `sheet_check::lanes::none` meets its contract: where the joint of all numbers is 0, each is.
+-- `sheet_check::lanes::all_zero` meets its contract: where the joint of all numbers is 0, each is.
 use mathlib.Core.Path.{_≡_}
 use Prim.Native.Nat.{ℕ, _≤_, _<_, _-_}
 use native.Mathlib.Omega.{arith}
@@ -6,8 +6,8 @@ use borrow.Author.Needs.{needs}
 use lib.ListN.{getD}
 use Rattle.sheet_check.specs.Lanes.{laneCount}
 use Rattle.sheet_check.proofs.LaneLaws.{zero-next, zero-all}
-use Rattle.sheet_check.proofs.lanes.none.Statement.{statement}
-use Rattle.sheet_check.proofs.lanes.none.Tie as tie
+use Rattle.sheet_check.proofs.lanes.all_zero.Statement.{statement}
+use Rattle.sheet_check.proofs.lanes.all_zero.Tie as tie
 
 abbrev Inv-loop : tie.InvT-loop
 Inv-loop fields totals joint₀ j₀ joint j =
@@ -27,8 +27,8 @@ loop-again c =
 returns : tie.Need-returns Inv-loop μ-loop
 returns c = zero-all _ _ _ _ (c .before .loop .inv .1) (omega arith)
 
-pub none-spec : {M : Type 1} → statement M
-none-spec =
+pub all-zero-spec : {M : Type 1} → statement M
+all-zero-spec =
     tie.close
     (tie.spec
     Inv-loop
