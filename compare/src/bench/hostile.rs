@@ -27,6 +27,16 @@ pub fn middle() -> Hostile {
     Hostile { bytes, ranges: (0..NAMES).map(|j| j..j + LENGTH).collect() }
 }
 
+/// Names of one length that begin with 32,779 zeros or more and that our index sends to one home. The byte 0x80 is the highest of
+/// a word of four bytes in each: it adds half of 2^32 to the sum, and to the sum of sums once for each word from there on, and
+/// whether these are even or odd is the same in all names.
+pub fn one_home() -> Hostile {
+    const PLACE: usize = 49_155;
+    let mut bytes = vec![0; SOURCE_LIMIT];
+    bytes[PLACE] = 0x80;
+    Hostile { bytes, ranges: (0..NAMES).map(|j| 8 * j..8 * j + PLACE + 4).collect() }
+}
+
 impl Hostile {
     pub fn names(&self) -> impl Iterator<Item = &[u8]> {
         self.names_in(&self.bytes)
@@ -62,11 +72,12 @@ mod tests {
     use super::*;
     use crate::sheet::{Rule, fields};
     use std::collections::HashSet;
+    use std::ops::RangeInclusive;
 
-    fn check(hostile: &Hostile) {
+    fn check(hostile: &Hostile, lengths: RangeInclusive<usize>) {
         let names: HashSet<&[u8]> = hostile.names().collect();
         assert_eq!(names.len(), 2_048);
-        assert!(names.iter().all(|name| (60_900..=63_000).contains(&name.len())));
+        assert!(names.iter().all(|name| lengths.contains(&name.len())));
         // every name has the byte in the middle of all of them
         assert!(hostile.ranges.iter().all(|range| range.contains(&32_524)));
         let sheet = hostile.sheet();
@@ -86,17 +97,23 @@ mod tests {
 
     #[test]
     fn zeros_differ_in_length_alone() {
-        check(&zeros());
+        check(&zeros(), 60_900..=LENGTH);
         assert!(zeros().names().all(|name| name.iter().all(|byte| *byte == 0)));
     }
 
     #[test]
     fn names_of_one_length_differ_in_the_middle_alone() {
-        check(&middle());
+        check(&middle(), LENGTH..=LENGTH);
         for name in middle().names() {
             let place = name.iter().position(|byte| *byte == 1);
             assert!(place.is_some_and(|place| (30_000..33_000).contains(&place)));
             assert_eq!((name.len(), name.iter().filter(|byte| **byte != 0).count()), (LENGTH, 1));
         }
+    }
+
+    #[test]
+    fn names_of_one_home_begin_alike() {
+        check(&one_home(), 49_159..=49_159);
+        assert!(one_home().names().all(|name| name[..32_779].iter().all(|byte| *byte == 0)));
     }
 }
