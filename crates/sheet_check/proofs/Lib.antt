@@ -1,5 +1,5 @@
 pub mod Judging
 pub mod Checked
-pub mod LaneLaws
+pub mod Quick
 pub mod Patterns
 pub mod PatternWords

@@ -4,13 +4,8 @@ use Rattle.characters.specs.Computing.{computing as characters-computing}
 use Rattle.area.specs.Computing.{computing as area-computing}
 use Rattle.names.specs.Computing.{computing as names-computing}
 use Rattle.parse.specs.Computing.{computing as parse-computing}
-use Rattle.sheet_check.specs.Lanes.{laneAt}
 use Rattle.sheet_check.specs.Pattern.{patternPart, textOf, startOf, numberOf, patternFields}
 use Rattle.sheet_check.specs.SheetCheck.{decoded, longEnough, goodCounts, goodSizes, goodState, goodRule, goodExpected, goodRecords, sheetCheck}
-
-unfoldable lanes-file : Unit {0}
-unfolding laneAt
-lanes-file = tt
 
 unfoldable pattern-file : Unit {0}
 unfolding patternPart textOf startOf numberOf patternFields
@@ -21,5 +16,5 @@ unfolding decoded longEnough goodCounts goodSizes goodState goodRule goodExpecte
 sheet-check-file = tt
 
 unfoldable pub computing : Unit {0}
-unfolding characters-computing area-computing names-computing parse-computing lanes-file pattern-file sheet-check-file
+unfolding characters-computing area-computing names-computing parse-computing pattern-file sheet-check-file
 computing = tt

@@ -12,8 +12,6 @@ ghost use Rattle.sheet_check.specs.SheetCheck.{sizesOf, goodCounts, good
 ghost use Rattle.sheet_check.specs.Contracts.{sheetIn, AreasLong};
 ghost use Rattle.area.specs.Contracts.{before};
 use crate::Sizes;
-use crate::lanes::entries_within;
-use crate::lanes::quick_rules;
 use area::ENTRY_WIDTH;
 use area::EXPECTED_WIDTH;
 use area::Expected;
@@ -27,6 +25,8 @@ use area::read_entry;
 use area::read_expected;
 use area::read_rule;
 use area::read_state;
+use lanes::entries_within;
+use lanes::quick_rules;
 
 // ---- a record
 

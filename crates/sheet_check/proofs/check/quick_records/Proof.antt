@@ -6,7 +6,7 @@ use native.Mathlib.Omega.{arith}
 use borrow.Author.Needs.{needs}
 use borrow.Author.Tests.{not-false}
 use Rattle.sheet_check.proofs.Judging.{records-good}
-use Rattle.sheet_check.proofs.LaneLaws.{entries-declared}
+use Rattle.sheet_check.proofs.Quick.{rules-good, entries-declared}
 use Rattle.sheet_check.proofs.check.quick_records.Statement.{statement}
 use Rattle.sheet_check.proofs.check.quick_records.Tie as tie
 
@@ -37,7 +37,8 @@ returns-4 c named =
     let z = passed-start p .args .sizes in
     let some : z .states - 1 < z .states = omega (arith, passed-start p .pre .1) in
     let states = sym (passed-good-states p .good-states .ensures) ∙ not-false _ (passed-if1 p .if1 .left) in
-    let rules = passed-quick-rules p .quick-rules .ensures (not-false _ (p .if2 .left)) .good z (omega arith) some (omega arith) (omega arith) in
+    let within = passed-quick-rules p .quick-rules .ensures (not-false _ (p .if2 .left)) in
+    let rules = rules-good z _ _ _ _ _ (omega arith) some (omega arith) (omega arith) _ within in
     let entries = entries-declared _ _ _ _ some (asked .before .entries-within .ensures (not-false _ (asked .if3 .left))) in
     records-good _ _ _ _ _ states rules entries (sym (c .good-names .ensures) ∙ named)
 

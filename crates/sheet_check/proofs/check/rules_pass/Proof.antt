@@ -2,11 +2,14 @@
 use mathlib.Core.Path.{sym}
 use native.Mathlib.Omega.{arith}
 use borrow.Author.Needs.{needs}
+use Rattle.sheet_check.proofs.Quick.{rules-good}
 use Rattle.sheet_check.proofs.check.rules_pass.Statement.{statement}
 use Rattle.sheet_check.proofs.check.rules_pass.Tie as tie
 
 returns : tie.Need-returns
-returns c = sym (c .before .quick-rules .ensures (c .if1 .taken) .good _ (omega arith) (omega arith) (omega arith) (omega arith))
+returns c =
+    let within = c .before .quick-rules .ensures (c .if1 .taken) in
+    sym (rules-good _ _ _ _ _ _ (omega arith) (omega arith) (omega arith) (omega arith) _ within)
 
 pub rules-pass-spec : {M : Type 1} → statement M
 rules-pass-spec =

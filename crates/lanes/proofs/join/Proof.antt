@@ -1,11 +1,11 @@
--- `sheet_check::lanes::join` meets its contract: the lanes so far are joined.
+-- `lanes::join` meets its contract: the lanes so far are joined.
 use Prim.Native.Nat.{_≤_, _-_}
 use native.Mathlib.Omega.{arith}
 use borrow.Author.Needs.{needs}
-use Rattle.sheet_check.specs.Lanes.{laneCount, Joined}
-use Rattle.sheet_check.proofs.LaneLaws.{joined-none, joined-next, fields-at, sum-at, joined-all}
-use Rattle.sheet_check.proofs.lanes.join.Statement.{statement}
-use Rattle.sheet_check.proofs.lanes.join.Tie as tie
+use Rattle.lanes.specs.Lanes.{laneCount, Joined}
+use Rattle.lanes.proofs.LaneLaws.{joined-none, joined-next, fields-at, sum-at, joined-all}
+use Rattle.lanes.proofs.join.Statement.{statement}
+use Rattle.lanes.proofs.join.Tie as tie
 
 abbrev Inv-loop : tie.InvT-loop
 Inv-loop area at heres order lasts sums more fields₀ totals₀ j₀ fields totals j =

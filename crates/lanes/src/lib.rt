@@ -1,20 +1,20 @@
 // Quick tests of the rules and the list entries of a sheet, eight fields at a time. The compiler makes one vector of each eight, so every
-// lane does what every other does, and a field that is not asked for has no limit. Where a test passes, every record is good; where it does
-// not, nothing is known.
+// lane does what every other does, and a field that is not asked for has no limit. Where a test passes, every record keeps the limits; where
+// it does not, nothing is known.
 ghost use mathlib.Core.Path.{_≡_};
 ghost use mathlib.Core.Bool.{true};
 ghost use Prim.Native.Nat.{_+_, _*_, _-_, _%_, _≤_, min};
 ghost use lib.ListN.{length};
 ghost use Rattle.area.specs.Records.{ruleWidth, entryWidth};
 ghost use Rattle.area.specs.Contracts.{before, after};
-ghost use Rattle.sheet_check.specs.Lanes.{laneCount, laneAt, FieldsWithin, SumWithin, Joined, limitsIn, AllZero, RulesWithin, EntriesWithin};
+ghost use Rattle.lanes.specs.Lanes.{laneCount, laneAt, FieldsWithin, SumWithin, Joined, limitsIn, AllZero, RulesWithin, EntriesWithin};
 use area::RULE_WIDTH;
 use area::read_entry;
 use area::read_field;
 use std::num::wrapping_add_u16;
 use std::num::wrapping_sub_u16;
 
-// No limit.
+// No limit: no field is above it.
 const ANY: u16 = 65535;
 
 const LANES: usize = 8;
@@ -50,6 +50,7 @@ fn saturating_add(x: u16, y: u16) -> u16
     x + y
 }
 
+// The product, wrapped at 65,536.
 fn wrapping_mul(x: u16, y: u16) -> u16
     ensures { λ r. ⌜ r ≡ (x * y) % 65536 ⌝ }
 {
@@ -91,7 +92,8 @@ fn sum_excess(x: Lane, sums: u16, more: u16) -> u16
 
 // ---- the lanes of a rule
 
-// The lanes of the rule at a place are joined to those before: what is not 0 stays so.
+// The lanes of the rule at a place are joined to the numbers of those before: what is not 0 stays so. Fields and sums have a number each, in
+// one loop: with one number for both, or with two loops, the code is slower.
 fn join(
     area: &[u8],
     at: usize,
@@ -133,9 +135,11 @@ fn all_zero(fields: &[u16; 8], totals: &[u16; 8]) -> bool
     joint == 0
 }
 
-// `heres` has the limits of the field at a place, `lasts` those of the field 6 behind it. Lane 3 of `heres` is the order of a span: its start
-// is at most the next field, its end. Lane 3 of `sums` is a text, whose place is 0 in
-// the source and 1 in the rewritten text.
+// A rule's fields: 0 has_id, 1 id, 2 named, 3 span_start, 4 span_end, 5 name_from, 6 name_length, 7 place, 8 text_from, 9 text_length,
+// 10 list_from, 11 list_count, 12 operation, 13 target. Lane j asks field j (`heres`), field j + 6 (`lasts`) and the sum of the fields j + 5
+// and j + 6 (`sums`, a name, a text and a list). In lane 3 the start of a span is at most the next field, its end (`order`), and the limit of
+// a text is that of the source at place 0 and that of the rewritten text at place 1 (`more`). Limits of sums are below 65,535, where sums
+// are cut. It takes numbers, since the sizes as one value would go by memory.
 pub fn quick_rules(
     area: &[u8],
     count: u16,

@@ -1,8 +1,8 @@
--- `sheet_check::lanes::read_lane` meets its contract: the five fields of a lane.
+-- `lanes::read_lane` meets its contract: the five fields of a lane.
 use borrow.Author.Needs.{needs}
-use Rattle.sheet_check.proofs.LaneLaws.{lane-made}
-use Rattle.sheet_check.proofs.lanes.read_lane.Statement.{statement}
-use Rattle.sheet_check.proofs.lanes.read_lane.Tie as tie
+use Rattle.lanes.proofs.LaneLaws.{lane-made}
+use Rattle.lanes.proofs.read_lane.Statement.{statement}
+use Rattle.lanes.proofs.read_lane.Tie as tie
 
 pub read-lane-spec : {M : Type 1} → statement M
 read-lane-spec =

@@ -1,13 +1,13 @@
--- `sheet_check::lanes::all_zero` meets its contract: where the joint of all numbers is 0, each is.
+-- `lanes::all_zero` meets its contract: where the joint of all numbers is 0, each is.
 use mathlib.Core.Path.{_≡_}
 use Prim.Native.Nat.{ℕ, _≤_, _<_, _-_}
 use native.Mathlib.Omega.{arith}
 use borrow.Author.Needs.{needs}
 use lib.ListN.{getD}
-use Rattle.sheet_check.specs.Lanes.{laneCount}
-use Rattle.sheet_check.proofs.LaneLaws.{zero-next, zero-all}
-use Rattle.sheet_check.proofs.lanes.all_zero.Statement.{statement}
-use Rattle.sheet_check.proofs.lanes.all_zero.Tie as tie
+use Rattle.lanes.specs.Lanes.{laneCount}
+use Rattle.lanes.proofs.LaneLaws.{zero-next, zero-all}
+use Rattle.lanes.proofs.all_zero.Statement.{statement}
+use Rattle.lanes.proofs.all_zero.Tie as tie
 
 abbrev Inv-loop : tie.InvT-loop
 Inv-loop fields totals joint₀ j₀ joint j =

@@ -1,11 +1,11 @@
--- `sheet_check::lanes::quick_rules` meets its contract: the lanes of the rules so far are joined.
+-- `lanes::quick_rules` meets its contract: the lanes of the rules so far are joined.
 use mathlib.Core.Path.{_≡_, refl}
 use Prim.Native.Nat.{_≤_, _-_}
 use native.Mathlib.Omega.{arith}
 use borrow.Author.Needs.{needs}
-use Rattle.sheet_check.proofs.LaneLaws.{RulesJoined, rules-none, rules-next, rules-all, rules-within}
-use Rattle.sheet_check.proofs.lanes.quick_rules.Statement.{statement}
-use Rattle.sheet_check.proofs.lanes.quick_rules.Tie as tie
+use Rattle.lanes.proofs.LaneLaws.{RulesJoined, rules-none, rules-next, rules-all, rules-within}
+use Rattle.lanes.proofs.quick_rules.Statement.{statement}
+use Rattle.lanes.proofs.quick_rules.Tie as tie
 
 abbrev Inv-loop : tie.InvT-loop
 Inv-loop area count source highest entries text heres order lasts sums more fields₀ totals₀ most k₀ fields totals k =

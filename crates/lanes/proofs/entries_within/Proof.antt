@@ -1,13 +1,13 @@
--- `sheet_check::lanes::entries_within` meets its contract: the entries of the eights so far are within, and those with the rest are all.
+-- `lanes::entries_within` meets its contract: the entries of the eights so far are within, and those with the rest are all.
 use mathlib.Core.Bool.{false≢true}
 use Prim.Native.Nat.{_*_, _≤_, _-_}
 use native.Mathlib.Omega.{arith}
 use borrow.Author.Needs.{needs}
 use borrow.Author.Tests.{not-false}
-use Rattle.sheet_check.specs.Lanes.{laneCount, EntriesWithin}
-use Rattle.sheet_check.proofs.LaneLaws.{entries-none, entries-to, entries-join}
-use Rattle.sheet_check.proofs.lanes.entries_within.Statement.{statement}
-use Rattle.sheet_check.proofs.lanes.entries_within.Tie as tie
+use Rattle.lanes.specs.Lanes.{laneCount, EntriesWithin}
+use Rattle.lanes.proofs.LaneLaws.{entries-none, entries-to, entries-join}
+use Rattle.lanes.proofs.entries_within.Statement.{statement}
+use Rattle.lanes.proofs.entries_within.Tie as tie
 
 abbrev Inv-loop : tie.InvT-loop
 Inv-loop area count highest most blocks rest k₀ k = (k ≤ blocks) × EntriesWithin area 0 (k * laneCount) highest

@@ -1,8 +1,8 @@
--- `sheet_check::lanes::field_excess` meets its contract: where the joint of two numbers is 0, both are.
+-- `lanes::field_excess` meets its contract: where the joint of two numbers is 0, both are.
 use borrow.Author.Needs.{needs}
-use Rattle.sheet_check.proofs.LaneLaws.{fields-within}
-use Rattle.sheet_check.proofs.lanes.field_excess.Statement.{statement}
-use Rattle.sheet_check.proofs.lanes.field_excess.Tie as tie
+use Rattle.lanes.proofs.LaneLaws.{fields-within}
+use Rattle.lanes.proofs.field_excess.Statement.{statement}
+use Rattle.lanes.proofs.field_excess.Tie as tie
 
 returns : tie.Need-returns
 returns c = fields-within _ _ _ _ _ _ (c .before .saturating-sub .ensures) (c .saturating-sub2 .ensures)

@@ -1,19 +1,15 @@
--- The quick tests of a sheet's records: what a lane of eight fields is asked, and what a rule's limits are. 01 has none of it: a record is
--- good by its tests in SheetCheck, and where a quick test passes every record is.
+-- The quick tests of a sheet's records: what a lane of eight fields is asked, and what limits the records keep where a test passes. 01 has
+-- none of it: a record is good by its tests in the sheet check, and where a quick test does not pass nothing is known.
 use Prim.Native.Nat.{ℕ, _+_, _*_, _%_, _≤_, _<_, min}
 use mathlib.Core.Path.{_≡_}
-use mathlib.Core.Bool.{true}
 use mathlib.Core.List.{List}
 use lib.Bits.{bitAnd, bitOr}
 use lib.ListN.{length, getD}
+use Rattle.area.specs.declared.Rule.{Rule}
 use Rattle.area.specs.Bytes.{fieldFrom}
-use Rattle.area.specs.Records.{entryAt}
-use Rattle.area.specs.Contents.{contents, ruleFormat}
+use Rattle.area.specs.Records.{ruleAt, entryAt}
 use Rattle.area.specs.Contracts.{Bytes, before}
-use Rattle.area.specs.Lists.{all}
-use Rattle.sheet_check.specs.declared.Sizes.{Sizes}
-use Rattle.sheet_check.specs.declared.lanes.Lane.{Lane}
-use Rattle.sheet_check.specs.SheetCheck.{goodRule}
+use Rattle.lanes.specs.declared.Lane.{Lane}
 
 -- how many lanes there are
 abbrev pub laneCount : ℕ
@@ -74,10 +70,23 @@ pub record Joined (l : List ℕ) (limits : Limits) (at m : ℕ) (f t f′ t′ :
 pub record AllZero (f t : List ℕ) : Type 0 where
   pub each : (j : ℕ) → j < laneCount → (getD f j 0 ≡ 0) × (getD t j 0 ≡ 0)
 
--- the first rules of an area are good in every sheet that has at least these sizes
+-- a rule keeps these limits; its text does by its place
+pub record RuleWithin (source highest entries text : ℕ) (x : Rule) : Type 0 where
+  pub has-id : x .«has_id» ≤ 1
+  pub named : x .named ≤ 1
+  pub place : x .place ≤ 1
+  pub span-ordered : x .«span_start» ≤ x .«span_end»
+  pub span-inside : x .«span_end» ≤ source
+  pub name-inside : x .«name_from» + x .«name_length» ≤ source
+  pub text-source : x .place ≡ 0 → x .«text_from» + x .«text_length» ≤ source
+  pub text-rewritten : x .place ≡ 1 → x .«text_from» + x .«text_length» ≤ text
+  pub list-inside : x .«list_from» + x .«list_count» ≤ entries
+  pub operation : x .operation ≤ 3
+  pub target : x .target ≤ highest
+
+-- so do the first rules of an area
 pub record RulesWithin (l : List ℕ) (count source highest entries text : ℕ) : Type 0 where
-  pub good : (z : Sizes) → source ≤ z .source → highest < z .states → entries ≤ z .entries → text ≤ z .text
-      → all (goodRule z) (contents ruleFormat l count) ≡ true
+  pub each : (k : ℕ) → k < count → RuleWithin source highest entries text (ruleAt l k)
 
 -- the entries of an area from one number up to before another are at most highest
 pub record EntriesWithin (l : List ℕ) (from to highest : ℕ) : Type 0 where

@@ -1,8 +1,8 @@
--- `sheet_check::lanes::sum_excess` meets its contract: the sum is not above its limit where their difference, cut at 0, is 0.
+-- `lanes::sum_excess` meets its contract: the sum is not above its limit where their difference, cut at 0, is 0.
 use borrow.Author.Needs.{needs}
-use Rattle.sheet_check.proofs.LaneLaws.{sum-within}
-use Rattle.sheet_check.proofs.lanes.sum_excess.Statement.{statement}
-use Rattle.sheet_check.proofs.lanes.sum_excess.Tie as tie
+use Rattle.lanes.proofs.LaneLaws.{sum-within}
+use Rattle.lanes.proofs.sum_excess.Statement.{statement}
+use Rattle.lanes.proofs.sum_excess.Tie as tie
 
 returns : tie.Need-returns
 returns c =

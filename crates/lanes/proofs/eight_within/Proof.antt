@@ -1,13 +1,13 @@
--- `sheet_check::lanes::eight_within` meets its contract: where the joint of the excesses is 0, each is.
+-- `lanes::eight_within` meets its contract: where the joint of the excesses is 0, each is.
 use mathlib.Core.Path.{_≡_}
 use Prim.Native.Nat.{_+_, _≤_, _-_}
 use native.Mathlib.Omega.{arith}
 use borrow.Author.Needs.{needs}
 use borrow.Author.Tests.{eqb-true}
-use Rattle.sheet_check.specs.Lanes.{laneCount, EntriesWithin}
-use Rattle.sheet_check.proofs.LaneLaws.{entries-none, entries-to, excess-next}
-use Rattle.sheet_check.proofs.lanes.eight_within.Statement.{statement}
-use Rattle.sheet_check.proofs.lanes.eight_within.Tie as tie
+use Rattle.lanes.specs.Lanes.{laneCount, EntriesWithin}
+use Rattle.lanes.proofs.LaneLaws.{entries-none, entries-to, excess-next}
+use Rattle.lanes.proofs.eight_within.Statement.{statement}
+use Rattle.lanes.proofs.eight_within.Tie as tie
 
 abbrev Inv-loop : tie.InvT-loop
 Inv-loop area from highest excess₀ j₀ excess j = (j ≤ laneCount) × (excess ≡ 0 → EntriesWithin area from (from + j) highest)

@@ -1,10 +1,10 @@
--- `sheet_check::lanes::wrapping_mul` meets its contract: the product of two fields fits 32 bits.
+-- `lanes::wrapping_mul` meets its contract: the product of two fields fits 32 bits.
 use native.Mathlib.Omega.{arith}
 use native.Mathlib.Nat.{mul-le-mul}
 use Prim.Native.Nat.{_≤_}
 use borrow.Author.Needs.{needs}
-use Rattle.sheet_check.proofs.lanes.wrapping_mul.Statement.{statement}
-use Rattle.sheet_check.proofs.lanes.wrapping_mul.Tie as tie
+use Rattle.lanes.proofs.wrapping_mul.Statement.{statement}
+use Rattle.lanes.proofs.wrapping_mul.Tie as tie
 
 mul-result : tie.Need-mul-result
 mul-result c =

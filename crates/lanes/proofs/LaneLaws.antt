@@ -1,27 +1,22 @@
--- The quick tests are right where they pass. A number that bits are joined to is 0 only where it was 0 and they are (`or-none`),
--- so at the end each lane of each rule keeps its limits, and limits that are read lane by lane are the plain facts of a good rule.
+-- The quick tests are right where they pass. A number that bits are joined to is 0 only where it was 0 and they are (`or-none`), so at the end
+-- each lane of each rule keeps its limits, and the limits of its lanes are those of a rule's fields and sums.
 use mathlib.Core.Path.{_≡_, refl, sym, ap, subst, _∙_}
 use mathlib.Core.Bool.{Bool, true, false}
 use mathlib.Core.List.{List}
 use mathlib.Core.Logic.{⊎-elim}
 use Prim.Native.Nat.{ℕ, _+_, _*_, _-_, _%_, _≤_, _<_, min}
 use native.Mathlib.Omega.{arith}
-use borrow.Author.Tests.{eqb-true, eqb-false, lt-ltb}
+use borrow.Author.Tests.{eqb-true, eqb-false}
 use lib.Bits.{bitAnd, bitOr, or-add-and, and-le-l, and-le-r, and-zero-r, or-zero-l, or-zero-r}
 use lib.Dec.{eqb}
 use lib.ListN.{length, getD, set, length-set}
 use lib.Seq.{getD-set-same, getD-set-other}
-use Rattle.characters.proofs.Tests.{le-or-lt, by-test}
+use Rattle.characters.proofs.Tests.{le-or-lt}
 use Rattle.area.specs.Bytes.{fieldAt, fieldFrom}
 use Rattle.area.specs.Records.{ruleAt, ruleOf, ruleWidth, entryAt}
-use Rattle.area.specs.Contents.{contents, ruleFormat, entryFormat}
-use Rattle.area.specs.Lists.{all}
-use Rattle.sheet_check.specs.declared.Sizes.{Sizes}
-use Rattle.sheet_check.specs.declared.lanes.Lane.{Lane}
-use Rattle.sheet_check.specs.SheetCheck.{declared, textBytes, goodRule}
-use Rattle.sheet_check.specs.Lanes.{laneCount, laneAt, FieldsWithin, SumWithin, Limits, FieldsAt, SumAt, JoinedTo, Joined, AllZero, RulesWithin, EntriesWithin}
-use Rattle.sheet_check.proofs.Judging.{records-pass}
-use Rattle.sheet_check.proofs.Checked.{GoodRule, rule-passes}
+use Rattle.lanes.specs.declared.Lane.{Lane}
+use Rattle.lanes.specs.Lanes.{laneCount, laneAt, FieldsWithin, SumWithin, Limits, FieldsAt, SumAt, JoinedTo, Joined, AllZero}
+use Rattle.lanes.specs.Lanes.{RuleWithin, RulesWithin, EntriesWithin}
 
 -- ---- a lane
 
@@ -187,9 +182,9 @@ module _ (a b place sums more n : ℕ) (small : n ≤ 65534) (keeps : min (a + b
       subst (λ (p : ℕ). min (a + b) 65535 ≤ (sums + (p * more) % 65536) % 65536) one keeps in
       omega (arith, small, h, e)
 
--- ---- rules that keep their limits are good
+-- ---- rules whose lanes keep their limits
 
--- limits by which a rule is good in a sheet of these sizes: of its fields, and of its sums
+-- limits of lanes that are these limits of a rule: of its fields, and of its sums
 pub record RuleLimits (limits : Limits) (source highest entries text : ℕ) : Type 0 where
   pub has-id : (getD (limits .heres) 0 0 ≡ 1) × (getD (limits .order) 0 0 ≡ 0)
   pub named : (getD (limits .heres) 2 0 ≡ 1) × (getD (limits .order) 2 0 ≡ 0)
@@ -208,8 +203,7 @@ abbrev pub Small : ℕ → ℕ → ℕ → Type 0
 Small source entries text = (source ≤ 65534) × (entries ≤ 65534) × (text ≤ 65534)
 
 module _ (l : List ℕ) (limits : Limits) (source highest entries text : ℕ) (small : Small source entries text)
-    (are : RuleLimits limits source highest entries text) (z : Sizes) (hn : source ≤ z .source) (hs : highest < z .states)
-    (he : entries ≤ z .entries) (ht : text ≤ z .text) (k : ℕ) (f : (j : ℕ) → j < laneCount → FieldsAt l limits (k * ruleWidth) j)
+    (are : RuleLimits limits source highest entries text) (k : ℕ) (f : (j : ℕ) → j < laneCount → FieldsAt l limits (k * ruleWidth) j)
     (s : (j : ℕ) → j < laneCount → SumAt l limits (k * ruleWidth) j) where
   abbrev at : ℕ → ℕ
   at j = fieldFrom l (k * ruleWidth) j
@@ -231,39 +225,37 @@ module _ (l : List ℕ) (limits : Limits) (source highest entries text : ℕ) (s
   unfolding laneAt
   range-inside j h n g e = sum-limit (at (j + 5)) (at (j + 6)) (at (j + 4)) (getD (limits .sums) j 0) (getD (limits .more) j 0) n g (s j h .inside) e
 
-  text-inside : at 8 + at 9 ≤ textBytes z (at 7)
+  text-source : at 7 ≡ 0 → at 8 + at 9 ≤ source
   unfolding laneAt
-  text-inside =
-      let keeps = s 3 (omega arith) .inside in
-      let sums : ℕ = getD (limits .sums) 3 0 in
-      let more : ℕ = getD (limits .more) 3 0 in
-      by-test (λ (n : ℕ). at 8 + at 9 ≤ n) (eqb (at 7) 1) (z .text) (z .source)
-      (λ one. omega (arith, ht, text-limit (at 8) (at 9) (at 7) sums more text (small .2) keeps (are .rewritten-text) (eqb-true (at 7) 1 one)))
-      (λ other.
-      let none : at 7 ≡ 0 = omega (arith, field-limit 7 (omega arith) 1 (are .place), eqb-false (at 7) 1 other) in
-      omega (arith, hn, source-limit (at 8) (at 9) (at 7) sums more source (small .0) keeps (are .source-text) none))
+  text-source none = source-limit (at 8) (at 9) (at 7) (getD (limits .sums) 3 0) (getD (limits .more) 3 0) source (small .0)
+      (s 3 (omega arith) .inside) (are .source-text) none
 
-  rule-good : GoodRule z (ruleAt l k)
+  text-rewritten : at 7 ≡ 1 → at 8 + at 9 ≤ text
+  unfolding laneAt
+  text-rewritten one = text-limit (at 8) (at 9) (at 7) (getD (limits .sums) 3 0) (getD (limits .more) 3 0) text (small .2)
+      (s 3 (omega arith) .inside) (are .rewritten-text) one
+
+  rule-within : RuleWithin source highest entries text (ruleAt l k)
   unfolding ruleAt ruleOf
-  rule-good = record {
+  rule-within = record {
     has-id = field-limit 0 (omega arith) 1 (are .has-id);
     named = field-limit 2 (omega arith) 1 (are .named);
     place = field-limit 7 (omega arith) 1 (are .place);
     span-ordered = span-ordered;
-    span-inside = omega (arith, hn, field-limit 4 (omega arith) source (are .span-end));
-    name-inside = omega (arith, hn, range-inside 0 (omega arith) source (small .0) (are .name));
-    text-inside = text-inside;
-    list-inside = omega (arith, he, range-inside 5 (omega arith) entries (small .1) (are .list));
+    span-inside = field-limit 4 (omega arith) source (are .span-end);
+    name-inside = range-inside 0 (omega arith) source (small .0) (are .name);
+    text-source = text-source;
+    text-rewritten = text-rewritten;
+    list-inside = range-inside 5 (omega arith) entries (small .1) (are .list);
     operation = omega (arith, last-limit 6 (omega arith), are .operation);
-    target = omega (arith, hs, last-limit 7 (omega arith), are .target);
+    target = omega (arith, last-limit 7 (omega arith), are .target);
   }
 
 pub rules-within : (l : List ℕ) (limits : Limits) (count source highest entries text : ℕ) (f t : List ℕ) → RulesJoined l limits count f t
     → AllZero f t → Small source entries text → RuleLimits limits source highest entries text → RulesWithin l count source highest entries text
 rules-within l limits count source highest entries text f t joined zero small are = record {
-  good = λ z hn hs he ht. records-pass ruleFormat (goodRule z) l count
-      (λ k g. rule-passes z (ruleAt l k) (rule-good l limits source highest entries text small are z hn hs he ht k
-      (λ j w. joined .fields .each k j g w (zero .each j w .0)) (λ j w. joined .totals .each k j g w (zero .each j w .1))));
+  each = λ k g. rule-within l limits source highest entries text small are k (λ j w. joined .fields .each k j g w (zero .each j w .0))
+      (λ j w. joined .totals .each k j g w (zero .each j w .1));
 }
 
 -- ---- the entries of an area
@@ -293,8 +285,3 @@ module _ (l : List ℕ) (from highest : ℕ) where
   excess-next k excess a x before read is e =
       let z = or-none excess a e in
       entries-next k (before (z .0)) (omega (arith, read, is, z .1))
-
-pub entries-declared : (l : List ℕ) (count highest states : ℕ) → highest < states → EntriesWithin l 0 count highest
-    → all (declared states) (contents entryFormat l count) ≡ true
-entries-declared l count highest states h within =
-    records-pass entryFormat (declared states) l count (λ k g. lt-ltb (entryAt l k) states (omega (arith, h, within .each k (omega arith) g)))

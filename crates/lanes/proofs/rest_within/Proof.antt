@@ -1,12 +1,12 @@
--- `sheet_check::lanes::rest_within` meets its contract: the entries so far are within.
+-- `lanes::rest_within` meets its contract: the entries so far are within.
 use mathlib.Core.Bool.{false≢true}
 use Prim.Native.Nat.{_≤_, _-_}
 use native.Mathlib.Omega.{arith}
 use borrow.Author.Needs.{needs}
-use Rattle.sheet_check.specs.Lanes.{EntriesWithin}
-use Rattle.sheet_check.proofs.LaneLaws.{entries-none, entries-next, entries-to}
-use Rattle.sheet_check.proofs.lanes.rest_within.Statement.{statement}
-use Rattle.sheet_check.proofs.lanes.rest_within.Tie as tie
+use Rattle.lanes.specs.Lanes.{EntriesWithin}
+use Rattle.lanes.proofs.LaneLaws.{entries-none, entries-next, entries-to}
+use Rattle.lanes.proofs.rest_within.Statement.{statement}
+use Rattle.lanes.proofs.rest_within.Tie as tie
 
 abbrev Inv-loop : tie.InvT-loop
 Inv-loop area from most highest k₀ k = (k ≤ most) × EntriesWithin area from k highest
