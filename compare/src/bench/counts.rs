@@ -27,6 +27,10 @@ pub fn count(wanted: &Wanted) -> Result<(), String> {
     }
     println!("{}", title(&names));
     for shape in shapes {
+        if shape.slow && wanted.words.is_empty() {
+            println!("{}: left out, since counting takes minutes; name it to have it", shape.name);
+            continue;
+        }
         let counts = objects.iter().map(|object| instructions(&shape, object.as_deref()));
         println!("{}", line(&shape.name, &counts.collect::<Result<Vec<u64>, String>>()?));
     }

@@ -23,7 +23,7 @@ pub fn shapes() -> Vec<Shape> {
         Shape::new("link: hostile middle, small sheet", FUNCTION, 1, || small(hostile::middle())),
         Shape::new("link: hostile zeros, 2,048 rules, a HashMap", FUNCTION, 1, || large(hostile::zeros())),
         Shape::new("link: hostile middle, 2,048 rules, a HashMap", FUNCTION, 1, || large(hostile::middle())),
-        Shape::new("link: hostile one home, 2,048 rules, a HashMap", FUNCTION, 1, || large(hostile::one_home())),
+        Shape::new("link: hostile one home, 2,048 rules, a HashMap", FUNCTION, 1, || large(hostile::one_home())).slow(),
     ]
 }
 

@@ -13,12 +13,18 @@ pub struct Shape {
     pub function: &'static str,
     /// How often it is called.
     pub calls: u32,
+    /// Whether it takes minutes to count.
+    pub slow: bool,
     make: Box<dyn Fn() -> Work>,
 }
 
 impl Shape {
     pub fn new(name: impl ToString, function: &'static str, calls: u32, make: impl Fn() -> Work + 'static) -> Shape {
-        Shape { name: name.to_string(), function, calls, make: Box::new(make) }
+        Shape { name: name.to_string(), function, calls, slow: false, make: Box::new(make) }
+    }
+
+    pub fn slow(self) -> Shape {
+        Shape { slow: true, ..self }
     }
 
     /// A shape is done with before the next is made: the original's loop has one table of lengths.
