@@ -45,18 +45,16 @@ fn library() -> Result<PathBuf, String> {
 
 fn build(root: &Path, file: &Path) -> Result<(), String> {
     let missing = format!("There is no {}", file.display());
-    let output = Command::new("rt")
-        .args(["staticlib", "troymantle"])
-        .current_dir(root)
-        .stdin(Stdio::null())
-        .output()
-        .map_err(|error| match error.kind() {
-            io::ErrorKind::NotFound => format!(
-                "{missing}, and the command rt of the Rattle kit, which proves and builds it, is not on the PATH. \
+    let output =
+        Command::new("rt").args(["staticlib", "troymantle"]).current_dir(root).stdin(Stdio::null()).output().map_err(
+            |error| match error.kind() {
+                io::ErrorKind::NotFound => format!(
+                    "{missing}, and the command rt of the Rattle kit, which proves and builds it, is not on the PATH. \
                  Install the kit, or set {VARIABLE} to the path of a {FILE} that was built elsewhere."
-            ),
-            _ => format!("{missing}, and the command rt, which proves and builds it, does not start: {error}."),
-        })?;
+                ),
+                _ => format!("{missing}, and the command rt, which proves and builds it, does not start: {error}."),
+            },
+        )?;
     if output.status.success() && file.is_file() {
         return Ok(());
     }

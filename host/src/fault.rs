@@ -1,0 +1,129 @@
+//! What is wrong in a lex file.
+
+use crate::numbers;
+use crate::records::records;
+use std::fmt;
+use std::ops::Range;
+
+/// A fault of a lex file.
+#[derive(Clone, Debug, PartialEq, Eq)]
+pub struct Fault {
+    /// What is wrong.
+    pub kind: FaultKind,
+    /// Where, in bytes of the file. A repeated name has a span for each time that it stands there, the first one first; any
+    /// other fault has one span, which is empty where only a place is known.
+    pub spans: Vec<Range<usize>>,
+}
+
+impl Fault {
+    /// The byte where the fault is: for a repeated name its first repeat, for any other where it starts.
+    pub fn place(&self) -> usize {
+        self.spans.get(1).or(self.spans.first()).map_or(0, |span| span.start)
+    }
+
+    /// The faults of area 6: the spans of one fault stand one behind the other and have its number.
+    pub(crate) fn listed(area: &[u8], spans: usize) -> Vec<Fault> {
+        let mut faults: Vec<Fault> = vec![];
+        let mut last = None;
+        for [number, kind, start, end] in records(area, spans) {
+            let span = Range { start: usize::from(start), end: usize::from(end) };
+            match faults.last_mut() {
+                Some(fault) if last == Some(number) => fault.spans.push(span),
+                _ => faults.push(Fault { kind: FaultKind::of(kind), spans: vec![span] }),
+            }
+            last = Some(number);
+        }
+        faults
+    }
+}
+
+/// `kind's words (kind's name) at byte PLACE`.
+impl fmt::Display for Fault {
+    fn fmt(&self, f: &mut fmt::Formatter) -> fmt::Result {
+        write!(f, "{} ({}) at byte {}", self.kind, self.kind.name(), self.place())
+    }
+}
+
+impl std::error::Error for Fault {}
+
+macro_rules! kinds {
+    ($($(#[$about:meta])* $kind:ident = $number:ident: $words:literal;)*) => {
+        /// What a fault is about. A number that this crate does not know is `Other`.
+        #[derive(Clone, Copy, Debug, PartialEq, Eq, Hash)]
+        #[non_exhaustive]
+        pub enum FaultKind {
+            $($(#[$about])* $kind,)*
+            /// A kind of a library that is newer than this crate.
+            Other(u16),
+        }
+
+        impl FaultKind {
+            /// Every kind that this crate knows, by its number.
+            pub const ALL: &[FaultKind] = &[$(FaultKind::$kind),*];
+
+            pub(crate) fn of(number: u16) -> FaultKind {
+                match number {
+                    $(numbers::$number => FaultKind::$kind,)*
+                    other => FaultKind::Other(other),
+                }
+            }
+
+            /// The kind's number in area 6.
+            pub fn number(self) -> u16 {
+                match self {
+                    $(FaultKind::$kind => numbers::$number,)*
+                    FaultKind::Other(number) => number,
+                }
+            }
+
+            /// The kind's name, as grmtools' `LexErrorKind` has it.
+            pub fn name(self) -> &'static str {
+                match self {
+                    $(FaultKind::$kind => stringify!($kind),)*
+                    FaultKind::Other(_) => "Other",
+                }
+            }
+
+            /// What is wrong, in words.
+            pub fn words(self) -> &'static str {
+                match self {
+                    $(FaultKind::$kind => $words,)*
+                    FaultKind::Other(_) => "a fault that this program has no words for",
+                }
+            }
+        }
+    };
+}
+
+kinds! {
+    /// The file ends in its declarations.
+    PrematureEnd = PREMATURE_END: "the file ends before its `%%`";
+    /// There is more than whitespace behind a second `%%`.
+    RoutinesNotSupported = ROUTINES_NOT_SUPPORTED: "nothing may follow a second `%%`";
+    /// A declaration's first word is not known, or names are missing behind it.
+    UnknownDeclaration = UNKNOWN_DECLARATION: "unknown declaration";
+    /// A rule has no blank between pattern and name.
+    MissingSpace = MISSING_SPACE: "no blank between pattern and name";
+    /// A name has not equal quotes at both ends, or nothing between them.
+    InvalidName = INVALID_NAME: "a name needs equal quotes around it";
+    /// A state that no declaration has.
+    UnknownStartState = UNKNOWN_START_STATE: "this state is not declared";
+    /// A state is declared twice.
+    DuplicateStartState = DUPLICATE_START_STATE: "this state is declared already";
+    /// A `<` is not closed.
+    InvalidStartState = INVALID_START_STATE: "`<` without its `>`";
+    /// A state's name has not the form of one.
+    InvalidStartStateName = INVALID_START_STATE_NAME: "a state's name is a letter, then letters, digits, `_` and `.`";
+    /// Two rules have one name.
+    DuplicateName = DUPLICATE_NAME: "another rule has this name already";
+    /// The regex engine refuses the pattern.
+    RegexError = REGEX_ERROR: "the regex engine refuses this pattern";
+    /// A line among the rules starts with whitespace.
+    VerbatimNotSupported = VERBATIM_NOT_SUPPORTED: "a line among the rules must not start with whitespace";
+}
+
+impl fmt::Display for FaultKind {
+    fn fmt(&self, f: &mut fmt::Formatter) -> fmt::Result {
+        f.write_str(self.words())
+    }
+}
