@@ -70,3 +70,8 @@ pub use map::{Map, NamesTooLong};
 pub use refusal::Refusal;
 pub use run::{Row, Run, Step};
 pub use sheet::{Linked, Operation, Parts, Rule, Sheet, State};
+
+/// The program on the repository's first page.
+#[cfg(doctest)]
+#[doc = include_str!("../../README.md")]
+struct FirstPage;
