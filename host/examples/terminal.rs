@@ -81,10 +81,10 @@ fn tell(output: &mut Output, messages: &[Message]) -> u8 {
 fn status_of(output: &mut Output, ended: Result<(), Failure>, status: u8) -> u8 {
     match ended {
         Ok(()) | Err(Failure::Unread) => status,
-        Err(Failure::Output(words) | Failure::Input(words)) => {
-            // where this cannot be written either, the status is all that is left
-            let _ = output.message(&Message::error(words)).and_then(|()| output.flush());
+        Err(Failure::Output(words)) => {
+            output.complain(&Message::error(words));
             NO_USE
         }
+        Err(Failure::Input(words)) => tell(output, &[Message::error(words)]),
     }
 }

@@ -24,8 +24,7 @@ pub struct Loaded {
 /// Loads the files that the options name; where they are of no use, everything that is wrong.
 pub fn load(options: &Options) -> Result<Loaded, Vec<Message>> {
     let (lex, map) = sources(options)?;
-    let (mut sheet, patterns) = parse(&lex, options)?;
-    let map_file = map_file::read(&map)?;
+    let ((mut sheet, patterns), map_file) = both(parse(&lex, options), map_file::read(&map))?;
     let linked = sheet.link(&map_file.map).map_err(|refusal| vec![refused(&map, &refusal)])?;
     let unmapped = unmapped(&lex, &sheet, &linked);
     let warnings = unused(&map, &map_file, &linked);
@@ -37,13 +36,18 @@ pub fn load(options: &Options) -> Result<Loaded, Vec<Message>> {
     }
 }
 
-/// Both files; where neither can be read, both are told of.
+/// The files that the options name.
 fn sources(options: &Options) -> Result<(Source, Source), Vec<Message>> {
     let Some((lex, map)) = &options.files else {
         let lex = Source::new("tote.l", include_bytes!("../tote/tote.l").to_vec());
         return Ok((lex, Source::new("tote.map", include_bytes!("../tote/tote.map").to_vec())));
     };
-    match (source(lex, MOST_SOURCE), source(map, map_file::MOST_BYTES)) {
+    both(source(lex, MOST_SOURCE), source(map, map_file::MOST_BYTES))
+}
+
+/// What comes of the two files; where either is wrong, what is wrong with both.
+fn both<L, M>(lex: Result<L, Vec<Message>>, map: Result<M, Vec<Message>>) -> Result<(L, M), Vec<Message>> {
+    match (lex, map) {
         (Ok(lex), Ok(map)) => Ok((lex, map)),
         (lex, map) => Err([lex.err(), map.err()].into_iter().flatten().flatten().collect()),
     }
@@ -145,7 +149,11 @@ fn unmapped(lex: &Source, sheet: &Sheet, linked: &Linked) -> Vec<Message> {
         let words = format!("rule {} is not in the map", visible(&name));
         Message::at(Level::Error, lex.excerpt(&range), words).with_name(&name)
     });
-    told.collect()
+    let mut messages: Vec<_> = told.collect();
+    if let Some(last) = messages.pop() {
+        messages.push(last.with_note(Message::hint("a rule that may be missing is named in %expect-missing")));
+    }
+    messages
 }
 
 /// Entries of the map that no rule names.

@@ -56,9 +56,13 @@ impl Output {
             return Ok(writeln!(self.out, "{}", message.object().finish())?);
         }
         self.flush()?;
-        // where standard error cannot be written there is nobody to tell
-        let _ = io::stderr().write_all(message.lines(self.message_paint).as_bytes());
+        self.complain(message);
         Ok(())
+    }
+
+    /// Tells a message on standard error; where that cannot be written there is nobody to tell.
+    pub fn complain(&self, message: &Message) {
+        let _ = io::stderr().write_all(message.lines(self.message_paint).as_bytes());
     }
 }
 
