@@ -86,7 +86,7 @@ fn is_option(word: &OsStr) -> bool {
     word.len() > 1 && word.as_bytes().starts_with(b"-")
 }
 
-/// The two parts of `--name=value`, or the word alone. A value need not be UTF-8; any other word that is not is unknown.
+/// The two parts of `--name=value`, or the word alone. A value need not be UTF-8; another word that is not is unknown.
 fn name_and_value(word: &OsStr) -> (&str, Option<OsString>) {
     let mut parts = word.as_bytes().splitn(2, |byte| *byte == b'=');
     match (parts.next(), parts.next()) {

@@ -5,7 +5,7 @@ use crate::json::Object;
 use crate::lexer::{End, Lexer, Move, Reading};
 use crate::message::painted_marks;
 use crate::paint::{Paint, Style};
-use crate::source::{grouped, marks, visible};
+use crate::source::{grouped, marked, visible};
 use std::io::{self, Write};
 
 /// Names, states and texts that are longer than this are not waited for by the columns.
@@ -66,10 +66,10 @@ pub fn lines(
         None => writeln!(out, "  {}", paint.paint(style, word))?,
         Some(words) => writeln!(out, "  {}: {words}", paint.paint(style, word))?,
     }
-    if let Some(length) = marked(reading) {
+    if let Some(length) = marked_length(reading) {
         let (left, rest) = text.split_at_checked(reading.position).unwrap_or_default();
-        let under = painted_marks(&marks(left, rest.get(..length).unwrap_or_default()), paint);
-        writeln!(out, "    {}\n    {under}", visible(&text))?;
+        let (shown, marks) = marked(left, rest, length);
+        writeln!(out, "    {shown}\n    {}", painted_marks(&marks, paint))?;
     }
     Ok(())
 }
@@ -135,7 +135,7 @@ pub fn end_words(lexer: &Lexer, reading: &Reading) -> (&'static str, Option<Stri
 }
 
 /// How many bytes at the position are marked, where an entry was not read to its end.
-fn marked(reading: &Reading) -> Option<usize> {
+fn marked_length(reading: &Reading) -> Option<usize> {
     match reading.end {
         End::Done | End::Refused(_) => None,
         End::Stopped | End::NotText => Some(0),

@@ -5,6 +5,11 @@ use std::io::{self, Read};
 use std::ops::Range;
 use std::path::Path;
 
+/// A line above so many characters is shown in part.
+const MOST_SHOWN: usize = 120;
+/// Of such a line so many characters are shown before a place.
+const MOST_BEFORE: usize = 40;
+
 /// A file that messages tell of.
 pub struct Source {
     /// Its name, as messages have it.
@@ -56,9 +61,8 @@ impl Source {
         let (before, rest) = self.text.split_at_checked(start).unwrap_or((&self.text, ""));
         let line_start = before.rfind('\n').map_or(0, |at| at + 1);
         let (_, left) = before.split_at_checked(line_start).unwrap_or_default();
-        let right = rest.split('\n').next().unwrap_or_default();
-        let shown = visible(format!("{left}{right}").trim_end_matches('\r'));
-        let part = rest.get(..end - start).unwrap_or_default();
+        let right = rest.split('\n').next().unwrap_or_default().trim_end_matches('\r');
+        let (shown, marks) = marked(left, right, end - start);
         Excerpt {
             file: self.name.clone(),
             line: before.matches('\n').count() + 1,
@@ -66,7 +70,7 @@ impl Source {
             start: span.start,
             length: span.len(),
             shown,
-            marks: marks(left, part.split('\n').next().unwrap_or_default().trim_end_matches('\r')),
+            marks,
         }
     }
 }
@@ -76,12 +80,28 @@ fn character_edge(text: &str, byte: usize) -> usize {
     (0..=byte.min(text.len())).rev().find(|edge| text.is_char_boundary(*edge)).unwrap_or(0)
 }
 
-/// `^` or `^~~~` under the part of a line behind `left`. Tabs stay, so that it stands right however wide they are.
-pub fn marks(left: &str, part: &str) -> String {
-    let mut line: String = left.chars().map(|c| if c == '\t' { '\t' } else { ' ' }).collect();
-    line.push('^');
-    line.extend(part.chars().skip(1).map(|_| '~'));
-    line
+/// The line of `left` and `right`, and below it `^` or `^~~~` under the first `length` bytes of `right`, cut at its end.
+/// Of a long line only what stands around them is shown. Tabs stay, so that the marks stand right.
+pub fn marked(left: &str, right: &str, length: usize) -> (String, String) {
+    let part = right.get(..length).unwrap_or(right);
+    let long = left.chars().count() + right.chars().count() > MOST_SHOWN;
+    let near = if long { last(left, MOST_BEFORE) } else { left };
+    let rest = if long { first(right, MOST_SHOWN - near.chars().count()) } else { right };
+    let cut = |is_cut: bool| if is_cut { "..." } else { "" };
+    let (before, behind) = (cut(near.len() < left.len()), cut(rest.len() < right.len()));
+    let shown = format!("{before}{}{}{behind}", visible(near), visible(rest));
+    let mut marks: String = before.chars().chain(near.chars()).map(|c| if c == '\t' { '\t' } else { ' ' }).collect();
+    marks.push('^');
+    marks.extend(part.chars().zip(rest.chars()).skip(1).map(|_| '~'));
+    (shown, marks)
+}
+
+fn first(text: &str, characters: usize) -> &str {
+    text.char_indices().nth(characters).and_then(|(edge, _)| text.get(..edge)).unwrap_or(text)
+}
+
+fn last(text: &str, characters: usize) -> &str {
+    text.char_indices().rev().take(characters).last().and_then(|(edge, _)| text.get(edge..)).unwrap_or_default()
 }
 
 /// A text for a terminal: one visible character for each, but that tabs stay. Controls have Unicode's pictures of them;
@@ -149,6 +169,17 @@ mod tests {
         assert_eq!(excerpt("abc\r\nd", 1..6).marks, " ^~");
         assert_eq!(excerpt("abc\r\nd", 1..6).shown, "abc");
         assert_eq!(excerpt("ab", 0..9).marks, "^~");
+    }
+
+    #[test]
+    fn long_lines_are_shown_in_part() {
+        let whole = "é".repeat(120);
+        assert_eq!(marked("", &whole, 2), (whole.clone(), "^".to_string()));
+        let (shown, marks) = marked(&format!("0{}", "é".repeat(40)), &format!("{whole}1"), 400);
+        assert_eq!(shown, format!("...{}{}...", "é".repeat(40), "é".repeat(80)));
+        assert_eq!(marks, format!("{}^{}", " ".repeat(43), "~".repeat(79)));
+        let (shown, marks) = marked(&whole, "x", 1);
+        assert_eq!((shown.chars().count(), marks.chars().count()), (44, 44));
     }
 
     #[test]
