@@ -1,4 +1,4 @@
-//! Our library's calls. Every C declaration of this program stands here, and the sheet's arguments once.
+//! Our library's calls: the functions that `troymantle-sys` declares, linked or loaded, on slices.
 
 use crate::case::AREAS;
 use crate::link::Call;
@@ -7,45 +7,7 @@ use std::ffi::{CStr, CString, c_char, c_int, c_void};
 use std::mem::transmute;
 use std::os::unix::ffi::OsStrExt;
 use std::path::Path;
-
-/// Declares a C function of the library that is linked, and its type, for the same function of a library that is loaded.
-macro_rules! declared {
-    (fn $call:ident as $type_name:ident($($parameter:tt: $type:ty),* $(,)?)) => {
-        type $type_name = unsafe extern "C" fn($($parameter: $type),*) -> u64;
-
-        #[cfg(feature = "ours")]
-        unsafe extern "C" {
-            fn $call($($parameter: $type),*) -> u64;
-        }
-    };
-}
-
-declared! {
-    fn troymantle_parse as Parse(
-        source: *const u8,
-        source_length: usize,
-        flags: u64,
-        verdicts: *const u8,
-        verdicts_length: usize,
-        area_1: *mut u8,
-        area_1_length: usize,
-        area_2: *mut u8,
-        area_2_length: usize,
-        area_3: *mut u8,
-        area_3_length: usize,
-        area_4: *mut u8,
-        area_4_length: usize,
-        area_5: *mut u8,
-        area_5_length: usize,
-        area_6: *mut u8,
-        area_6_length: usize,
-        counts: *mut u16,
-    )
-}
-
-declared! {
-    fn troymantle_start as Start(n: u64, run: *mut u16, stack: *mut u8, stack_length: usize)
-}
+use troymantle_sys::{Link, Parse, PatternTest, Start, Step};
 
 unsafe extern "C" {
     fn dlopen(file: *const c_char, flags: c_int) -> *mut c_void;
@@ -56,95 +18,16 @@ unsafe extern "C" {
 /// Every function that the object needs is looked for at once. (Linux's number.)
 const RTLD_NOW: c_int = 2;
 
-/// A slice as C takes it: two arguments.
-#[derive(Clone, Copy)]
-struct Lent {
-    start: *const u8,
-    length: usize,
-}
-
-impl Lent {
-    fn read(bytes: &[u8]) -> Lent {
-        Lent { start: bytes.as_ptr(), length: bytes.len() }
-    }
-
-    /// The call may write there.
-    fn written(bytes: &mut [u8]) -> Lent {
-        Lent { start: bytes.as_mut_ptr(), length: bytes.len() }
-    }
-}
-
-/// A sheet as every call takes it: the source, areas 1 to 5 and the counts.
-struct SheetArguments {
-    source: Lent,
-    areas: [Lent; 5],
-    counts: *const u16,
-}
-
-impl SheetArguments {
-    fn of(sheet: &Sheet) -> SheetArguments {
-        SheetArguments {
-            source: Lent::read(&sheet.source),
-            areas: sheet.areas.each_ref().map(|area| Lent::read(area)),
-            counts: sheet.counts.as_ptr(),
-        }
-    }
-}
-
-/// Declares C functions that take a sheet, then values, then slices; and of each a function that takes it with the sheet as
-/// one value and each slice as one. Its caller vouches for every pointer and length.
-macro_rules! calls_on_sheets {
-    ($(fn $call:ident as $type_name:ident, $by:ident($($value:ident: $type:ty),*; $($slice:ident),*);)*) => {$(
-        declared! {
-            fn $call as $type_name(
-                source: *const u8,
-                source_length: usize,
-                area_1: *const u8,
-                area_1_length: usize,
-                area_2: *const u8,
-                area_2_length: usize,
-                area_3: *const u8,
-                area_3_length: usize,
-                area_4: *const u8,
-                area_4_length: usize,
-                area_5: *const u8,
-                area_5_length: usize,
-                counts: *const u16,
-                $($value: $type,)*
-                $($slice: *const u8, _: usize),*
-            )
-        }
-
-        unsafe fn $by(call: $type_name, sheet: &SheetArguments, $($value: $type,)* $($slice: Lent),*) -> u64 {
-            let SheetArguments { source, areas: [one, two, three, four, five], counts } = *sheet;
-            // SAFETY: the caller vouches for it.
-            unsafe {
-                call(
-                    source.start,
-                    source.length,
-                    one.start,
-                    one.length,
-                    two.start,
-                    two.length,
-                    three.start,
-                    three.length,
-                    four.start,
-                    four.length,
-                    five.start,
-                    five.length,
-                    counts,
-                    $($value,)*
-                    $($slice.start, $slice.length),*
-                )
-            }
-        }
-    )*};
-}
-
-calls_on_sheets! {
-    fn troymantle_pattern_test as PatternTest, pattern_test_by(rule: u64;);
-    fn troymantle_link as Link, link_by(; names, entries, area_7, area_8);
-    fn troymantle_step as Step, step_by(run: *mut u16; stack, row);
+/// Calls a function with a sheet in front of its other arguments, and a slice in the place of its area 2, which a link writes.
+/// Whoever uses it vouches for every pointer and length.
+macro_rules! on_sheet {
+    ($call:expr, $sheet:expr, $area_2:expr, $pointer:ident, $($argument:expr),*) => {{
+        let Sheet { source, areas: [one, _, three, four, five], counts } = $sheet;
+        $call(
+            source.as_ptr(), source.len(), one.as_ptr(), one.len(), $area_2.$pointer(), $area_2.len(),
+            three.as_ptr(), three.len(), four.as_ptr(), four.len(), five.as_ptr(), five.len(), counts, $($argument),*
+        )
+    }};
 }
 
 /// The calls of one build of our library.
@@ -160,11 +43,11 @@ pub struct Library {
 /// The static library that this program was built with.
 #[cfg(feature = "ours")]
 pub const LINKED: Library = Library {
-    parse: troymantle_parse,
-    pattern_test: troymantle_pattern_test,
-    link: troymantle_link,
-    start: troymantle_start,
-    step: troymantle_step,
+    parse: troymantle_sys::troymantle_parse,
+    pattern_test: troymantle_sys::troymantle_pattern_test,
+    link: troymantle_sys::troymantle_link,
+    start: troymantle_sys::troymantle_start,
+    step: troymantle_sys::troymantle_step,
 };
 
 impl Library {
@@ -227,34 +110,49 @@ impl Library {
                 five.len(),
                 six.as_mut_ptr(),
                 six.len(),
-                counts.as_mut_ptr(),
+                counts,
             )
         }
     }
 
     pub fn pattern_test(&self, sheet: &Sheet, rule: u64) -> u64 {
         // SAFETY: the call reads the sheet and writes nothing.
-        unsafe { pattern_test_by(self.pattern_test, &SheetArguments::of(sheet), rule) }
+        unsafe { on_sheet!((self.pattern_test), sheet, sheet.areas[1], as_ptr, rule) }
     }
 
     /// Area 2 of the call is lent apart, so that the call itself stays as it was.
     pub fn link(&self, call: &Call, area_2: &mut [u8], area_7: &mut [u8], area_8: &mut [u8]) -> u64 {
-        let mut sheet = SheetArguments::of(&call.sheet);
-        sheet.areas[1] = Lent::written(area_2);
-        let (names, entries) = (Lent::read(&call.names), Lent::read(&call.entries));
+        let Call { sheet, names, entries, .. } = call;
         // SAFETY: every slice is lent whole, and the call writes areas 2, 7 and 8 alone.
-        unsafe { link_by(self.link, &sheet, names, entries, Lent::written(area_7), Lent::written(area_8)) }
+        unsafe {
+            on_sheet!(
+                (self.link),
+                sheet,
+                area_2,
+                as_mut_ptr,
+                names.as_ptr(),
+                names.len(),
+                entries.as_ptr(),
+                entries.len(),
+                area_7.as_mut_ptr(),
+                area_7.len(),
+                area_8.as_mut_ptr(),
+                area_8.len()
+            )
+        }
     }
 
     pub fn start(&self, n: u64, numbers: &mut [u16; 4], stack: &mut [u8]) -> u64 {
         // SAFETY: the stack's pointer goes with its length; the numbers are four.
-        unsafe { (self.start)(n, numbers.as_mut_ptr(), stack.as_mut_ptr(), stack.len()) }
+        unsafe { (self.start)(n, numbers, stack.as_mut_ptr(), stack.len()) }
     }
 
     pub fn step(&self, sheet: &Sheet, numbers: &mut [u16; 4], stack: &mut [u8], row: &[u8]) -> u64 {
-        let sheet = SheetArguments::of(sheet);
+        let (stack, stack_length) = (stack.as_mut_ptr(), stack.len());
         // SAFETY: every slice is lent whole; the call writes the four numbers and the stack alone.
-        unsafe { step_by(self.step, &sheet, numbers.as_mut_ptr(), Lent::written(stack), Lent::read(row)) }
+        unsafe {
+            on_sheet!((self.step), sheet, sheet.areas[1], as_ptr, numbers, stack, stack_length, row.as_ptr(), row.len())
+        }
     }
 }
 

@@ -60,21 +60,12 @@ pub fn pattern_test(sheet: &SheetBytes, rule: u64) -> Word {
     on_sheet!(troymantle_pattern_test, as_ptr, sheet, rule)
 }
 
-pub fn link(sheet: &mut SheetBytes, names: &[u8], entries: &[u8], unmapped: &mut [u8], unused: &mut [u8]) -> Word {
-    let (seven, eight) = (unmapped.as_mut_ptr(), unused.as_mut_ptr());
-    let (named, listed) = (names.as_ptr(), entries.as_ptr());
+#[rustfmt::skip] // a slice beside its length
+pub fn link(sheet: &mut SheetBytes, names: &[u8], entries: &[u8], area7: &mut [u8], area8: &mut [u8]) -> Word {
     on_sheet!(
-        troymantle_link,
-        as_mut_ptr,
-        sheet,
-        named,
-        names.len(),
-        listed,
-        entries.len(),
-        seven,
-        unmapped.len(),
-        eight,
-        unused.len()
+        troymantle_link, as_mut_ptr, sheet,
+        names.as_ptr(), names.len(), entries.as_ptr(), entries.len(), area7.as_mut_ptr(), area7.len(),
+        area8.as_mut_ptr(), area8.len()
     )
 }
 

@@ -1,27 +1,11 @@
 // The link call as a C function (01, Linking).
 ghost use mathlib.Core.Path.{_≡_};
-ghost use Rattle.link.specs.Link.{linkCall, linkWord};
+ghost use Rattle.link.specs.Link.{linkCall};
 ghost use Rattle.sheet_check.specs.Contracts.{sheetIn};
 ghost use Rattle.area.specs.Contracts.{before, after};
 ghost use Rattle.troymantle.specs.LinkWords.{inLinkWords, linkInWords};
-use answers::ACCEPTED;
-use answers::AREA_FULL;
-use answers::BROKEN_MAP;
-use answers::BROKEN_SHEET;
-use answers::word;
-use link::LinkAnswer;
 use link::call::set_rule_ids_spanned;
-
-fn link_word(answer: LinkAnswer) -> u64
-    ensures { λ r. ⌜ r ≡ linkWord answer ⌝ }
-{
-    match answer {
-        LinkAnswer::Linked(unmapped, unused) => word(ACCEPTED, unmapped, unused, 0),
-        LinkAnswer::BrokenSheet => word(BROKEN_SHEET, 0, 0, 0),
-        LinkAnswer::BrokenMap => word(BROKEN_MAP, 0, 0, 0),
-        LinkAnswer::AreaFull(n) => word(AREA_FULL, n, 0, 0),
-    }
-}
+use words::link_word;
 
 // Gives the named rules of a sheet the ids of a map. A refusal changes nothing.
 #[no_mangle]

@@ -2,21 +2,9 @@
 ghost use mathlib.Core.Path.{_≡_};
 ghost use Rattle.sheet_check.specs.Pattern.{patternPart, numberOf, patternWord};
 ghost use Rattle.sheet_check.specs.Contracts.{sheetIn};
-use answers::ACCEPTED;
-use answers::BROKEN_SHEET;
-use answers::word;
-use sheet_check::Located;
 use sheet_check::pattern::locate;
 use sheet_check::pattern::pattern_test;
-
-fn located_word(part: Located) -> u64
-    ensures { λ r. ⌜ r ≡ patternWord part ⌝ }
-{
-    match part {
-        Located::Part(place, from, length) => word(ACCEPTED, place, from, length),
-        Located::BrokenSheet => word(BROKEN_SHEET, 0, 0, 0),
-    }
-}
+use words::pattern_word;
 
 // Where the text of a rule stands: its place, from where, and its length; or number 6.
 #[no_mangle]
@@ -32,7 +20,7 @@ pub extern "C" fn troymantle_pattern(
 ) -> u64
     ensures { λ r. ⌜ r ≡ patternWord (patternPart (sheetIn src area1 area2 area3 area4 area5 counts) rule) ⌝ }
 {
-    located_word(locate(src, area1, area2, area3, area4, area5, counts, rule))
+    pattern_word(locate(src, area1, area2, area3, area4, area5, counts, rule))
 }
 
 // 0 where the rule has a text, and 6 where it has none.

@@ -1,54 +1,19 @@
 // The start call and the step call as C functions (01, The run).
 ghost use mathlib.Core.Path.{_≡_};
-ghost use Rattle.run.specs.Run.{running, input, runLeft, startCall, startWord, stepCall, stepWord};
+ghost use Rattle.run.specs.Run.{running, input, runLeft, startCall, stepCall};
 ghost use Rattle.sheet_check.specs.Contracts.{sheetIn};
 ghost use Rattle.area.specs.Contracts.{before, after};
 ghost use Rattle.troymantle.specs.RunWords.{startInWords, stepInWords};
-use answers::ACCEPTED;
-use answers::BROKEN_RUN;
-use answers::BROKEN_SHEET;
-use answers::DONE;
-use answers::ROW_MISMATCH;
-use answers::SKIP;
-use answers::START_REFUSED;
-use answers::STOPPED;
-use answers::TOKEN;
-use answers::UNLINKED;
-use answers::word;
-use run::Begun;
 use run::Run;
-use run::Step;
 use run::call::start;
 use run::call::step;
+use words::start_word;
+use words::step_word;
 
 // An answer's word, and the run's numbers after the call.
 pub struct Worded {
     pub word: u64,
     pub run: Run,
-}
-
-fn start_word(answer: Begun) -> u64
-    ensures { λ r. ⌜ r ≡ startWord answer ⌝ }
-{
-    match answer {
-        Begun::Started => word(ACCEPTED, 0, 0, 0),
-        Begun::StartRefused => word(START_REFUSED, 0, 0, 0),
-    }
-}
-
-fn step_word(answer: Step) -> u64
-    ensures { λ r. ⌜ r ≡ stepWord answer ⌝ }
-{
-    match answer {
-        Step::BrokenSheet => word(BROKEN_SHEET, 0, 0, 0),
-        Step::BrokenRun => word(BROKEN_RUN, 0, 0, 0),
-        Step::RowMismatch => word(ROW_MISMATCH, 0, 0, 0),
-        Step::Done => word(DONE, 0, 0, 0),
-        Step::Stopped => word(STOPPED, 0, 0, 0),
-        Step::Unlinked => word(UNLINKED, 0, 0, 0),
-        Step::Skip => word(SKIP, 0, 0, 0),
-        Step::Token(id, from, length) => word(TOKEN, id, from, length),
-    }
 }
 
 // The start call on a run by value.

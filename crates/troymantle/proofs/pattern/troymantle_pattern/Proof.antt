@@ -11,4 +11,4 @@ troymantle-pattern-spec =
     (tie.spec
     (λ c κs. search needs)
     (λ c κs. search needs)
-    (λ c. c .located-word .ensures ∙ ap patternWord (c .before .locate .ensures)))
+    (λ c. c .pattern-word .ensures ∙ ap patternWord (c .before .locate .ensures)))

@@ -1,9 +1,9 @@
--- `troymantle::running::step_word` meets its contract: each return is the word of the answer that the branch is taken for.
+-- `words::step_word` meets its contract: each return is the word of the answer that the branch is taken for.
 use mathlib.Core.Path.{sym, ap, _∙_}
 use borrow.Author.Needs.{needs}
 use Rattle.run.specs.Run.{stepWord, view, viewFields}
-use Rattle.troymantle.proofs.running.step_word.Statement.{statement}
-use Rattle.troymantle.proofs.running.step_word.Tie as tie
+use Rattle.words.proofs.step_word.Statement.{statement}
+use Rattle.words.proofs.step_word.Tie as tie
 
 pub step-word-spec : {M : Type 1} → statement M
 unfolding view viewFields

@@ -1,9 +1,9 @@
--- `troymantle::running::start_word` meets its contract: each return is the word of the answer that the branch is taken for.
+-- `words::start_word` meets its contract: each return is the word of the answer that the branch is taken for.
 use mathlib.Core.Path.{sym, ap, _∙_}
 use borrow.Author.Needs.{needs}
 use Rattle.run.specs.Run.{startWord, startFields}
-use Rattle.troymantle.proofs.running.start_word.Statement.{statement}
-use Rattle.troymantle.proofs.running.start_word.Tie as tie
+use Rattle.words.proofs.start_word.Statement.{statement}
+use Rattle.words.proofs.start_word.Tie as tie
 
 pub start-word-spec : {M : Type 1} → statement M
 unfolding startFields

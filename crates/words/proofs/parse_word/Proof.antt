@@ -1,13 +1,13 @@
--- `troymantle::word_of` meets its contract: each return is the word of the answer that the branch is taken for.
+-- `words::parse_word` meets its contract: each return is the word of the answer that the branch is taken for.
 use mathlib.Core.Path.{sym, ap, _∙_}
 use borrow.Author.Needs.{needs}
 use Rattle.parse.specs.Parse.{parseWord, parseFields}
-use Rattle.troymantle.proofs.word_of.Statement.{statement}
-use Rattle.troymantle.proofs.word_of.Tie as tie
+use Rattle.words.proofs.parse_word.Statement.{statement}
+use Rattle.words.proofs.parse_word.Tie as tie
 
-pub word-of-spec : {M : Type 1} → statement M
+pub parse-word-spec : {M : Type 1} → statement M
 unfolding parseFields
-word-of-spec =
+parse-word-spec =
     tie.close
     (tie.spec
     (λ c. search needs)

@@ -1,13 +1,13 @@
--- `troymantle::pattern::located_word` meets its contract: each return is the word of the answer that the branch is taken for.
+-- `words::pattern_word` meets its contract: each return is the word of the answer that the branch is taken for.
 use mathlib.Core.Path.{sym, ap, _∙_}
 use borrow.Author.Needs.{needs}
 use Rattle.sheet_check.specs.Pattern.{patternWord, patternFields}
-use Rattle.troymantle.proofs.pattern.located_word.Statement.{statement}
-use Rattle.troymantle.proofs.pattern.located_word.Tie as tie
+use Rattle.words.proofs.pattern_word.Statement.{statement}
+use Rattle.words.proofs.pattern_word.Tie as tie
 
-pub located-word-spec : {M : Type 1} → statement M
+pub pattern-word-spec : {M : Type 1} → statement M
 unfolding patternFields
-located-word-spec =
+pattern-word-spec =
     tie.close
     (tie.spec
     (λ c. search needs)

@@ -1,9 +1,9 @@
--- `troymantle::linking::link_word` meets its contract: each return is the word of the answer that the branch is taken for.
+-- `words::link_word` meets its contract: each return is the word of the answer that the branch is taken for.
 use mathlib.Core.Path.{sym, ap, _∙_}
 use borrow.Author.Needs.{needs}
 use Rattle.link.specs.Link.{linkWord, linkFields}
-use Rattle.troymantle.proofs.linking.link_word.Statement.{statement}
-use Rattle.troymantle.proofs.linking.link_word.Tie as tie
+use Rattle.words.proofs.link_word.Statement.{statement}
+use Rattle.words.proofs.link_word.Tie as tie
 
 pub link-word-spec : {M : Type 1} → statement M
 unfolding linkFields
