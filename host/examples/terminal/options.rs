@@ -207,7 +207,7 @@ mod tests {
 
     #[test]
     fn the_help_fits_and_has_every_option() {
-        assert!(HELP.lines().all(|line| line.chars().count() <= 120));
+        assert!(HELP.lines().all(|line| line.chars().count() <= 80));
         let all = [
             "--entry",
             "--demo",
