@@ -80,7 +80,7 @@ fn character_edge(text: &str, byte: usize) -> usize {
     (0..=byte.min(text.len())).rev().find(|edge| text.is_char_boundary(*edge)).unwrap_or(0)
 }
 
-/// `left` and `right` as one line, and below it `^` or `^~~~` under the first `length` bytes of `right`, cut at its end.
+/// `left` and `right` as one line, and below it `^` or `^~~~` under so many bytes of `right`, cut at its end.
 /// Of a long line only what stands around them is shown. Tabs stay, so that the marks stand right.
 pub fn marked(left: &str, right: &str, length: usize) -> (String, String) {
     let part = right.get(..length).unwrap_or(right);
