@@ -1,0 +1,167 @@
+//! A run over one entry, as the library has it.
+
+use crate::entries::Entry;
+use crate::load::Loaded;
+use regex::Regex;
+use std::ops::Range;
+use troymantle::{Refusal, Row, Rule, Run, Sheet, State, Step};
+
+/// What entries are read by.
+pub struct Lexer<'a> {
+    pub sheet: &'a Sheet,
+    pub rules: Vec<Rule<'a>>,
+    pub states: Vec<State<'a>>,
+    patterns: &'a [Regex],
+}
+
+/// What became of an entry.
+pub struct Reading {
+    pub moves: Vec<Move>,
+    pub end: End,
+    /// Where it ended, and the states at that place, the current one last.
+    pub position: usize,
+    pub stack: Vec<u16>,
+}
+
+/// A token or a skip.
+pub struct Move {
+    /// The name and id of a token.
+    pub token: Option<(String, u16)>,
+    pub range: Range<usize>,
+    /// The states after it, the current one last.
+    pub stack: Vec<u16>,
+}
+
+#[derive(Debug, PartialEq, Eq)]
+pub enum End {
+    Done,
+    Stopped,
+    /// The rule's name, and how many bytes it matches.
+    Unlinked(String, usize),
+    /// The entry is too long.
+    Refused(Refusal),
+    /// The entry is not UTF-8 from the position on.
+    NotText,
+}
+
+impl<'a> Lexer<'a> {
+    pub fn new(loaded: &'a Loaded) -> Lexer<'a> {
+        let Loaded { sheet, patterns, .. } = loaded;
+        Lexer { sheet, rules: sheet.rules().collect(), states: sheet.states().collect(), patterns }
+    }
+
+    /// The name of a state; every state of a run is declared.
+    pub fn state_name(&self, id: u16) -> &str {
+        self.states.get(usize::from(id)).map_or("", |state| &state.name)
+    }
+
+    /// Reads an entry to its end, or as far as it goes.
+    pub fn read(&self, entry: &Entry) -> Reading {
+        let mut run = match self.sheet.start(entry.length) {
+            Ok(run) => run,
+            Err(refusal) => return Reading { moves: vec![], end: End::Refused(refusal), position: 0, stack: vec![] },
+        };
+        let text = match std::str::from_utf8(&entry.bytes) {
+            Ok(text) => text,
+            Err(error) => {
+                return Reading {
+                    moves: vec![],
+                    end: End::NotText,
+                    position: error.valid_up_to(),
+                    stack: run.states(),
+                };
+            }
+        };
+        let mut moves = vec![];
+        loop {
+            match self.step(text, &mut run) {
+                Ok(made) => moves.push(made),
+                Err(end) => return Reading { moves, end, position: run.position(), stack: run.states() },
+            }
+        }
+    }
+
+    fn step(&self, entry: &str, run: &mut Run) -> Result<Move, End> {
+        let rest = entry.get(run.position()..).unwrap_or_default();
+        let lengths: Vec<_> = self.patterns.iter().map(|pattern| length(pattern, rest)).collect();
+        let row: Row = lengths.iter().copied().collect();
+        // a step answers an id, which several names may have; so the winner is looked for here too
+        let (name, length) = self.winner(run.state(), &lengths);
+        match run.step(&row).map_err(End::Refused)? {
+            Step::Token { id, range } => Ok(Move { token: Some((name, id)), range, stack: run.states() }),
+            Step::Skip { range } => Ok(Move { token: None, range, stack: run.states() }),
+            Step::Done => Err(End::Done),
+            Step::Stopped => Err(End::Stopped),
+            Step::Unlinked => Err(End::Unlinked(name, length)),
+        }
+    }
+
+    /// The name of the live rule with the greatest length, the earliest of several, and that length.
+    fn winner(&self, state: Option<u16>, lengths: &[usize]) -> (String, usize) {
+        let live = self.rules.iter().zip(lengths).filter(|(rule, _)| self.is_live(rule, state));
+        let best = live.reduce(|best, next| if next.1 > best.1 { next } else { best });
+        best.map_or_else(Default::default, |(rule, length)| {
+            (rule.name.as_deref().unwrap_or_default().to_string(), *length)
+        })
+    }
+
+    fn is_live(&self, rule: &Rule, state: Option<u16>) -> bool {
+        let Some(id) = state else { return false };
+        let exclusive = self.states.get(usize::from(id)).is_some_and(|state| state.exclusive);
+        rule.states.contains(&id) || rule.states.is_empty() && !exclusive
+    }
+}
+
+/// How many bytes a pattern matches at the start of a text.
+fn length(pattern: &Regex, text: &str) -> usize {
+    pattern.find(text).map_or(0, |found| found.end())
+}
+
+#[cfg(test)]
+mod tests {
+    use super::*;
+    use troymantle::{LexFile, Map};
+
+    fn loaded(file: &str, map: &[(&str, u16)]) -> Loaded {
+        let mut patterns = vec![];
+        let parsed = LexFile::new(file).parse_judged(|_, pattern| {
+            patterns.push(Regex::new(&format!(r"\A(?:{pattern})")).unwrap());
+            true
+        });
+        let mut sheet = parsed.unwrap();
+        sheet.link(&Map::of(map.iter().copied()).unwrap()).unwrap();
+        Loaded { sheet, patterns, name: String::new(), sample: "", warnings: vec![] }
+    }
+
+    #[test]
+    fn names_are_told_apart_where_ids_are_not() {
+        let loaded =
+            loaded("%x S\n%%\n<S>aa 'X'\na <+S>'A'\na+ 'B'\n<S>b <-S>'C'\né 'E'\n", &[("A", 7), ("B", 7), ("C", 7)]);
+        let lexer = Lexer::new(&loaded);
+        let reading = lexer.read(&Entry::new("abaaé".into()));
+        let tokens: Vec<_> = reading.moves.iter().map(|made| made.token.clone().unwrap()).collect();
+        assert_eq!(tokens, [("A", 7), ("C", 7), ("B", 7)].map(|(name, id)| (name.to_string(), id)));
+        assert_eq!(reading.moves[0].stack, [0, 1]);
+        assert_eq!((reading.end, reading.position), (End::Unlinked("E".to_string(), 2), 4));
+        assert_eq!(lexer.state_name(1), "S");
+    }
+
+    #[test]
+    fn entries_are_text() {
+        let loaded = loaded("%%\na+ ;\n", &[]);
+        let reading = Lexer::new(&loaded).read(&Entry::new(b"aa\xff".to_vec()));
+        assert_eq!((reading.end, reading.position, reading.moves.len()), (End::NotText, 2, 0));
+    }
+
+    #[test]
+    fn long_entries_are_refused() {
+        let loaded = loaded("%%\na+ ;\n", &[]);
+        let lexer = Lexer::new(&loaded);
+        let end = |bytes: &[u8]| lexer.read(&Entry::new(bytes.to_vec())).end;
+        assert_eq!(end(&[b'a'; 4_096]), End::Done);
+        assert_eq!(end(&[b'a'; 4_097]), End::Refused(Refusal::StartRefused));
+        assert_eq!(end(&[255; 4_097]), End::Refused(Refusal::StartRefused));
+        assert_eq!(lexer.read(&Entry { bytes: vec![], length: usize::MAX }).end, End::Refused(Refusal::StartRefused));
+        assert_eq!(end(&[]), End::Done);
+    }
+}
