@@ -18,6 +18,7 @@ impl Word {
 }
 
 /// A sheet as every call takes it: the source, areas 1 to 5 and their counts.
+#[derive(Clone)]
 pub struct SheetBytes {
     pub source: Vec<u8>,
     pub areas: [Vec<u8>; 5],

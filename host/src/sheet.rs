@@ -13,6 +13,7 @@ use std::ops::Range;
 /// What a lex file becomes: its states and rules. Every sheet passes the library's sheet check.
 ///
 /// Texts are read as UTF-8. In a sheet that was made by hand they may be none; what is not is shown as U+FFFD.
+#[derive(Clone)]
 pub struct Sheet {
     bytes: SheetBytes,
 }

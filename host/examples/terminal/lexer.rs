@@ -9,6 +9,7 @@ use troymantle::{Refusal, Row, Rule, Run, Sheet, State, Step};
 /// What entries are read by.
 pub struct Lexer<'a> {
     pub sheet: &'a Sheet,
+    unlinked: &'a Sheet,
     pub rules: Vec<Rule<'a>>,
     pub states: Vec<State<'a>>,
     patterns: &'a [Regex],
@@ -46,8 +47,8 @@ pub enum End {
 
 impl<'a> Lexer<'a> {
     pub fn new(loaded: &'a Loaded) -> Lexer<'a> {
-        let Loaded { sheet, patterns, .. } = loaded;
-        Lexer { sheet, rules: sheet.rules().collect(), states: sheet.states().collect(), patterns }
+        let Loaded { sheet, unlinked, patterns, .. } = loaded;
+        Lexer { sheet, unlinked, rules: sheet.rules().collect(), states: sheet.states().collect(), patterns }
     }
 
     /// The name of a state; every state of a run is declared.
@@ -83,10 +84,8 @@ impl<'a> Lexer<'a> {
 
     fn step(&self, entry: &str, run: &mut Run) -> Result<Move, End> {
         let rest = entry.get(run.position()..).unwrap_or_default();
-        let lengths: Vec<_> = self.patterns.iter().map(|pattern| length(pattern, rest)).collect();
-        let row: Row = lengths.iter().copied().collect();
-        // a step answers an id, which several names may have; so the winner is looked for here too
-        let (name, length) = self.winner(run.state(), &lengths);
+        let row: Row = self.patterns.iter().map(|pattern| length(pattern, rest)).collect();
+        let (name, length) = self.winner(run, &row);
         match run.step(&row).map_err(End::Refused)? {
             Step::Token { id, range } => Ok(Move { token: Some((name, id)), range, stack: run.states() }),
             Step::Skip { range } => Ok(Move { token: None, range, stack: run.states() }),
@@ -96,19 +95,15 @@ impl<'a> Lexer<'a> {
         }
     }
 
-    /// The name of the live rule with the greatest length, the earliest of several, and that length.
-    fn winner(&self, state: Option<u16>, lengths: &[usize]) -> (String, usize) {
-        let live = self.rules.iter().zip(lengths).filter(|(rule, _)| self.is_live(rule, state));
-        let best = live.reduce(|best, next| if next.1 > best.1 { next } else { best });
-        best.map_or_else(Default::default, |(rule, length)| {
-            (rule.name.as_deref().unwrap_or_default().to_string(), *length)
-        })
-    }
-
-    fn is_live(&self, rule: &Rule, state: Option<u16>) -> bool {
-        let Some(id) = state else { return false };
-        let exclusive = self.states.get(usize::from(id)).is_some_and(|state| state.exclusive);
-        rule.states.contains(&id) || rule.states.is_empty() && !exclusive
+    /// The name of the rule that a step by this row goes by, and how many bytes it matches. The step tells an id, which several
+    /// rules may have or the winner may lack; the same step on the sheet before its link tells the position.
+    fn winner(&self, run: &Run, row: &Row) -> (String, usize) {
+        let (numbers, stack) = run.clone().into_parts();
+        let Ok(Step::Token { id: position, range }) = Run::from_parts(self.unlinked, numbers, stack).step(row) else {
+            return Default::default();
+        };
+        let name = self.rules.get(usize::from(position)).and_then(|rule| rule.name.as_deref());
+        (name.unwrap_or_default().to_string(), range.len())
     }
 }
 
@@ -128,9 +123,10 @@ mod tests {
             patterns.push(Regex::new(&format!(r"\A(?:{pattern})")).unwrap());
             true
         });
-        let mut sheet = parsed.unwrap();
+        let unlinked = parsed.unwrap();
+        let mut sheet = unlinked.clone();
         sheet.link(&Map::of(map.iter().copied()).unwrap()).unwrap();
-        Loaded { sheet, patterns, name: String::new(), sample: "", warnings: vec![] }
+        Loaded { sheet, unlinked, patterns, name: String::new(), sample: "", warnings: vec![] }
     }
 
     #[test]

@@ -3,7 +3,7 @@
 use crate::map_file::{self, MapFile};
 use crate::message::{Level, Message};
 use crate::options::Options;
-use crate::source::{Source, visible};
+use crate::source::{Source, grouped, visible};
 use regex::{Regex, RegexBuilder};
 use std::ops::Range;
 use std::path::Path;
@@ -13,6 +13,8 @@ use troymantle::{Fault, FaultKind, LexFile, Linked, Refusal, Sheet};
 /// A linked sheet, and its patterns by the rules' positions.
 pub struct Loaded {
     pub sheet: Sheet,
+    /// The same before the link: the id of each rule is its position.
+    pub unlinked: Sheet,
     pub patterns: Vec<Regex>,
     /// The lex file's name.
     pub name: String,
@@ -24,13 +26,14 @@ pub struct Loaded {
 /// Loads the files that the options name; where they are of no use, everything that is wrong.
 pub fn load(options: &Options) -> Result<Loaded, Vec<Message>> {
     let (lex, map) = sources(options)?;
-    let ((mut sheet, patterns), map_file) = both(parse(&lex, options), map_file::read(&map))?;
+    let ((unlinked, patterns), map_file) = both(parse(&lex, options), map_file::read(&map))?;
+    let mut sheet = unlinked.clone();
     let linked = sheet.link(&map_file.map).map_err(|refusal| vec![refused(&map, &refusal)])?;
     let unmapped = unmapped(&lex, &sheet, &linked);
     let warnings = unused(&map, &map_file, &linked);
     if unmapped.is_empty() {
         let sample = if options.files.is_none() { ", as R5 W 3 $10," } else { "" };
-        Ok(Loaded { sheet, patterns, name: lex.name, sample, warnings })
+        Ok(Loaded { sheet, unlinked, patterns, name: lex.name, sample, warnings })
     } else {
         Err([unmapped, warnings].concat())
     }
@@ -62,8 +65,9 @@ fn source(path: &Path, most: usize) -> Result<Source, Vec<Message>> {
 fn parse(lex: &Source, options: &Options) -> Result<(Sheet, Vec<Regex>), Vec<Message>> {
     let mut patterns = vec![];
     let mut refused_pattern = None;
-    let parsed =
-        LexFile::new(&lex.bytes).with_flags(options.flags()).parse_judged(|_, pattern| match compile(pattern) {
+    let mut room = PATTERN_ROOM;
+    let parsed = LexFile::new(&lex.bytes).with_flags(options.flags()).parse_judged(|_, pattern| {
+        match compile_within(&mut room, pattern) {
             Ok(compiled) => {
                 patterns.push(compiled);
                 true
@@ -73,20 +77,56 @@ fn parse(lex: &Source, options: &Options) -> Result<(Sheet, Vec<Regex>), Vec<Mes
                 refused_pattern.get_or_insert(error);
                 false
             }
-        });
+        }
+    });
     match parsed {
         Ok(sheet) => Ok((sheet, patterns)),
         Err(Refusal::FaultyFile(faults)) => {
-            let engine = refused_pattern.map(|error| error.to_string());
+            let engine = refused_pattern.map(words);
             Err(faults.iter().map(|fault| faulty(lex, fault, engine.as_deref(), options)).collect())
         }
         Err(refusal) => Err(vec![refused(lex, &refusal)]),
     }
 }
 
-/// As lrlex compiles a pattern.
-fn compile(pattern: &str) -> Result<Regex, regex::Error> {
-    RegexBuilder::new(&format!("\\A(?:{pattern})")).octal(true).multi_line(true).dot_matches_new_line(true).build()
+/// How many bytes the patterns of a file may take together: without a limit 2,048 of them would take all memory.
+const PATTERN_ROOM: usize = 268_435_456;
+/// How many bytes a pattern is given, one after the other until it is compiled; the last is what the engine gives by itself.
+const PATTERN_SIZES: [usize; 5] = [65_536, 262_144, 1_048_576, 4_194_304, 10_485_760];
+/// How many bytes the engine may keep of each pattern while it matches, twice.
+const CACHE_SIZE: usize = 65_536;
+
+/// Compiles a pattern in what is left of the room.
+fn compile_within(room: &mut usize, pattern: &str) -> Result<Regex, regex::Error> {
+    let mut compiled = Err(regex::Error::CompiledTooBig(0));
+    for size in PATTERN_SIZES.map(|size| size.min(*room)) {
+        compiled = compile(pattern, size);
+        match compiled {
+            Err(regex::Error::CompiledTooBig(_)) => {}
+            Err(_) => break,
+            Ok(_) => {
+                *room -= size;
+                break;
+            }
+        }
+    }
+    compiled
+}
+
+/// The engine's words, and where there is no room the limit that is not the engine's.
+fn words(error: regex::Error) -> String {
+    match error {
+        regex::Error::CompiledTooBig(_) => {
+            format!("{error}\nThe patterns of a file may take {} bytes together.", grouped(PATTERN_ROOM))
+        }
+        _ => error.to_string(),
+    }
+}
+
+/// As lrlex compiles a pattern, in so many bytes.
+fn compile(pattern: &str, size: usize) -> Result<Regex, regex::Error> {
+    let mut builder = RegexBuilder::new(&format!("\\A(?:{pattern})"));
+    builder.octal(true).multi_line(true).dot_matches_new_line(true).size_limit(size).dfa_size_limit(CACHE_SIZE).build()
 }
 
 /// A fault with every place that it has: that of a repeat, then that of the first time, then those of further repeats.
@@ -172,7 +212,7 @@ mod tests {
     use super::*;
     use crate::paint::Paint;
 
-    fn told(text: &str, flags: u64) -> String {
+    fn messages(text: &str, flags: u64) -> String {
         let options = Options { flags, ..Options::default() };
         let messages = parse(&Source::new("f", text.as_bytes().to_vec()), &options).err().unwrap_or_default();
         messages.iter().map(|message| message.lines(Paint { on: false })).collect()
@@ -184,15 +224,15 @@ mod tests {
         let lines = "f:4:8: error: another rule has this name already\n    b <+S>'N'\n           ^\n\
                      f:3:4: note: first here\n    a 'N'\n       ^\n\
                      f:5:9: note: and here once more\n    cc <-S>'N'\n            ^\n";
-        assert_eq!(told(text, 0), lines);
+        assert_eq!(messages(text, 0), lines);
         // a first name behind a target, and none
         let text = "%x S\n%%\nb <S>'N'\na 'N'\n";
-        assert!(told(text, 0).ends_with("f:3:7: note: first here\n    b <S>'N'\n          ^\n"));
+        assert!(messages(text, 0).ends_with("f:3:7: note: first here\n    b <S>'N'\n          ^\n"));
     }
 
     #[test]
     fn the_engines_words_are_told() {
-        let lines = told("%%\na 'A'\n(b 'B'\n", 0);
+        let lines = messages("%%\na 'A'\n(b 'B'\n", 0);
         assert!(
             lines.starts_with("f:3:1: error: the regex engine refuses this pattern\n    (b 'B'\n    ^\n    regex ")
         );
@@ -200,15 +240,27 @@ mod tests {
     }
 
     #[test]
+    fn patterns_share_their_room() {
+        let mut room = 1_114_112;
+        let mut left = |pattern| compile_within(&mut room, pattern).map(|_| room).map_err(words);
+        assert_eq!(left("[a-z]+"), Ok(1_048_576));
+        assert_eq!(left(r"\w{9}"), Ok(0));
+        let told = "Compiled regex exceeds size limit of 0 bytes.\nThe patterns of a file may take 268,435,456 bytes together.";
+        assert_eq!(left("[a-z]+"), Err(told.to_string()));
+        let most = "%%\n".to_string() + &"[a-z]+ ;\n".repeat(2_048);
+        assert_eq!(messages(&most, 0), "");
+    }
+
+    #[test]
     fn a_comment_without_its_flag_has_a_hint() {
         let text = "// bets\n%%\na 'A'\n";
         let hint = "note: with --comments, // skips a line\n";
-        assert_eq!(told(text, 0), format!("f:1:1: error: unknown declaration\n    // bets\n    ^\n{hint}"));
-        assert_eq!(told(text, 1), "");
+        assert_eq!(messages(text, 0), format!("f:1:1: error: unknown declaration\n    // bets\n    ^\n{hint}"));
+        assert_eq!(messages(text, 1), "");
     }
 
     #[test]
     fn flags_are_refused_by_their_number() {
-        assert_eq!(told("%%\n", 4), "terminal: error: stray flag (2): the flags are above 3\n");
+        assert_eq!(messages("%%\n", 4), "terminal: error: stray flag (2): the flags are above 3\n");
     }
 }
