@@ -224,6 +224,9 @@ mod tests {
             assert_eq!(sheet.counts[1] as usize, rules_of(&text).len());
             assert!(sheet.counts[1] as usize <= MOST_RULES);
         }
+        // as docs/COMPARING.md and docs/SPEED.md have it
+        let largest = sheet::parsed(&file(SOURCE_LIMIT), 0).rules();
+        assert_eq!((largest.len(), largest.iter().filter(|rule| rule.is_named()).count()), (1_943, 1_457));
     }
 
     #[test]
