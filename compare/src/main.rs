@@ -81,6 +81,7 @@ compare bench [WORDS]
     --layouts N     our code lies at so many places in turn, 16 bytes apart (8)
     --library FILE  another static library in the place of ours (target/staticlib/libtroymantle.a)
     --before FILE   a static library to compare it with in the same run
+    --plot FILE     where the plot of the growth is written, if all of it is timed (target/bench/growth.svg)
 compare count [WORDS]
                     prints the instructions a call of the same shapes, counted by valgrind's callgrind; --library and --before
                     as for bench
@@ -134,7 +135,7 @@ fn dispatch(arguments: &[String]) -> Result<(), String> {
             record::check_record(&options.answers("--input"), our_side().as_deref())
         }
         "bench" => {
-            let options = Options::read_with_words(rest, &["--layouts", "--library", "--before"])?;
+            let options = Options::read_with_words(rest, &["--layouts", "--library", "--before", "--plot"])?;
             bench::bench(&wanted(options)?)
         }
         "count" => {
@@ -158,6 +159,7 @@ fn wanted(options: Options) -> Result<bench::Wanted, String> {
         library: options.path("--library"),
         before: options.path("--before"),
         layouts: options.number("--layouts", 8)?,
+        plot: options.path("--plot"),
         words: options.words,
     })
 }

@@ -9,6 +9,8 @@ use crate::library::Library;
 use crate::oracle;
 use std::time::Duration;
 
+pub const FUNCTION: &str = "troymantle_parse";
+
 pub fn shapes() -> Vec<Shape> {
     vec![
         shape("parse: small file", 0, small_file),
@@ -25,18 +27,19 @@ pub fn shapes() -> Vec<Shape> {
 }
 
 fn shape(name: &str, flags: u64, source: fn() -> String) -> Shape {
-    Shape::new(name, "troymantle_parse", 1, move || {
-        let source = source();
-        let case = Case { source: source.clone().into_bytes(), flags, verdicts: vec![], capacities: [0; AREAS] };
-        let case = Case { capacities: oracle::needs(&case), ..case };
-        let walked = case.clone();
-        Work {
-            bytes: source.len(),
-            original: Box::new(move |around| time_original(around, &source, flags)),
-            ours: Box::new(move |library| time_ours(library, &case)),
-            note: Some(Note::BareWalk(Box::new(move || time_bare_walk(&walked)))),
-        }
-    })
+    Shape::new(name, FUNCTION, 1, move || work(source(), flags))
+}
+
+pub fn work(source: String, flags: u64) -> Work {
+    let case = Case { source: source.clone().into_bytes(), flags, verdicts: vec![], capacities: [0; AREAS] };
+    let case = Case { capacities: oracle::needs(&case), ..case };
+    let walked = case.clone();
+    Work {
+        bytes: source.len(),
+        original: Box::new(move |around| time_original(around, &source, flags)),
+        ours: Box::new(move |library| time_ours(library, &case)),
+        note: Some(Note::BareWalk(Box::new(move || time_bare_walk(&walked)))),
+    }
 }
 
 fn time_original(around: Around, source: &str, flags: u64) -> Duration {
@@ -122,7 +125,12 @@ pub fn alike_names() -> String {
 
 /// Filled up with line ends to 65,535 bytes.
 fn to_limit(text: String) -> String {
-    assert!(text.len() <= SOURCE_LIMIT, "a shape of {} bytes is above the limit", text.len());
-    let missing = SOURCE_LIMIT - text.len();
+    filled_up(text, SOURCE_LIMIT)
+}
+
+/// Filled up with line ends to so many bytes.
+pub fn filled_up(text: String, bytes: usize) -> String {
+    assert!(text.len() <= bytes, "a shape of {} bytes is above {bytes}", text.len());
+    let missing = bytes - text.len();
     text + &"\n".repeat(missing)
 }

@@ -2,9 +2,11 @@
 
 mod counts;
 mod files;
+mod growth;
 mod hostile;
 mod layouts;
 mod links;
+mod plot;
 mod runs;
 mod shape;
 mod times;
@@ -24,6 +26,8 @@ pub struct Wanted {
     pub library: Option<PathBuf>,
     pub before: Option<PathBuf>,
     pub layouts: u64,
+    /// Where to write the plot of the growth.
+    pub plot: Option<PathBuf>,
 }
 
 /// A library at its layouts.
@@ -34,16 +38,21 @@ struct Side {
 
 pub fn bench(wanted: &Wanted) -> Result<(), String> {
     let shapes = chosen(&wanted.words)?;
-    let layouts = wanted.layouts()?;
-    let side =
-        |(name, archive): (&'static str, PathBuf)| Ok(Side { name, layouts: layouts::load(&archive, name, layouts)? });
-    let sides = wanted.archives()?.into_iter().map(side).collect::<Result<Vec<Side>, String>>()?;
-    println!("{}", times::title(&sides));
-    for shape in shapes {
+    let plot = wanted.plot(growth::is_whole(&shapes))?;
+    let sides = wanted.sides()?;
+    let (growing, plain): (Vec<Shape>, Vec<Shape>) = shapes.into_iter().partition(|shape| shape.point.is_some());
+    if !plain.is_empty() {
+        println!("{}", times::title(&sides));
+    }
+    for shape in plain {
         times::lines(&shape, &sides);
     }
+    let tables = growth::tables(&growing, &sides);
     println!("{}", times::legend(&sides));
-    Ok(())
+    match plot {
+        Some(file) => growth::write_plot(&tables, &sides, &file),
+        None => Ok(()),
+    }
 }
 
 impl Wanted {
@@ -52,6 +61,26 @@ impl Wanted {
             Ok(layouts) if (1..=layouts::MOST).contains(&layouts) => Ok(layouts),
             _ => Err(format!("--layouts wants a number from 1 to {}.", layouts::MOST)),
         }
+    }
+
+    /// Only where both series are timed as a whole can they be drawn.
+    fn plot(&self, whole: bool) -> Result<Option<PathBuf>, String> {
+        match (whole, &self.plot) {
+            (true, Some(file)) => Ok(Some(file.clone())),
+            (true, None) => Ok(Some(options::repository().join("target/bench/growth.svg"))),
+            (false, Some(_)) => {
+                Err("--plot draws the growth of parse and step, and the words do not choose all of it.".to_string())
+            }
+            (false, None) => Ok(None),
+        }
+    }
+
+    fn sides(&self) -> Result<Vec<Side>, String> {
+        let layouts = self.layouts()?;
+        let side = |(name, archive): (&'static str, PathBuf)| {
+            Ok(Side { name, layouts: layouts::load(&archive, name, layouts)? })
+        };
+        self.archives()?.into_iter().map(side).collect()
     }
 
     /// The names and files of the libraries, the one before first. Without options it is ours, if it is built.
@@ -69,7 +98,7 @@ impl Wanted {
 }
 
 fn shapes() -> Vec<Shape> {
-    [files::shapes(), links::shapes(), runs::shapes()].into_iter().flatten().collect()
+    [files::shapes(), links::shapes(), runs::shapes(), growth::shapes()].into_iter().flatten().collect()
 }
 
 /// The shapes whose name contains one of the words; without words all.
@@ -97,15 +126,30 @@ mod tests {
     fn words_choose_shapes() {
         let all = names(&[]).unwrap_or_default();
         assert_eq!(all.iter().collect::<HashSet<_>>().len(), all.len(), "two shapes have one name");
-        let of = |call: &str| all.iter().filter(|name| name.starts_with(call)).cloned().collect::<Vec<_>>();
+        let of = |word: &str| all.iter().filter(|name| name.contains(word)).cloned().collect::<Vec<_>>();
         assert_eq!(names(&["step"]), Ok(of("step")));
+        assert_eq!(names(&["growth"]), Ok(all[all.len() - 19..].to_vec()));
+        assert_eq!(names(&["growth: step"]).map(|names| names.len()), Ok(12));
         assert_eq!(names(&["parse", "link", "step"]), Ok(all.clone()));
         assert_eq!(names(&["small", "10 rules"]).map(|names| names.len()), Ok(5));
         assert!(names(&["step", "stop"]).is_err_and(|told| told.contains("`stop`")));
     }
 
     fn wanted(library: Option<&str>, before: Option<&str>, layouts: u64) -> Wanted {
-        Wanted { words: vec![], library: library.map(PathBuf::from), before: before.map(PathBuf::from), layouts }
+        let [library, before] = [library, before].map(|file| file.map(PathBuf::from));
+        Wanted { words: vec![], library, before, layouts, plot: None }
+    }
+
+    #[test]
+    fn a_plot_is_written_where_both_series_are_whole() {
+        let without = wanted(None, None, 1);
+        assert_eq!(without.plot(false), Ok(None));
+        assert!(
+            without.plot(true).is_ok_and(|file| file.is_some_and(|file| file.ends_with("target/bench/growth.svg")))
+        );
+        let with = Wanted { plot: Some(PathBuf::from("a.svg")), ..without };
+        assert_eq!(with.plot(true), Ok(Some(PathBuf::from("a.svg"))));
+        assert!(with.plot(false).is_err());
     }
 
     #[test]
@@ -134,7 +178,7 @@ mod tests {
     fn a_loaded_library_answers_as_the_linked_one() {
         let ours = wanted(None, None, 2).archives().unwrap_or_default();
         let libraries = layouts::load(&ours[0].1, "tested", 2).unwrap_or_else(|told| panic!("{told}"));
-        for shape in chosen(&["small file".to_string(), "10 rules".to_string()]).unwrap_or_default() {
+        for shape in chosen(&["small file", "10 rules", "growth"].map(str::to_string)).unwrap_or_default() {
             let work = shape.work();
             for library in libraries.iter().chain([&crate::library::LINKED]) {
                 assert!(!(work.ours)(library).is_zero());

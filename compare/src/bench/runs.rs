@@ -9,7 +9,8 @@ use crate::show;
 use original::Definition;
 use std::time::Duration;
 
-const MOVES: usize = 256;
+pub const FUNCTION: &str = "troymantle_step";
+pub const MOVES: usize = 256;
 const FEW_RULES: usize = 10;
 
 pub fn shapes() -> Vec<Shape> {
@@ -27,7 +28,7 @@ pub fn shapes() -> Vec<Shape> {
 }
 
 /// A file, the names of its rules and a row for each position.
-struct Moves {
+pub struct Moves {
     source: String,
     names: Vec<String>,
     rows: Vec<Vec<usize>>,
@@ -51,9 +52,16 @@ impl Moves {
         Moves { source, names, rows }
     }
 
-    /// A third of the rules has no list, a third is live in S alone, a third in INITIAL and S.
-    fn mixed(rules: usize) -> Moves {
-        Moves::new("%s S\n%x T\n", rules, |rule| ["", "<S>", "<INITIAL,S>"][rule % 3].to_string())
+    /// A third of the rules has no list, a third is live in S alone, a third in INITIAL and S. Where no live rule would
+    /// match, which happens with less than 6 rules, the first matches one byte.
+    pub fn mixed(rules: usize) -> Moves {
+        let mut moves = Moves::new("%s S\n%x T\n", rules, |rule| ["", "<S>", "<INITIAL,S>"][rule % 3].to_string());
+        for row in &mut moves.rows {
+            if row.iter().enumerate().all(|(rule, length)| rule % 3 == 1 || *length == 0) {
+                row[0] = 1;
+            }
+        }
+        moves
     }
 
     /// The rules that are live in S alone match two bytes wherever two are left.
@@ -95,11 +103,11 @@ const LISTS: usize = 1_000;
 const LIST_ENTRIES: usize = 24;
 
 fn shape(name: &str, moves: impl Fn() -> Moves + 'static) -> Shape {
-    Shape::new(name, "troymantle_step", MOVES as u32, move || work(&moves()))
+    Shape::new(name, FUNCTION, MOVES as u32, move || work(&moves()))
 }
 
 /// The original's loop finds its lengths in a table; what a regex would take is not in it.
-fn work(moves: &Moves) -> Work {
+pub fn work(moves: &Moves) -> Work {
     let mut definition = Definition::new(&moves.source, false, false, &[]).expect("the file has no faults");
     definition.link(&moves.map());
     original::lend_rows(&moves.rows);
@@ -150,6 +158,18 @@ mod tests {
 
     fn is_live(sheet: &Sheet, rule: &Rule) -> bool {
         rule.list().is_empty() || rule.list().any(|k| field(&sheet.areas[2], 2 * k) == 0)
+    }
+
+    #[test]
+    fn a_live_rule_matches_in_every_row() {
+        for rules in [1, 2, 3, 4, 5, 6, 7, 8, FEW_RULES, MOST_RULES] {
+            let moves = Moves::mixed(rules);
+            let sheet = moves.sheet();
+            let live: Vec<bool> = sheet.rules().iter().map(|rule| is_live(&sheet, rule)).collect();
+            assert!(moves.rows.iter().all(|row| row.iter().zip(&live).any(|(length, live)| *live && *length == 1)));
+            let plain = Moves::new("%%\n", rules, |_| String::new());
+            assert_eq!(rules < 6, moves.rows != plain.rows);
+        }
     }
 
     #[test]

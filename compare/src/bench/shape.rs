@@ -1,12 +1,13 @@
 //! What is timed and counted.
 
+use super::growth::Point;
 use crate::library::Library;
 use std::time::{Duration, Instant};
 
 /// Does the work that it is given, once.
 pub type Around = fn(&mut dyn FnMut());
 
-/// A line of the bench.
+/// A line of the bench, or of a table of growth.
 pub struct Shape {
     pub name: String,
     /// The function of our library that is called.
@@ -15,16 +16,22 @@ pub struct Shape {
     pub calls: u32,
     /// Whether it takes minutes to count.
     pub slow: bool,
+    /// Where it shows how time grows.
+    pub point: Option<Point>,
     make: Box<dyn Fn() -> Work>,
 }
 
 impl Shape {
     pub fn new(name: impl ToString, function: &'static str, calls: u32, make: impl Fn() -> Work + 'static) -> Shape {
-        Shape { name: name.to_string(), function, calls, slow: false, make: Box::new(make) }
+        Shape { name: name.to_string(), function, calls, slow: false, point: None, make: Box::new(make) }
     }
 
     pub fn slow(self) -> Shape {
         Shape { slow: true, ..self }
+    }
+
+    pub fn at(self, point: Point) -> Shape {
+        Shape { point: Some(point), ..self }
     }
 
     /// A shape is done with before the next is made: the original's loop has one table of lengths.

@@ -17,14 +17,14 @@ const LONG_ROUNDS: Duration = Duration::from_secs(5);
 
 /// The times of the layouts.
 #[derive(Clone, Copy, Debug, PartialEq)]
-struct Spread {
+pub struct Spread {
     least: f64,
-    median: f64,
+    pub median: f64,
     greatest: f64,
 }
 
 impl Spread {
-    fn of(mut times: Vec<f64>) -> Spread {
+    pub fn of(mut times: Vec<f64>) -> Spread {
         times.sort_by(f64::total_cmp);
         let (half, last) = (times.len() / 2, times.len() - 1);
         let median = (times[last - half] + times[half]) / 2.0;
@@ -32,10 +32,10 @@ impl Spread {
     }
 }
 
-struct Times {
-    original: f64,
-    sides: Vec<Spread>,
-    note: Option<f64>,
+pub struct Times {
+    pub original: f64,
+    pub sides: Vec<Spread>,
+    pub note: Option<f64>,
 }
 
 type Timer<'a> = Box<dyn Fn() -> Duration + 'a>;
@@ -50,7 +50,7 @@ pub fn lines(shape: &Shape, sides: &[Side]) {
     }
 }
 
-fn times(work: &Work, sides: &[Side], calls: u32) -> Times {
+pub fn times(work: &Work, sides: &[Side], calls: u32) -> Times {
     let mut timers: Vec<Timer> = vec![Box::new(|| (work.original)(plainly))];
     // a layout of the library before has its turn next to the same layout of the one after
     for layout in 0..sides.first().map_or(0, |side| side.layouts.len()) {
@@ -119,16 +119,25 @@ fn columns(name: &str, bytes: &str, original: &str, sides: &[String], ratios: &[
 
 pub fn title(sides: &[Side]) -> String {
     let names: Vec<String> = sides.iter().map(|side| format!("{}, median (least to greatest)", side.name)).collect();
-    let ratios: &[&str] = match sides.len() {
-        0 => &[],
-        1 => &["original ÷ ours"],
-        _ => &["after ÷ before", "original ÷ after"],
-    };
-    columns("shape", "bytes", "original", &names, &ratios.iter().map(ToString::to_string).collect::<Vec<_>>())
+    columns("shape", "bytes", "original", &names, &ratio_names(sides.len()))
 }
 
 fn line(name: &str, bytes: usize, times: &Times) -> String {
     let sides: Vec<String> = times.sides.iter().map(spread).collect();
+    columns(name, &show::number(bytes as u64), &microseconds(times.original), &sides, &ratios(times))
+}
+
+/// What `ratios` tells of so many libraries.
+pub fn ratio_names(sides: usize) -> Vec<String> {
+    let names: &[&str] = match sides {
+        0 => &[],
+        1 => &["original ÷ ours"],
+        _ => &["after ÷ before", "original ÷ after"],
+    };
+    names.iter().map(ToString::to_string).collect()
+}
+
+pub fn ratios(times: &Times) -> Vec<String> {
     let mut ratios = vec![];
     if let [before, after] = times.sides[..] {
         ratios.push(format!("{:.2}", after.median / before.median));
@@ -136,7 +145,7 @@ fn line(name: &str, bytes: usize, times: &Times) -> String {
     if let Some(ours) = times.sides.last() {
         ratios.push(format!("{:.2}", times.original / ours.median));
     }
-    columns(name, &show::number(bytes as u64), &microseconds(times.original), &sides, &ratios)
+    ratios
 }
 
 fn spread(times: &Spread) -> String {
@@ -167,7 +176,8 @@ pub fn legend(sides: &[Side]) -> String {
     let repetitions = ROUNDS * REPETITIONS;
     let layouts = sides.first().map_or(String::new(), |side| format!("; layouts of our code: {}", side.layouts.len()));
     format!(
-        "Microseconds a call on one core, the best of {repetitions} repetitions or more, or of fewer where they take long{layouts}; {}.",
+        "Microseconds a call, in tables of growth nanoseconds a byte or a rule. On one core, the best of {repetitions} \
+         repetitions or more, or of fewer where they take long{layouts}; {}.",
         original::ENGINE
     )
 }
