@@ -83,6 +83,15 @@ fn a_run_moves_by_every_operation() {
 }
 
 #[test]
+fn a_sheet_is_shared_between_threads() {
+    let sheet = sheet();
+    let step = |n: usize| sheet.start(n).map(|mut run| run.step(&row(&[1, 0, 0, 0])));
+    let steps =
+        std::thread::scope(|scope| [1, 2].map(|n| scope.spawn(move || step(n))).map(|thread| thread.join().unwrap()));
+    assert_eq!(steps, [(); 2].map(|()| Ok(Ok(Step::Token { id: 0, range: 0..1 }))));
+}
+
+#[test]
 fn a_row_is_used_again() {
     let sheet = sheet();
     let mut run = sheet.start(2).unwrap();
