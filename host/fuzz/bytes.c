@@ -3,7 +3,6 @@
 
 #include <string.h>
 
-/* What does not fit is left out. */
 void add(struct bytes *to, const void *data, size_t length)
 {
     if (length <= MOST_LENGTH - to->length) {
@@ -49,6 +48,9 @@ void copy_bytes(struct bytes *to, const void *data, size_t length)
 
 void resize(struct bytes *bytes, size_t length)
 {
+    if (length > MOST_LENGTH) {
+        length = MOST_LENGTH;
+    }
     if (length > bytes->length) {
         memset(bytes->data + bytes->length, 0, length - bytes->length);
     }

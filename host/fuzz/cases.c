@@ -6,16 +6,16 @@ static const size_t MOST[6] = {TROYMANTLE_AREA1_BYTES, TROYMANTLE_AREA2_BYTES, T
 /* Enough for most files that are made. */
 static const size_t USUAL[6] = {384, 28 * 80, 2 * 1000, 5000, 4 * 20, 8 * 40};
 
+/* Lengths of the areas of a parse: mostly enough, now and then one that is not, or few bytes for all. */
 static void choose_lengths(size_t lengths[6], size_t source_length)
 {
-    bool all = one_in(source_length > 2000 ? 2 : 100);
-    size_t odd = one_in(4) ? below(6) : 6;
-    bool small = one_in(8);
+    bool is_most = one_in(source_length > 2000 ? 2 : 100), is_small = one_in(8);
     for (size_t k = 0; k < 6; k++) {
-        lengths[k] = all ? MOST[k] + below(3) : small ? below(120) : USUAL[k] + below(8);
-        if (k == odd) {
-            lengths[k] = one_in(2) ? below(lengths[k] + 1) : ONE_OF(0, 1, 2, 3, 5, 6, 7, 8, 27, 28, 29);
-        }
+        lengths[k] = is_most ? MOST[k] + below(3) : is_small ? below(120) : USUAL[k] + below(8);
+    }
+    if (one_in(4)) {
+        size_t k = below(6);
+        lengths[k] = one_in(2) ? below(lengths[k] + 1) : ONE_OF(0, 1, 2, 3, 5, 6, 7, 8, 27, 28, 29);
     }
 }
 

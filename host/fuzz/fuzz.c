@@ -70,7 +70,7 @@ void fail(const char *format, ...)
     vsnprintf(violation, sizeof violation, format, arguments);
     va_end(arguments);
     tell_case(violation);
-    exit(1);
+    _exit(1);
 }
 
 static void on_signal(int signal, siginfo_t *information, void *context)

@@ -32,6 +32,7 @@ struct bytes {
     uint8_t data[MOST_LENGTH];
 };
 
+/* What does not fit is left out. */
 void add(struct bytes *to, const void *data, size_t length);
 void add_text(struct bytes *to, const char *text);
 void add_byte(struct bytes *to, uint8_t byte);
@@ -39,7 +40,7 @@ void add_byte(struct bytes *to, uint8_t byte);
 void add_random(struct bytes *to, size_t length, size_t values);
 void add_field(struct bytes *to, uint64_t value);
 void copy_bytes(struct bytes *to, const void *data, size_t length);
-/* Cuts the bytes, or adds zeros behind them. */
+/* Cuts the bytes, or adds zeros behind them, up to MOST_LENGTH. */
 void resize(struct bytes *bytes, size_t length);
 unsigned field(const uint8_t *area, size_t number);
 void set_field(uint8_t *area, size_t number, uint64_t value);
@@ -100,7 +101,7 @@ void make_good_text(struct bytes *text);
 void make_text(struct bytes *text);
 void make_verdicts(struct bytes *verdicts);
 /* Names that the index of a link cannot tell apart, by a number below SAME_HOME. */
-enum { SAME_HOME_LENGTH = 131, SAME_HOME = 30 * 24 };
+enum { SAME_HOME_LENGTH = 99, SAME_HOME = 25 * 25 };
 void make_same_home_name(char name[SAME_HOME_LENGTH + 1], size_t number);
 
 /* ---- inputs.c: sheets, maps, runs and rows */

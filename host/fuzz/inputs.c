@@ -33,7 +33,8 @@ static uint64_t edge(const struct sheet *sheet)
 
 size_t other_length(size_t length)
 {
-    return one_in(2) ? length + 1 : one_in(2) ? length - (length > 0) : one_in(2) ? 0 : below(length + 40);
+    const size_t lengths[] = {length + 1, length - (length > 0), length - (length > 0), 0, below(length + 40)};
+    return lengths[below(sizeof lengths / sizeof *lengths)];
 }
 
 void change_sheet(struct sheet *sheet)
@@ -142,7 +143,7 @@ void make_map(struct map *map, const struct sheet *sheet)
     }
     add_other_names(map, one_in(500) ? 2045 + below(6) : below(6));
     if (one_in(20)) {
-        add_same_home_names(map, one_in(100) ? SAME_HOME : below(10));
+        add_same_home_names(map, one_in(20) ? SAME_HOME : below(10));
     }
     for (size_t changes = one_in(4) ? below(3) : 0; changes > 0; changes--) {
         change_map(map);

@@ -80,17 +80,21 @@ static void add_target(struct bytes *to, size_t declared)
     add_text(to, ">");
 }
 
-/* Fletcher's checksum of four bytes at a time stays the same where three numbers in a row grow by m, -2 m and m. By the
- * last bytes the search for the name begins near the end of the index's slots. */
+/* Three numbers of four bytes grow by m, -2 m and m: Fletcher's checksum stays the same. */
+static void shift(char *numbers, int m)
+{
+    numbers[0] = (char)(numbers[0] + m);
+    numbers[4] = (char)(numbers[4] - 2 * m);
+    numbers[8] = (char)(numbers[8] + m);
+}
+
+/* By the last bytes the search for the name begins near the end of the index's slots. */
 void make_same_home_name(char name[SAME_HOME_LENGTH + 1], size_t number)
 {
-    size_t at = number % 30 * 4;
-    int m = 1 + (int)(number / 30);
     memset(name, 'a', SAME_HOME_LENGTH);
-    memcpy(name + SAME_HOME_LENGTH - 3, "614", 4);
-    name[at] = (char)('a' + m);
-    name[at + 4] = (char)('a' - 2 * m);
-    name[at + 8] = (char)('a' + m);
+    memcpy(name + SAME_HOME_LENGTH - 3, "239", 4);
+    shift(name, (int)(number % 25));
+    shift(name + SAME_HOME_LENGTH - 15, (int)(number / 25));
 }
 
 /* A name by its number, or none. */
