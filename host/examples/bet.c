@@ -28,9 +28,9 @@ static uint16_t counts[6], run[4];
 
 /* The bytes of a string constant, and the arguments that make a sheet of the lex file. */
 #define BYTES(text) (const uint8_t *)(text), sizeof(text) - 1
-#define SHEET                                                                                                         \
-    BYTES(LEX_FILE), area1, sizeof area1, area2, sizeof area2, area3, sizeof area3, area4, sizeof area4,              \
-        area5, sizeof area5, counts
+#define SHEET                                                                                                          \
+    BYTES(LEX_FILE), area1, sizeof area1, area2, sizeof area2, area3, sizeof area3, area4, sizeof area4, area5,        \
+        sizeof area5, counts
 
 /* Ends the program if an answer has not the number that is expected. */
 static void expect(const char *call, uint64_t word, unsigned number)
