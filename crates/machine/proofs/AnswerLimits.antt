@@ -33,8 +33,8 @@ use Rattle.name_map.proofs.Maps.{entries-count}
 use Rattle.run.specs.declared.Begun.{Begun}
 use Rattle.run.specs.declared.Begun.the-variants.{Started, StartRefused}
 use Rattle.run.specs.declared.Step.{Step}
-use Rattle.run.specs.Winner.{Lexer, lexerOf, lengthIn, weight, greatest}
-use Rattle.run.specs.Run.{Running, current, Input, RunLeft, goodRun, fitsIn, goodRow, wonBy, choose, stepRow, stepRun, stepCall, startFields, view, viewFields, stepFields}
+use Rattle.run.specs.Winner.{Lexer, lengthIn, weight, greatest}
+use Rattle.run.specs.Run.{Running, current, Input, RunLeft, goodRun, fitsIn, goodRow, wonBy, choose, stepRow, stepRun, lexerOf, stepCall, startFields, view, viewFields, stepFields}
 use Rattle.run.proofs.Fitting.{run-is}
 use Rattle.run.proofs.Winning.{weights-low}
 

@@ -1,13 +1,12 @@
 // The rule that wins: of those that are live the one with the greatest length, the earlier at a tie (01, The run).
 ghost use mathlib.Core.Path.{_≡_};
 ghost use mathlib.Core.Bool.{cond};
-ghost use Prim.Native.Nat.{_+_, _*_, _≤_, _<_};
+ghost use Prim.Native.Nat.{_+_, _*_, _≤_, _<_, max};
 ghost use lib.ListN.{length};
 ghost use Rattle.area.specs.Records.{stateWidth, entryWidth};
 ghost use Rattle.area.specs.Contents.{contents, stateFormat, entryFormat};
 ghost use Rattle.area.specs.Contracts.{before};
-ghost use Rattle.run.specs.Winner.{findInList, live, lengthIn, weight, greatest, best, better};
-ghost use Rattle.run.specs.Top.{firstWith};
+ghost use Rattle.run.specs.Winner.{findInList, live, lengthIn, weight, greatest, best, better, firstWith};
 ghost use Rattle.run.specs.Contracts.{lexerIn, Readable};
 use crate::Best;
 use area::Rule;
@@ -152,6 +151,30 @@ fn first_longest(
         k = find_length(row, k + 1, most, top);
     }
     k
+}
+
+fn max(x: u16, y: u16) -> u16
+    ensures { λ r. ⌜ r ≡ max x y ⌝ }
+{
+    if x < y {
+        return y;
+    }
+    x
+}
+
+// The greatest length of a row.
+pub fn greatest_length(row: &[u8], rules: u16) -> u16
+    requires { ⌜ rules * entryWidth ≤ length (now row) ⌝ }
+    ensures { λ t. ⌜ t ≡ greatest (lengthIn (before row)) rules ⌝ }
+{
+    let most = rules as usize;
+    let mut top = 0;
+    let mut k = 0;
+    while k < most {
+        top = max(top, read_entry(row, k));
+        k += 1;
+    }
+    top
 }
 
 // The winner, by the greatest length of the row. Mostly a live rule has it; where none has, all rules are looked at.

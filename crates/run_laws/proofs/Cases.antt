@@ -14,8 +14,8 @@ use Rattle.answers.specs.Numbers.{brokenSheetNumber, brokenRunNumber, rowMismat
 use Rattle.sheet_check.specs.SheetCheck.{SheetBytes, decoded, sheetCheck}
 use Rattle.run.specs.declared.Step.{Step}
 use Rattle.run.specs.declared.Step.the-variants.{RowMismatch, Done, Stopped, Unlinked, Skip, Token}
-use Rattle.run.specs.Winner.{Lexer, lexerOf, live, lengthIn, weight, greatest, earliest}
-use Rattle.run.specs.Run.{Running, current, Input, RunLeft, leaving, goodRun, fitsIn, goodRow, moveBy, wonBy, choose, stepRow, stepRun, stepCall, stays, view}
+use Rattle.run.specs.Winner.{Lexer, live, lengthIn, weight, greatest, earliest}
+use Rattle.run.specs.Run.{Running, current, Input, RunLeft, leaving, goodRun, fitsIn, goodRow, moveBy, wonBy, choose, stepRow, stepRun, lexerOf, stepCall, stays, view}
 use Rattle.run.proofs.Fitting.{row-length}
 use Rattle.run.proofs.Winning.{earliest-has, winner-inside, weights-low}
 
