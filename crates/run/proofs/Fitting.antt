@@ -15,13 +15,13 @@ use Rattle.sheet_check.specs.SheetCheck.{declared}
 use Rattle.area.specs.Lists.{all}
 use Rattle.area.proofs.Contents.{contents-count, contents-read}
 use Rattle.area.proofs.All.{all-at, all-from}
+use Rattle.winner.specs.Winner.{lengthIn, greatest}
+use Rattle.winner.proofs.Winning.{below-greatest, greatest-low}
 use Rattle.run.specs.declared.Run.{Run}
 use Rattle.run.specs.declared.RowTop.{RowTop}
 use Rattle.run.specs.declared.RowTop.the-variants.{Fits, Misfit}
-use Rattle.run.specs.Winner.{lengthIn, greatest}
 use Rattle.run.specs.Run.{running, movesOf, mostBytes, stackBytes, current, goodNumbers, goodRun, goodRow}
 use Rattle.run.specs.Top.{RowFits, RowTopIs}
-use Rattle.run.proofs.Winning.{below-greatest, greatest-low}
 
 -- the numbers of a run fit each other and a stack of so many bytes
 pub record GoodNumbers (r : Run) (space : ℕ) : Type 0 where

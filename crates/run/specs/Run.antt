@@ -15,13 +15,13 @@ use Rattle.answers.specs.Numbers.{doneNumber, stoppedNumber, unlinkedNumber, sk
 use Rattle.answers.specs.Words.{Fields, fields, word}
 use Rattle.parse.specs.Parse.{Contents}
 use Rattle.sheet_check.specs.SheetCheck.{SheetBytes, decoded, sheetCheck, declared}
+use Rattle.winner.specs.declared.Best.{Best}
+use Rattle.winner.specs.Winner.{Lexer, weight, best}
 use Rattle.run.specs.declared.Run.{Run}
-use Rattle.run.specs.declared.Best.{Best}
 use Rattle.run.specs.declared.Begun.{Begun}
 use Rattle.run.specs.declared.Begun.the-variants.{Started, StartRefused}
 use Rattle.run.specs.declared.Step.{Step}
 use Rattle.run.specs.declared.Step.the-variants.{BrokenSheet, BrokenRun, RowMismatch, Done, Stopped, Unlinked, Skip, Token}
-use Rattle.run.specs.Winner.{Lexer, weight, best}
 
 -- ---- the run
 

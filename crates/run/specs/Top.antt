@@ -3,9 +3,9 @@ use Prim.Native.Nat.{ℕ}
 use mathlib.Core.Path.{_≡_}
 use mathlib.Core.Bool.{Bool, true, false}
 use mathlib.Core.List.{List}
+use Rattle.winner.specs.Winner.{lengthIn, greatest}
 use Rattle.run.specs.declared.RowTop.{RowTop}
 use Rattle.run.specs.declared.RowTop.the-variants.{Fits, Misfit}
-use Rattle.run.specs.Winner.{lengthIn, greatest}
 use Rattle.run.specs.Run.{goodRow}
 
 -- a row fits, and top is its greatest length

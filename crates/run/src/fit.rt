@@ -7,9 +7,9 @@ ghost use Rattle.run.specs.Top.{RowTopIs};
 use crate::MOST_BYTES;
 use crate::RowTop;
 use crate::Run;
-use crate::longest::greatest_length;
 use area::ENTRY_WIDTH;
 use sheet_check::check::good_entries;
+use winner::greatest_length;
 
 // The sums are wider than a field, so that they cannot wrap.
 fn good_numbers(r: Run, stack: &[u8]) -> bool

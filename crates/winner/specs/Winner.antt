@@ -8,7 +8,7 @@ use Rattle.characters.specs.Walk.{first}
 use Rattle.area.specs.declared.State.{State}
 use Rattle.area.specs.declared.Rule.{Rule}
 use Rattle.area.specs.Records.{entryAt, nthState, nthRule, nthEntry}
-use Rattle.run.specs.declared.Best.{Best}
+use Rattle.winner.specs.declared.Best.{Best}
 
 -- ---- what a run reads of a sheet
 

@@ -15,9 +15,9 @@ use Rattle.area.specs.declared.Rule.{Rule}
 use Rattle.area.specs.Records.{ruleAt, entryAt, nthRule}
 use Rattle.area.specs.Contents.{ruleFormat}
 use Rattle.area.proofs.Contents.{contents-read}
-use Rattle.run.specs.Winner.{Lexer, live, lengthIn, weight, greatest, earliest, best, firstWith}
-use Rattle.run.specs.Contracts.{lexerAt}
-use Rattle.run.proofs.Winning.{below-greatest, best-zero, weights-low}
+use Rattle.winner.specs.Winner.{Lexer, live, lengthIn, weight, greatest, earliest, best, firstWith}
+use Rattle.winner.specs.Contracts.{lexerAt}
+use Rattle.winner.proofs.Winning.{below-greatest, best-zero, weights-low}
 
 -- ---- a length in the row
 
