@@ -30,13 +30,13 @@ use Rattle.name_map.specs.Map.{Entry, nth, mapWidth, mostEntries, mapFormat, en
 use Rattle.link.specs.Link as L
 use Rattle.link.specs.Link.{isUnmapped, isUnused, unmapped, unused, LinkLeft, linkAll, linkChecked, linkCall, linkFields}
 use Rattle.name_map.proofs.Maps.{entries-count}
+use Rattle.winner.specs.Winner.{Lexer, lengthIn, weight, greatest}
+use Rattle.winner.proofs.Winning.{weights-low}
 use Rattle.run.specs.declared.Begun.{Begun}
 use Rattle.run.specs.declared.Begun.the-variants.{Started, StartRefused}
 use Rattle.run.specs.declared.Step.{Step}
-use Rattle.run.specs.Winner.{Lexer, lexerOf, lengthIn, weight, greatest}
-use Rattle.run.specs.Run.{Running, current, Input, RunLeft, goodRun, fitsIn, goodRow, wonBy, choose, stepRow, stepRun, stepCall, startFields, view, viewFields, stepFields}
+use Rattle.run.specs.Run.{Running, current, Input, RunLeft, goodRun, fitsIn, goodRow, wonBy, choose, stepRow, stepRun, lexerOf, stepCall, startFields, view, viewFields, stepFields}
 use Rattle.run.proofs.Fitting.{run-is}
-use Rattle.run.proofs.Winning.{weights-low}
 
 -- ---- the pattern call
 

@@ -19,11 +19,11 @@ use Rattle.name_map.specs.Map.{Entry, idOf}
 use Rattle.link.specs.Link.{isNamed, withId, withFound, linkRule, linkRules}
 use Rattle.link.proofs.LinkLaws.{link-changes-ids}
 use Rattle.link.proofs.Outcomes.{link-at}
+use Rattle.winner.specs.Winner.{Lexer, inList, live, lengthIn, weight}
 use Rattle.run.specs.declared.Run.{Run}
 use Rattle.run.specs.declared.Step.{Step}
 use Rattle.run.specs.declared.Step.the-variants.{Unlinked, Skip, Token}
-use Rattle.run.specs.Winner.{Lexer, lexerOf, inList, live, lengthIn, weight}
-use Rattle.run.specs.Run.{Running, running, leaving, runLeft, putState, withDepth, advanced, popped, operated, moveBy, wonBy}
+use Rattle.run.specs.Run.{Running, running, leaving, runLeft, putState, withDepth, advanced, popped, operated, moveBy, wonBy, lexerOf}
 use Rattle.machine.specs.File.{keep, replace, push, pop, operationBy, nameFrom, fileRule}
 use Rattle.machine.specs.Machine.{Given, Machine, orInitial, operate, Winner, winner, move, answered, token, wins}
 use Rattle.machine.proofs.Laid.{leftAs}

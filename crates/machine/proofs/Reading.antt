@@ -21,7 +21,7 @@ use Rattle.area.proofs.Contents.{listOf-is}
 use Rattle.area.specs.Lists.{all}
 use Rattle.parse.specs.Parse.{Contents}
 use Rattle.name_map.specs.Map.{Entry, nth, findEntry, idAt, idOf}
-use Rattle.run.specs.Winner.{findInList, inList, live}
+use Rattle.winner.specs.Winner.{findInList, inList, live}
 use Rattle.run.specs.Run.{goodRow}
 use Rattle.run_laws.proofs.Stacks.{entry-bytes}
 use Rattle.machine.specs.File.{FileState, fileState, fileRule}

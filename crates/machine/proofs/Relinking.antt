@@ -19,7 +19,7 @@ use Rattle.link.specs.Link.{LinkLeft, linkLeft, linkRules, fits, unmapped, unus
 use Rattle.link.proofs.LinkLaws.{linked-contents, linked-passes, entry-id}
 use borrow.Author.Tests.{eqb-true}
 use Rattle.characters.proofs.Tests.{and-left, and-right}
-use Rattle.run.specs.Winner.{lexerOf}
+use Rattle.run.specs.Run.{lexerOf}
 use Rattle.machine.specs.Means.{EntryOf}
 use Rattle.machine.specs.Demand.{linkedSheet}
 use Rattle.machine.proofs.Options.{some-is, place-inside, place-has}

@@ -15,11 +15,11 @@ use Rattle.parse.specs.Parse.{Contents}
 use Rattle.name_map.specs.Map.{Entry}
 use Rattle.link.specs.Link.{linkRules}
 use Rattle.link.proofs.Outcomes.{link-count, link-at}
+use Rattle.winner.specs.Winner.{weight, greatest, earliest, best}
+use Rattle.winner.proofs.Winning.{greatest-low}
 use Rattle.run.specs.declared.Step.{Step}
 use Rattle.run.specs.declared.Step.the-variants.{RowMismatch, Done, Stopped}
-use Rattle.run.specs.Winner.{lexerOf, weight, greatest, earliest, best}
-use Rattle.run.specs.Run.{running, current, Input, RunLeft, runLeft, goodRun, wonBy, choose, stepRow, stepRun}
-use Rattle.run.proofs.Winning.{greatest-low}
+use Rattle.run.specs.Run.{running, current, Input, RunLeft, runLeft, goodRun, wonBy, choose, stepRow, stepRun, lexerOf}
 use Rattle.machine.specs.File.{FileRule, fileState, fileRule, fileIn}
 use Rattle.machine.specs.Machine.{Given, Machine, currentState, lengths, fits, notAbove, Winner, winner, winnerOf, Answered, wins, chooses, step}
 use Rattle.machine.proofs.Laid.{leftAs}

@@ -15,9 +15,9 @@ use Rattle.parsed_sheet.proofs.Accepting.{accepted-holds}
 use Rattle.parsed_sheet.proofs.Decoding.{accepted-decodes, accepted-checks, answer-accepted}
 use Rattle.parsed_sheet.proofs.Growing.{accepted-meaning}
 use Rattle.name_map.specs.Map.{Entry, entriesOf}
+use Rattle.winner.specs.Winner.{Lexer}
 use Rattle.run.specs.declared.Begun.{Begun}
 use Rattle.run.specs.declared.Begun.the-variants.{Started}
-use Rattle.run.specs.Winner.{Lexer}
 use Rattle.run.specs.Run.{Running, running, mostBytes, putState, Input, RunLeft, leaving, runLeft, firstRun, startCall}
 use Rattle.run_laws.specs.Calls.{calls, EachCall}
 use Rattle.run_laws.specs.Always.{SoundRun, SoundCall, ALWAYS}

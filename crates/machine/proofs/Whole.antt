@@ -8,10 +8,10 @@ use Rattle.area.specs.declared.Rule.{Rule}
 use Rattle.parse.specs.Parse.{Contents}
 use Rattle.sheet_check.specs.SheetCheck.{SheetBytes, decoded, sheetCheck}
 use Rattle.name_map.specs.Map.{Entry}
+use Rattle.winner.specs.Winner.{Lexer}
 use Rattle.run.specs.declared.Step.{Step}
 use Rattle.run.specs.declared.Step.the-variants.{Unlinked}
-use Rattle.run.specs.Winner.{Lexer, lexerOf}
-use Rattle.run.specs.Run.{Running, running, Input, RunLeft, stepRun, stepCall}
+use Rattle.run.specs.Run.{Running, running, Input, RunLeft, stepRun, lexerOf, stepCall}
 use Rattle.run_laws.specs.Calls.{calls, EachCall}
 use Rattle.run_laws.specs.Always.{SoundCall}
 use Rattle.machine.specs.File.{fileIn}

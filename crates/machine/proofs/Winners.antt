@@ -11,8 +11,9 @@ use Rattle.area.specs.declared.Rule.{Rule}
 use Rattle.characters.proofs.Tests.{le-or-lt}
 use Rattle.area.specs.Records.{nthRule}
 use Rattle.parse.specs.Parse.{Contents}
-use Rattle.run.specs.Winner.{lexerOf, live, lengthIn, weight, greatest, earliest}
-use Rattle.run.proofs.Winning.{below-greatest, greatest-low, earliest-has, earliest-first}
+use Rattle.winner.specs.Winner.{live, lengthIn, weight, greatest, earliest}
+use Rattle.winner.proofs.Winning.{below-greatest, greatest-low, earliest-has, earliest-first}
+use Rattle.run.specs.Run.{lexerOf}
 use Rattle.run_laws.proofs.Stacks.{entry-bytes}
 use Rattle.machine.specs.File.{FileRule, fileState, fileRule}
 use Rattle.machine.specs.Machine.{Machine, currentState, lengths, isLive, Winner}

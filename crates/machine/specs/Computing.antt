@@ -15,6 +15,7 @@ use Rattle.sheet_check.specs.Computing.{computing as sheet-check-computing}
 use Rattle.parsed_sheet.specs.Computing.{computing as parsed-sheet-computing}
 use Rattle.name_map.specs.Computing.{computing as name-map-computing}
 use Rattle.link.specs.Computing.{computing as link-computing}
+use Rattle.winner.specs.Computing.{computing as winner-computing}
 use Rattle.run.specs.Computing.{computing as run-computing}
 use Rattle.machine.specs.Demand.{lastHeld, Follows, DEMAND}
 use Rattle.machine.specs.File.{operationBy, nameAt, nameFrom, mapOf, fileOf}
@@ -42,7 +43,7 @@ unfolding characters-computing text-computing area-computing fault-computing sec
 part = tt
 
 unfoldable part-2 : Unit {0}
-unfolding sheet-check-computing parsed-sheet-computing name-map-computing link-computing run-computing demand-file file-file machine-file words-file
+unfolding sheet-check-computing parsed-sheet-computing name-map-computing link-computing winner-computing run-computing demand-file file-file machine-file words-file
 part-2 = tt
 
 unfoldable pub computing : Unit {0}

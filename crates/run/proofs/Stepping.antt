@@ -16,17 +16,18 @@ use Rattle.area.specs.Contents.{contents, stateFormat, ruleFormat}
 use Rattle.sheet_check.specs.SheetCheck.{SheetBytes, count, decoded, sheetCheck}
 use Rattle.area.proofs.Contents.{contents-count, contents-read}
 use Rattle.sheet_check.proofs.Checked.{checked-long, checked-rule}
+use Rattle.winner.specs.declared.Best.{Best}
+use Rattle.winner.specs.Winner.{Lexer, weight, best}
+use Rattle.winner.specs.Contracts.{lexerAt, Readable}
+use Rattle.winner.proofs.Winning.{winner-inside, weights-low}
 use Rattle.run.specs.declared.Run.{Run}
-use Rattle.run.specs.declared.Best.{Best}
 use Rattle.run.specs.declared.Begun.the-variants.{Started, StartRefused}
 use Rattle.run.specs.declared.Step.{Step}
 use Rattle.run.specs.declared.Step.the-variants.{BrokenSheet, BrokenRun, RowMismatch, Done, Stopped}
-use Rattle.run.specs.Winner.{Lexer, weight, best}
 use Rattle.run.specs.Run.{mostBytes, stackBytes, Running, running, Input, current, putState, RunLeft, leaving, runLeft, firstRun, startCall, goodStart}
 use Rattle.run.specs.Run.{goodRun, fitsIn, goodRow, wonBy, choose, stepRow, stepRun, stepCall}
-use Rattle.run.specs.Contracts.{lexerAt, Readable, Inside}
+use Rattle.run.specs.Contracts.{Inside}
 use Rattle.run.proofs.Fitting.{GoodNumbers, run-is, row-length}
-use Rattle.run.proofs.Winning.{winner-inside, weights-low}
 
 -- ---- the start call
 

@@ -1,4 +1,3 @@
-pub mod Winner
 pub mod Run
 pub mod Top
 pub mod Contracts

@@ -13,14 +13,15 @@ use Rattle.area.specs.Contents.{contents, entryFormat}
 use Rattle.answers.specs.Numbers.{acceptedNumber, startRefusedNumber, brokenSheetNumber, brokenRunNumber, rowMismatchNumber}
 use Rattle.answers.specs.Numbers.{doneNumber, stoppedNumber, unlinkedNumber, skipNumber, tokenNumber}
 use Rattle.answers.specs.Words.{Fields, fields, word}
+use Rattle.parse.specs.Parse.{Contents}
 use Rattle.sheet_check.specs.SheetCheck.{SheetBytes, decoded, sheetCheck, declared}
+use Rattle.winner.specs.declared.Best.{Best}
+use Rattle.winner.specs.Winner.{Lexer, weight, best}
 use Rattle.run.specs.declared.Run.{Run}
-use Rattle.run.specs.declared.Best.{Best}
 use Rattle.run.specs.declared.Begun.{Begun}
 use Rattle.run.specs.declared.Begun.the-variants.{Started, StartRefused}
 use Rattle.run.specs.declared.Step.{Step}
 use Rattle.run.specs.declared.Step.the-variants.{BrokenSheet, BrokenRun, RowMismatch, Done, Stopped, Unlinked, Skip, Token}
-use Rattle.run.specs.Winner.{Lexer, lexerOf, weight, best}
 
 -- ---- the run
 
@@ -163,6 +164,10 @@ module _ (x : Lexer) (g : Running) where
       (leaving Done g)
       (cond (goodRow (fitsIn (g .run)) (length (x .rules)) (i .row)) (stepRow i) (leaving RowMismatch g)))
       (leaving BrokenRun g)
+
+-- what a step reads of the contents of a sheet
+abbrev pub lexerOf : Contents → Lexer
+lexerOf c = record { states = c .states; rules = c .rules; lists = c .lists }
 
 -- 6 first of all
 unfoldable pub stepCall : SheetBytes → Running → Input → RunLeft Step

@@ -3,11 +3,9 @@ use Prim.Native.Nat.{ℕ}
 use mathlib.Core.Path.{_≡_}
 use mathlib.Core.Bool.{Bool, true, false}
 use mathlib.Core.List.{List}
-use lib.Dec.{eqb}
-use Rattle.characters.specs.Walk.{first}
+use Rattle.winner.specs.Winner.{lengthIn, greatest}
 use Rattle.run.specs.declared.RowTop.{RowTop}
 use Rattle.run.specs.declared.RowTop.the-variants.{Fits, Misfit}
-use Rattle.run.specs.Winner.{lengthIn, greatest}
 use Rattle.run.specs.Run.{goodRow}
 
 -- a row fits, and top is its greatest length
@@ -19,7 +17,3 @@ pub record RowFits (fits : ℕ → Bool) (rules : ℕ) (row : List ℕ) (top : �
 abbrev pub RowTopIs : (ℕ → Bool) → ℕ → List ℕ → RowTop → Type 0
 RowTopIs fits rules row (Fits top) = RowFits fits rules row top
 RowTopIs fits rules row Misfit = goodRow fits rules row ≡ false
-
--- the first place from i to before e where f is x; e where there is none
-abbrev pub firstWith : (ℕ → ℕ) → ℕ → ℕ → ℕ → ℕ
-firstWith f x i e = first (λ k. eqb (f k) x) i e

@@ -4,9 +4,9 @@ ghost use mathlib.Core.Bool.{true};
 ghost use Prim.Native.Nat.{_<_};
 ghost use Rattle.sheet_check.specs.Contracts.{sheetIn};
 ghost use Rattle.area.specs.Contracts.{before, after};
+ghost use Rattle.winner.specs.Contracts.{lexerIn, Readable};
 ghost use Rattle.run.specs.Run.{running, input, runLeft, startCall, goodRun, fitsIn, stepRow, stepRun, stepCall};
 ghost use Rattle.run.specs.Top.{RowFits};
-ghost use Rattle.run.specs.Contracts.{lexerIn, Readable};
 use crate::Begun;
 use crate::BegunRun;
 use crate::MOST_BYTES;
@@ -16,13 +16,13 @@ use crate::Step;
 use crate::Stepped;
 use crate::fit::good_run;
 use crate::fit::row_top;
-use crate::longest::winner;
 use crate::moves::put_state;
 use crate::moves::won_by;
 use area::ENTRY_WIDTH;
 use area::read_entry;
 use area::read_rule;
 use sheet_check::check::quick_check;
+use winner::winner;
 
 // Begins a run over an entry of n bytes.
 pub fn start(n: u64, r: Run, stack: &mut [u8]) -> BegunRun

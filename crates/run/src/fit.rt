@@ -1,19 +1,15 @@
 // Whether a run and a row fit (01, Numbers given at the counter, 9 and 10).
 ghost use mathlib.Core.Path.{_≡_};
-ghost use Prim.Native.Nat.{_*_, _≤_, max};
 ghost use lib.Dec.{leb};
-ghost use lib.ListN.{length};
-ghost use Rattle.area.specs.Records.{entryWidth};
 ghost use Rattle.area.specs.Contracts.{before};
-ghost use Rattle.run.specs.Winner.{lengthIn, greatest};
 ghost use Rattle.run.specs.Run.{running, goodNumbers, goodRun};
 ghost use Rattle.run.specs.Top.{RowTopIs};
 use crate::MOST_BYTES;
 use crate::RowTop;
 use crate::Run;
 use area::ENTRY_WIDTH;
-use area::read_entry;
 use sheet_check::check::good_entries;
+use winner::greatest_length;
 
 // The sums are wider than a field, so that they cannot wrap.
 fn good_numbers(r: Run, stack: &[u8]) -> bool
@@ -35,29 +31,6 @@ pub fn good_run(states: u16, r: Run, stack: &[u8]) -> bool
         return good_entries(stack, r.depth, states);
     }
     false
-}
-
-fn max(x: u16, y: u16) -> u16
-    ensures { λ r. ⌜ r ≡ max x y ⌝ }
-{
-    if x < y {
-        return y;
-    }
-    x
-}
-
-fn greatest_length(row: &[u8], rules: u16) -> u16
-    requires { ⌜ rules * entryWidth ≤ length (now row) ⌝ }
-    ensures { λ t. ⌜ t ≡ greatest (lengthIn (before row)) rules ⌝ }
-{
-    let most = rules as usize;
-    let mut top = 0;
-    let mut k = 0;
-    while k < most {
-        top = max(top, read_entry(row, k));
-        k += 1;
-    }
-    top
 }
 
 // Every length is at most the bytes left where the greatest is.

@@ -1,6 +1,5 @@
 // A run of the lexer that a sheet describes: the start call and the step call (01, The run).
 mod fit; // whether a run and a row fit
-mod longest; // the rule that wins
 mod moves; // what the winner does
 pub mod call; // the calls
 
@@ -15,12 +14,6 @@ pub struct Run {
     pub position: u16,
     pub depth: u16,
     pub moves: u16,
-}
-
-// The greatest length among live rules, and the first rule that has it.
-pub struct Best {
-    pub length: u16,
-    pub rule: usize,
 }
 
 // Whether a row fits: its greatest length, or that it does not fit.

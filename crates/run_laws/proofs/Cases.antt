@@ -12,12 +12,12 @@ use Rattle.area.specs.declared.Rule.{Rule}
 use Rattle.area.specs.Records.{nthRule}
 use Rattle.answers.specs.Numbers.{brokenSheetNumber, brokenRunNumber, rowMismatchNumber, doneNumber, stoppedNumber, unlinkedNumber}
 use Rattle.sheet_check.specs.SheetCheck.{SheetBytes, decoded, sheetCheck}
+use Rattle.winner.specs.Winner.{Lexer, live, lengthIn, weight, greatest, earliest}
+use Rattle.winner.proofs.Winning.{earliest-has, winner-inside, weights-low}
 use Rattle.run.specs.declared.Step.{Step}
 use Rattle.run.specs.declared.Step.the-variants.{RowMismatch, Done, Stopped, Unlinked, Skip, Token}
-use Rattle.run.specs.Winner.{Lexer, lexerOf, live, lengthIn, weight, greatest, earliest}
-use Rattle.run.specs.Run.{Running, current, Input, RunLeft, leaving, goodRun, fitsIn, goodRow, moveBy, wonBy, choose, stepRow, stepRun, stepCall, stays, view}
+use Rattle.run.specs.Run.{Running, current, Input, RunLeft, leaving, goodRun, fitsIn, goodRow, moveBy, wonBy, choose, stepRow, stepRun, lexerOf, stepCall, stays, view}
 use Rattle.run.proofs.Fitting.{row-length}
-use Rattle.run.proofs.Winning.{earliest-has, winner-inside, weights-low}
 
 -- rule k wins by so many bytes: it is live in the current state, and the row has that length for it, at least one byte and none that is not left
 pub record Wins (c : Lexer) (x : Running) (i : Input) (k bytes : ℕ) : Type 0 where

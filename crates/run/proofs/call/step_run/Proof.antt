@@ -1,8 +1,7 @@
 -- `run::call::step_run` meets its contract: each test is that of the definition, in its order.
 use mathlib.Core.Path.{sym, _∙_}
 use borrow.Author.Needs.{needs}
-use Rattle.run.proofs.Fitting.{run-is}
-use Rattle.run.proofs.Topping.{told-fits, told-misfit}
+use Rattle.run.proofs.Fitting.{run-is, told-fits, told-misfit}
 use Rattle.run.proofs.Stepping.{run-refused, run-done, run-ill, run-row, short-of}
 use Rattle.run.proofs.call.step_run.Statement.{statement}
 use Rattle.run.proofs.call.step_run.Tie as tie

@@ -1,8 +1,7 @@
 -- `run::fit::row_top` meets its contract: every length is at most the bytes left where the greatest is.
 use native.Mathlib.Omega.{arith}
 use borrow.Author.Needs.{needs}
-use Rattle.run.proofs.Fitting.{row-broken}
-use Rattle.run.proofs.Topping.{row-above, row-within}
+use Rattle.run.proofs.Fitting.{row-broken, row-above, row-within}
 use Rattle.run.proofs.fit.row_top.Statement.{statement}
 use Rattle.run.proofs.fit.row_top.Tie as tie
 

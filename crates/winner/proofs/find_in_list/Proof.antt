@@ -1,11 +1,11 @@
--- `run::longest::find_in_list` meets its contract: from where the loop stands the state is found at the same place.
+-- `winner::find_in_list` meets its contract: from where the loop stands the state is found at the same place.
 use mathlib.Core.Path.{_≡_}
 use Prim.Native.Nat.{_≤_, _-_}
 use Rattle.area.specs.Contents.{contents, entryFormat}
-use Rattle.run.specs.Winner.{findInList}
-use Rattle.run.proofs.Winning.{listing}
-use Rattle.run.proofs.longest.find_in_list.Statement.{statement}
-use Rattle.run.proofs.longest.find_in_list.Tie as tie
+use Rattle.winner.specs.Winner.{findInList}
+use Rattle.winner.proofs.Winning.{listing}
+use Rattle.winner.proofs.find_in_list.Statement.{statement}
+use Rattle.winner.proofs.find_in_list.Tie as tie
 
 abbrev Inv-loop : tie.InvT-loop
 Inv-loop area3 entries from end state i₀ i =

@@ -8,8 +8,7 @@ use Rattle.characters.specs.Walk.{first}
 use Rattle.area.specs.declared.State.{State}
 use Rattle.area.specs.declared.Rule.{Rule}
 use Rattle.area.specs.Records.{entryAt, nthState, nthRule, nthEntry}
-use Rattle.parse.specs.Parse.{Contents}
-use Rattle.run.specs.declared.Best.{Best}
+use Rattle.winner.specs.declared.Best.{Best}
 
 -- ---- what a run reads of a sheet
 
@@ -18,9 +17,6 @@ pub record Lexer : Type 0 where
   pub states : List State
   pub rules : List Rule
   pub lists : List ℕ
-
-abbrev pub lexerOf : Contents → Lexer
-lexerOf c = record { states = c .states; rules = c .rules; lists = c .lists }
 
 -- ---- a rule that is live
 
@@ -67,3 +63,7 @@ best f n = record { length = greatest f n; rule = earliest f n }
 -- of a rule that wins among the earlier ones and rule k, of that weight, the one that wins
 unfoldable pub better : Best → ℕ → ℕ → Best
 better b k w = cond (ltb (b .length) w) (record { length = w; rule = k }) b
+
+-- the first place from i to before e where f is x; e where there is none
+abbrev pub firstWith : (ℕ → ℕ) → ℕ → ℕ → ℕ → ℕ
+firstWith f x i e = first (λ k. eqb (f k) x) i e

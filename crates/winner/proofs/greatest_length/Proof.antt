@@ -1,12 +1,12 @@
--- `run::fit::greatest_length` meets its contract: what is kept is the greatest of the lengths so far.
+-- `winner::greatest_length` meets its contract: what is kept is the greatest of the lengths so far.
 use mathlib.Core.Path.{_≡_, ap, _∙_}
 use Prim.Native.Nat.{_≤_, _-_}
 use native.Mathlib.Omega.{arith}
 use borrow.Author.Needs.{needs}
-use Rattle.run.specs.Winner.{lengthIn, greatest}
-use Rattle.run.proofs.Winning.{greatest-none, greatest-more}
-use Rattle.run.proofs.fit.greatest_length.Statement.{statement}
-use Rattle.run.proofs.fit.greatest_length.Tie as tie
+use Rattle.winner.specs.Winner.{lengthIn, greatest}
+use Rattle.winner.proofs.Winning.{greatest-none, greatest-more}
+use Rattle.winner.proofs.greatest_length.Statement.{statement}
+use Rattle.winner.proofs.greatest_length.Tie as tie
 
 abbrev Inv-loop : tie.InvT-loop
 Inv-loop row rules most top₀ k₀ top k = (k ≤ rules) × (top ≡ greatest (lengthIn row) k)

@@ -1,19 +1,25 @@
 // The rule that wins: of those that are live the one with the greatest length, the earlier at a tie (01, The run).
 ghost use mathlib.Core.Path.{_≡_};
 ghost use mathlib.Core.Bool.{cond};
-ghost use Prim.Native.Nat.{_+_, _*_, _≤_, _<_};
+ghost use Prim.Native.Nat.{_+_, _*_, _≤_, _<_, max};
 ghost use lib.ListN.{length};
 ghost use Rattle.area.specs.Records.{stateWidth, entryWidth};
 ghost use Rattle.area.specs.Contents.{contents, stateFormat, entryFormat};
 ghost use Rattle.area.specs.Contracts.{before};
-ghost use Rattle.run.specs.Winner.{findInList, live, lengthIn, weight, greatest, best, better};
-ghost use Rattle.run.specs.Top.{firstWith};
-ghost use Rattle.run.specs.Contracts.{lexerIn, Readable};
-use crate::Best;
+ghost use Rattle.winner.specs.Winner.{findInList, live, lengthIn, weight, greatest, best, better, firstWith};
+ghost use Rattle.winner.specs.Contracts.{lexerIn, Readable};
 use area::Rule;
 use area::read_entry;
 use area::read_rule;
 use area::read_state;
+
+// The greatest length among live rules, and the first rule that has it.
+pub struct Best {
+    pub length: u16,
+    pub rule: usize,
+}
+
+// ---- a rule that is live
 
 // Where a state stands among the list entries from one place to before another.
 fn find_in_list(area3: &[u8], entries: u16, from: usize, end: usize, state: u16) -> usize
@@ -47,6 +53,8 @@ fn is_live(area1: &[u8], area3: &[u8], states: u16, entries: u16, state: u16, x:
     find_in_list(area3, entries, from, end, state) < end
 }
 
+// ---- the plain scan of all rules
+
 // The list of a rule is read only where its length would win.
 fn better_of(
     area1: &[u8],
@@ -77,7 +85,6 @@ fn better_of(
     b
 }
 
-// The plain scan of all rules.
 fn longest(
     area1: &[u8],
     area2: &[u8],
@@ -106,6 +113,33 @@ fn longest(
     }
     b
 }
+
+// ---- the greatest length of a row
+
+fn max(x: u16, y: u16) -> u16
+    ensures { λ r. ⌜ r ≡ max x y ⌝ }
+{
+    if x < y {
+        return y;
+    }
+    x
+}
+
+pub fn greatest_length(row: &[u8], rules: u16) -> u16
+    requires { ⌜ rules * entryWidth ≤ length (now row) ⌝ }
+    ensures { λ t. ⌜ t ≡ greatest (lengthIn (before row)) rules ⌝ }
+{
+    let most = rules as usize;
+    let mut top = 0;
+    let mut k = 0;
+    while k < most {
+        top = max(top, read_entry(row, k));
+        k += 1;
+    }
+    top
+}
+
+// ---- the search by it
 
 // The first rule that has a length, from one rule to before another.
 fn find_length(row: &[u8], from: usize, end: usize, bytes: u16) -> usize
@@ -153,6 +187,8 @@ fn first_longest(
     }
     k
 }
+
+// ---- the winner
 
 // The winner, by the greatest length of the row. Mostly a live rule has it; where none has, all rules are looked at.
 pub fn winner(

@@ -19,9 +19,9 @@ use Rattle.area.specs.declared.Rule.{Rule}
 use Rattle.area.specs.Records.{stateAt, ruleAt, entryAt, nthState, nthRule, nthEntry}
 use Rattle.area.specs.Contents.{contents, stateFormat, ruleFormat, entryFormat}
 use Rattle.area.proofs.Contents.{contents-read}
-use Rattle.run.specs.declared.Best.{Best}
-use Rattle.run.specs.Winner.{Lexer, findInList, listEnd, inList, live, lengthIn, weight, greatest, earliest, best, better}
-use Rattle.run.specs.Contracts.{lexerAt, Readable}
+use Rattle.winner.specs.declared.Best.{Best}
+use Rattle.winner.specs.Winner.{Lexer, findInList, listEnd, inList, live, lengthIn, weight, greatest, earliest, best, better}
+use Rattle.winner.specs.Contracts.{lexerAt, Readable}
 use Rattle.characters.proofs.Firsts.{first-passes, first-before, first-low, first-only}
 
 -- ---- a state in a list

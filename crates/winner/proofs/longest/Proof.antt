@@ -1,13 +1,13 @@
--- `run::longest::longest` meets its contract: what is kept is the best of the rules so far.
+-- `winner::longest` meets its contract: what is kept is the best of the rules so far.
 use mathlib.Core.Path.{_≡_}
 use Prim.Native.Nat.{_≤_, _-_}
 use native.Mathlib.Omega.{arith}
 use borrow.Author.Needs.{needs}
-use Rattle.run.specs.Winner.{weight, best}
-use Rattle.run.specs.Contracts.{lexerAt}
-use Rattle.run.proofs.Winning.{best-none, scan-next, scan-ended, list-inside}
-use Rattle.run.proofs.longest.longest.Statement.{statement}
-use Rattle.run.proofs.longest.longest.Tie as tie
+use Rattle.winner.specs.Winner.{weight, best}
+use Rattle.winner.specs.Contracts.{lexerAt}
+use Rattle.winner.proofs.Winning.{best-none, scan-next, scan-ended, list-inside}
+use Rattle.winner.proofs.longest.Statement.{statement}
+use Rattle.winner.proofs.longest.Tie as tie
 
 abbrev Inv-loop : tie.InvT-loop
 Inv-loop area1 area2 area3 states rules entries state row most b₀ k₀ b k =

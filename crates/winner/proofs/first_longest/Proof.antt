@@ -1,12 +1,12 @@
--- `run::longest::first_longest` meets its contract: the loop stands at a rule that has the length, and from there on the same rule is found.
+-- `winner::first_longest` meets its contract: the loop stands at a rule that has the length, and from there on the same rule is found.
 use native.Mathlib.Omega.{arith}
 use Prim.Native.Nat.{_-_}
 use borrow.Author.Needs.{needs}
-use Rattle.run.specs.Contracts.{lexerAt}
-use Rattle.run.proofs.Winning.{list-inside}
-use Rattle.run.proofs.Topping.{Searching, found-behind, search-begun, search-found, search-again, search-ended}
-use Rattle.run.proofs.longest.first_longest.Statement.{statement}
-use Rattle.run.proofs.longest.first_longest.Tie as tie
+use Rattle.winner.specs.Contracts.{lexerAt}
+use Rattle.winner.proofs.Winning.{list-inside}
+use Rattle.winner.proofs.Topping.{Searching, found-behind, search-begun, search-found, search-again, search-ended}
+use Rattle.winner.proofs.first_longest.Statement.{statement}
+use Rattle.winner.proofs.first_longest.Tie as tie
 
 abbrev Inv-loop : tie.InvT-loop
 Inv-loop area1 area2 area3 states rules entries state row top most k₀ k =

@@ -1,10 +1,10 @@
--- `run::longest::winner` meets its contract: the first live rule that has the greatest length of the row wins, and where there is none the
+-- `winner::winner` meets its contract: the first live rule that has the greatest length of the row wins, and where there is none the
 -- scan tells.
 use native.Mathlib.Omega.{arith}
 use borrow.Author.Needs.{needs}
-use Rattle.run.proofs.Topping.{winner-none, winner-first}
-use Rattle.run.proofs.longest.winner.Statement.{statement}
-use Rattle.run.proofs.longest.winner.Tie as tie
+use Rattle.winner.proofs.Topping.{winner-none, winner-first}
+use Rattle.winner.proofs.winner.Statement.{statement}
+use Rattle.winner.proofs.winner.Tie as tie
 
 -- places given from After-shared-slice-known4: start
 module _ (c : tie.After-shared-slice-known4) where

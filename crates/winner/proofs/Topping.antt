@@ -1,56 +1,23 @@
--- The greatest length of a row. Every length fits where the greatest does. The weight of a rule is its length or 0, so that no weight is above
--- the greatest length, and a live rule that has it wins; the rules of other lengths are passed over in the search for the first of them.
-use mathlib.Core.Path.{_≡_, refl, sym, ap, subst, _∙_}
+-- The winner by the greatest length of a row. The weight of a rule is its length or 0, so that no weight is above the greatest length, and a
+-- live rule that has it wins; the rules of other lengths are passed over in the search for the first of them.
+use mathlib.Core.Path.{_≡_, refl, sym, ap, _∙_}
 use mathlib.Core.Bool.{Bool, true, false}
 use mathlib.Core.List.{List}
-use Prim.Native.Nat.{ℕ, _+_, _*_, _≤_, _<_}
+use Prim.Native.Nat.{ℕ, _+_, _≤_, _<_}
 use native.Mathlib.Omega.{arith}
 use borrow.Author.Needs.{needs}
-use borrow.Author.Tests.{le-leb, leb-true, eq-eqb, ne-eqb, eqb-true}
-use lib.Dec.{eqb, leb}
-use lib.ListN.{length}
+use borrow.Author.Tests.{eq-eqb, ne-eqb, eqb-true}
+use lib.Dec.{eqb}
 use Rattle.characters.proofs.Tests.{by-test}
 use Rattle.characters.proofs.Walks.{first-found, first-again, first-ended, first-from, first-to, first-over}
 use Rattle.characters.proofs.Firsts.{first-passes, first-before}
 use Rattle.area.specs.declared.Rule.{Rule}
-use Rattle.area.specs.Records.{ruleAt, entryAt, entryWidth, nthRule}
+use Rattle.area.specs.Records.{ruleAt, entryAt, nthRule}
 use Rattle.area.specs.Contents.{ruleFormat}
 use Rattle.area.proofs.Contents.{contents-read}
-use Rattle.run.specs.declared.RowTop.{RowTop}
-use Rattle.run.specs.declared.RowTop.the-variants.{Fits, Misfit}
-use Rattle.run.specs.Winner.{Lexer, live, lengthIn, weight, greatest, earliest, best}
-use Rattle.run.specs.Run.{goodRow}
-use Rattle.run.specs.Top.{RowFits, RowTopIs, firstWith}
-use Rattle.run.specs.Contracts.{lexerAt}
-use Rattle.run.proofs.Fitting.{row-good, row-length}
-use Rattle.run.proofs.Winning.{below-greatest, greatest-low, best-zero, weights-low}
-
--- ---- whether the row fits
-
-module _ (left rules : ℕ) (row : List ℕ) (top : ℕ) (is : top ≡ greatest (lengthIn row) rules) where
-  pub row-above : left < top → goodRow (λ l. leb l left) rules row ≡ false
-  row-above h = by (goodRow (λ l. leb l left) rules row) refl
-    where
-      by : (b : Bool) → goodRow (λ l. leb l left) rules row ≡ b → b ≡ false
-      by true e =
-          let low = greatest-low (lengthIn row) left rules (λ k g. leb-true (entryAt row k) left (row-length (λ l. leb l left) rules row e k g)) in
-          absurd (omega (arith, low, is, h))
-      by false e = refl
-
-  pub row-within : length row ≡ rules * entryWidth → top ≤ left → RowFits (λ l. leb l left) rules row top
-  row-within long h = record {
-    good = row-good (λ l. leb l left) rules row long
-        (λ k g. le-leb (entryAt row k) left (omega (arith, below-greatest (lengthIn row) rules k g, is, h)));
-    greatest-is = is;
-  }
-
--- what a match tells
-module _ (fits : ℕ → Bool) (rules : ℕ) (row : List ℕ) (t : RowTop) (is : RowTopIs fits rules row t) where
-  pub told-fits : (top : ℕ) → t ≡ Fits top → RowFits fits rules row top
-  told-fits top e = subst (RowTopIs fits rules row) e is
-
-  pub told-misfit : t ≡ Misfit → goodRow fits rules row ≡ false
-  told-misfit e = subst (RowTopIs fits rules row) e is
+use Rattle.winner.specs.Winner.{Lexer, live, lengthIn, weight, greatest, earliest, best, firstWith}
+use Rattle.winner.specs.Contracts.{lexerAt}
+use Rattle.winner.proofs.Winning.{below-greatest, best-zero, weights-low}
 
 -- ---- a length in the row
 

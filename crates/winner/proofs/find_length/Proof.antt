@@ -1,11 +1,10 @@
--- `run::longest::find_length` meets its contract: from where the loop stands the length is found at the same rule.
+-- `winner::find_length` meets its contract: from where the loop stands the length is found at the same rule.
 use mathlib.Core.Path.{_≡_}
 use Prim.Native.Nat.{_-_}
-use Rattle.run.specs.Winner.{lengthIn}
-use Rattle.run.specs.Top.{firstWith}
-use Rattle.run.proofs.Topping.{length-search}
-use Rattle.run.proofs.longest.find_length.Statement.{statement}
-use Rattle.run.proofs.longest.find_length.Tie as tie
+use Rattle.winner.specs.Winner.{lengthIn, firstWith}
+use Rattle.winner.proofs.Topping.{length-search}
+use Rattle.winner.proofs.find_length.Statement.{statement}
+use Rattle.winner.proofs.find_length.Tie as tie
 
 abbrev Inv-loop : tie.InvT-loop
 Inv-loop row from end bytes k₀ k = firstWith (lengthIn row) bytes from end ≡ firstWith (lengthIn row) bytes k end

@@ -1,0 +1,3 @@
+pub mod Winner
+pub mod Contracts
+pub mod Computing
