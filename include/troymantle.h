@@ -30,10 +30,11 @@ extern "C" {
 #define TROYMANTLE_INVALID_UTF8 3  /* parse: the file is not UTF-8 */
 #define TROYMANTLE_AREA_FULL 4     /* parse, link: a record does not fit its area or passes its limit; A is the area */
 #define TROYMANTLE_FAULTY_FILE 5   /* parse: area 6 has the faults; A is the number of their spans */
-#define TROYMANTLE_BROKEN_SHEET 6  /* pattern, pattern_test, link, step: the sheet fails its check; pattern: or has no such rule */
-#define TROYMANTLE_BROKEN_MAP 7    /* link: odd length, more than 2,048 entries, a range past the names, or equal names */
+#define TROYMANTLE_BROKEN_SHEET 6  /* pattern, pattern_test, link, step: the sheet fails its check; the first two: or no such rule */
+#define TROYMANTLE_BROKEN_MAP 7    /* link: length no multiple of 6, above 2,048 entries, a range past the names, or equal names */
 #define TROYMANTLE_START_REFUSED 8 /* start: n is above 4,096, or the stack has fewer than 2 * (n + 1) bytes */
-#define TROYMANTLE_BROKEN_RUN 9    /* step: run or stack are none that a start and steps leave */
+#define TROYMANTLE_BROKEN_RUN 9    /* step: n above 4,096, position above n, depth 0 or above position + 1, moves above position, a short
+                                      stack, or an id in use that is not declared */
 #define TROYMANTLE_ROW_MISMATCH 10 /* step: the row has not two bytes for each rule, or a length above the bytes left */
 
 /* Numbers: the answers of a step. */
@@ -52,7 +53,7 @@ extern "C" {
 #define TROYMANTLE_STATE_WIDTH 6    /* area 1: name start, name end, exclusive */
 #define TROYMANTLE_RULE_WIDTH 28    /* area 2: has id, id, named, span start, span end, name from, name length, place, text from,
                                        text length, list from, list count, operation, target */
-#define TROYMANTLE_ENTRY_WIDTH 2    /* area 3: a state id */
+#define TROYMANTLE_LIST_WIDTH 2     /* area 3: a state id */
 #define TROYMANTLE_EXPECTED_WIDTH 4 /* area 5: start, end */
 #define TROYMANTLE_FAULT_WIDTH 8    /* area 6: fault number, kind, start, end */
 #define TROYMANTLE_MAP_WIDTH 6      /* an entry of a map: from where its name starts, the name's length, id */

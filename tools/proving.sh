@@ -1,6 +1,11 @@
 # shellcheck shell=bash disable=SC2154
 # Sourced by tools that have something proved and built first. The caller has root, the repository, and say, which tells a line.
 
+# is_older FILE: it is not there, or some source of the crates is newer.
+is_older() {
+    [ ! -e "$1" ] || [ -n "$(find "$root/crates" "$root/crates.txt" -newer "$1" \( -name '*.rt' -o -name '*.antt' -o -name crates.txt \) -print -quit)" ]
+}
+
 # crates_of NAME: how many crates NAME is made of, itself included.
 crates_of() {
     awk -v first="$1" '

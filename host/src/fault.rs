@@ -104,7 +104,7 @@ kinds! {
     UnknownDeclaration = UNKNOWN_DECLARATION: "unknown declaration";
     /// A rule has no blank between pattern and name.
     MissingSpace = MISSING_SPACE: "no blank between pattern and name";
-    /// A name has not equal quotes at both ends, or nothing between them.
+    /// A name has not equal quotes at both ends.
     InvalidName = INVALID_NAME: "a name needs equal quotes around it";
     /// A state that no declaration has.
     UnknownStartState = UNKNOWN_START_STATE: "this state is not declared";

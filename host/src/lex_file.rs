@@ -2,8 +2,8 @@
 
 use crate::calls::{self, SheetBytes};
 use crate::numbers::{
-    ACCEPTED, AREA_FULL, AREA1_BYTES, AREA2_BYTES, AREA3_BYTES, AREA4_BYTES, AREA5_BYTES, AREA6_BYTES, ENTRY_WIDTH,
-    FAULTY_FILE, FLAG_COMMENTS, FLAG_POSIX_ESCAPES, MOST_SOURCE, RULE_WIDTH,
+    ACCEPTED, AREA_FULL, AREA1_BYTES, AREA2_BYTES, AREA3_BYTES, AREA4_BYTES, AREA5_BYTES, AREA6_BYTES, FAULTY_FILE,
+    FLAG_COMMENTS, FLAG_POSIX_ESCAPES, LIST_WIDTH, MOST_SOURCE, RULE_WIDTH,
 };
 use crate::{Fault, Refusal, Sheet};
 use std::ops::BitOr;
@@ -112,7 +112,7 @@ const MOST: [usize; 6] = [AREA1_BYTES, AREA2_BYTES, AREA3_BYTES, AREA4_BYTES, AR
 fn estimate(bytes: usize) -> [usize; 6] {
     let bytes = bytes.min(MOST_SOURCE);
     let rules = bytes / 16 + 1;
-    let wanted = [AREA1_BYTES, RULE_WIDTH * rules, ENTRY_WIDTH * rules, bytes / 4, 64, 256];
+    let wanted = [AREA1_BYTES, RULE_WIDTH * rules, LIST_WIDTH * rules, bytes / 4, 64, 256];
     let mut lengths = MOST;
     lengths.iter_mut().zip(wanted).for_each(|(length, wanted)| *length = wanted.min(*length));
     lengths

@@ -38,7 +38,8 @@
 //! let mut run = sheet.start(entry.len())?;
 //! loop {
 //!     let rest = &entry[run.position()..];
-//!     let row: Row = patterns.iter().map(|pattern| pattern.find(rest).map_or(0, |found| found.end())).collect();
+//!     let at_start = |pattern: &Regex| pattern.find(rest).filter(|found| found.start() == 0);
+//!     let row: Row = patterns.iter().map(|pattern| at_start(pattern).map_or(0, |found| found.end())).collect();
 //!     match run.step(&row)? {
 //!         Step::Token { id, range } => tokens.push((id, &entry[range])),
 //!         Step::Skip { .. } => {}

@@ -74,7 +74,7 @@ impl Map {
         self.len() == 0
     }
 
-    /// The name and id of the entry of that number, if there is one.
+    /// The name and id of the entry of that number, if there is one and the names have its range.
     pub fn entry(&self, number: usize) -> Option<(Cow<'_, str>, u16)> {
         let [from, length, id] = record(&self.entries, number)?;
         let name = self.names.get(usize::from(from)..)?.get(..usize::from(length))?;

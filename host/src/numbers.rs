@@ -18,7 +18,7 @@ pub const BROKEN_SHEET: u16 = 6;
 pub const BROKEN_MAP: u16 = 7;
 /// The entry is too long, or the stack too short.
 pub const START_REFUSED: u16 = 8;
-/// The run is none that a start and steps leave.
+/// The numbers of the run, its stack and the sheet do not fit each other.
 pub const BROKEN_RUN: u16 = 9;
 /// The row does not fit the rules or the bytes that are left.
 pub const ROW_MISMATCH: u16 = 10;
@@ -38,13 +38,15 @@ pub const TOKEN: u16 = 260;
 pub const FLAG_COMMENTS: u64 = 1;
 /// `\b` becomes `\x08`.
 pub const FLAG_POSIX_ESCAPES: u64 = 2;
+/// Both.
+pub const MOST_FLAGS: u64 = 3;
 
 /// Bytes of a state in area 1.
 pub const STATE_WIDTH: usize = 6;
 /// Bytes of a rule in area 2.
 pub const RULE_WIDTH: usize = 28;
 /// Bytes of a list entry in area 3.
-pub const ENTRY_WIDTH: usize = 2;
+pub const LIST_WIDTH: usize = 2;
 /// Bytes of an expected name in area 5.
 pub const EXPECTED_WIDTH: usize = 4;
 /// Bytes of a fault span in area 6.
@@ -79,8 +81,16 @@ pub const AREA4_BYTES: usize = 65_535;
 pub const AREA5_BYTES: usize = 262_140;
 /// Bytes of area 6.
 pub const AREA6_BYTES: usize = 524_280;
+/// Bytes of area 7.
+pub const AREA7_BYTES: usize = 4_096;
+/// Bytes of area 8.
+pub const AREA8_BYTES: usize = 4_096;
+/// Bytes of a stack.
+pub const STACK_BYTES: usize = 8_194;
 
-/// The winner's operation: the target alone is left on the stack.
+/// What a winner does to the stack: nothing.
+pub const NONE: u16 = 0;
+/// The target alone is left on the stack.
 pub const REPLACE: u16 = 1;
 /// The target is put on the stack.
 pub const PUSH: u16 = 2;

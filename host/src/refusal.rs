@@ -21,11 +21,12 @@ pub enum Refusal {
     FaultyFile(Vec<Fault>),
     /// 6, broken sheet: it fails its check, or there is no such rule.
     BrokenSheet,
-    /// 7, broken map: more than 2,048 entries, equal names, or bytes that are no map.
+    /// 7, broken map: more than 2,048 entries, equal names, a name past the names, or a length that is no multiple of 6.
     BrokenMap,
     /// 8, poor start: the entry has more than 4,096 bytes.
     StartRefused,
-    /// 9, broken run: it is none that a start and steps on this sheet leave.
+    /// 9, broken run: its numbers, its stack and the sheet do not fit each other. A run that a start and steps left always
+    /// fits.
     BrokenRun,
     /// 10, ill-fitting row: not one length for each rule, or a length above the bytes that are left.
     RowMismatch,
@@ -91,9 +92,11 @@ impl Refusal {
             Refusal::AreaFull(area) => format!("there are more {} than the limit", of_area(*area)),
             Refusal::FaultyFile(faults) => of_faults(faults),
             Refusal::BrokenSheet => "it fails its check, or has no such rule".to_string(),
-            Refusal::BrokenMap => "it has equal names, more than 2,048 entries, or is no map".to_string(),
+            Refusal::BrokenMap => {
+                "it has equal names, more than 2,048 entries, or bytes that are no entries".to_string()
+            }
             Refusal::StartRefused => "the entry has more than 4,096 bytes".to_string(),
-            Refusal::BrokenRun => "it is none that a start and steps leave".to_string(),
+            Refusal::BrokenRun => "its numbers, its stack and the sheet do not fit each other".to_string(),
             Refusal::RowMismatch => "not one length for each rule, or a length above the bytes left".to_string(),
             Refusal::Other(number) => format!("by the number {number}, which this program does not know"),
         }

@@ -6,8 +6,9 @@ use crate::records::{bytes, records};
 use crate::{Refusal, Sheet};
 use std::ops::Range;
 
-/// A run over an entry: how far it has come, and its stack of states. It borrows its sheet, so that nothing changes the sheet
-/// while it runs; with that the library's theorem about whole runs holds of it.
+/// A run over an entry: how far it has come, and its stack of states. It borrows its sheet, so that nothing but its steps changes
+/// anything while it runs. That is what the library's theorem about whole runs supposes, beside a sheet that was parsed and
+/// linked and a run that was started here.
 #[derive(Clone, Debug)]
 pub struct Run<'a> {
     sheet: &'a Sheet,

@@ -25,7 +25,7 @@ pub struct Parts {
     pub source: Vec<u8>,
     /// Areas 1 to 5.
     pub areas: [Vec<u8>; 5],
-    /// How many records the areas have; the sixth is a parse's count of fault spans.
+    /// How many records the areas have; the sixth, of fault spans, is 0 after an accepted parse, and no call reads it.
     pub counts: [u16; 6],
 }
 
@@ -53,7 +53,7 @@ pub struct Rule<'a> {
     pub id: Option<u16>,
     /// The span that grmtools gives the name: behind a target it stands before the name.
     pub span: Range<usize>,
-    /// Where the name itself stands in the file, in bytes.
+    /// Where the name itself stands in the file, in bytes; empty where there is none.
     pub name_range: Range<usize>,
     /// The states in which it is live; none for all that are not exclusive.
     pub states: Vec<u16>,

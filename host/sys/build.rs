@@ -28,10 +28,10 @@ fn main() {
 
 /// The folder that has the library.
 fn library() -> Result<PathBuf, String> {
-    if let Some(file) = env::var_os(VARIABLE).map(PathBuf::from) {
+    if let Some(file) = env::var_os(VARIABLE).filter(|value| !value.is_empty()).map(PathBuf::from) {
         return match file.parent() {
-            Some(folder) if file.ends_with(FILE) && file.is_file() => Ok(folder.to_path_buf()),
-            _ => Err(format!("{VARIABLE} is to be the path of a {FILE}, and {} is none.", file.display())),
+            Some(folder) if file.is_absolute() && file.ends_with(FILE) && file.is_file() => Ok(folder.to_path_buf()),
+            _ => Err(format!("{VARIABLE} is to be the whole path of a {FILE}, from / on; {} is none.", file.display())),
         };
     }
     let root = Path::new(env!("CARGO_MANIFEST_DIR")).join("../..");
@@ -50,7 +50,7 @@ fn build(root: &Path, file: &Path) -> Result<(), String> {
             |error| match error.kind() {
                 io::ErrorKind::NotFound => format!(
                     "{missing}, and the command rt of the Rattle kit, which proves and builds it, is not on the PATH. \
-                 Install the kit, or set {VARIABLE} to the path of a {FILE} that was built elsewhere."
+                 Install the kit, or set {VARIABLE} to the whole path of a {FILE} that was built elsewhere."
                 ),
                 _ => format!("{missing}, and the command rt, which proves and builds it, does not start: {error}."),
             },

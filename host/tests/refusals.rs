@@ -110,29 +110,63 @@ fn a_pattern_that_the_engine_refuses_is_a_fault() {
 
 #[test]
 fn every_kind_of_fault_has_a_number_a_name_and_words() {
+    // in the order of their numbers
     let files = [
-        "",
-        "%%\na ;\n%%\nx",
-        "%q\n%%",
-        "%%\na",
-        "%%\na N",
-        "%%\na <S>'N'",
-        "%s A A\n%%",
-        "%%\na <S",
-        "%s +\n%%",
-        "%%\na 'N'\nb 'N'",
-        "%%\n( ;",
-        "%%\n a ;",
+        ("", "PrematureEnd", "the file ends before its `%%`"),
+        ("%%\na ;\n%%\nx", "RoutinesNotSupported", "nothing may follow a second `%%`"),
+        ("%q\n%%", "UnknownDeclaration", "unknown declaration"),
+        ("%%\na", "MissingSpace", "no blank between pattern and name"),
+        ("%%\na N", "InvalidName", "a name needs equal quotes around it"),
+        ("%%\na <S>'N'", "UnknownStartState", "this state is not declared"),
+        ("%s A A\n%%", "DuplicateStartState", "this state is declared already"),
+        ("%%\na <S", "InvalidStartState", "`<` without its `>`"),
+        ("%s +\n%%", "InvalidStartStateName", "a state's name is a letter, then letters, digits, `_` and `.`"),
+        ("%%\na 'N'\nb 'N'", "DuplicateName", "another rule has this name already"),
+        ("%%\n( ;", "RegexError", "the regex engine refuses this pattern"),
+        ("%%\n a ;", "VerbatimNotSupported", "a line among the rules must not start with whitespace"),
     ];
     assert_eq!(files.len(), FaultKind::ALL.len());
-    for ((number, file), kind) in (0..).zip(files).zip(FaultKind::ALL) {
+    for ((number, (file, name, words)), known) in (0..).zip(files).zip(FaultKind::ALL) {
         let Refusal::FaultyFile(faults) = refused(LexFile::new(file).with_verdicts([file.contains('(')]).parse())
         else {
             panic!("{file:?} has a fault")
         };
-        assert_eq!((faults.last().unwrap().kind, kind.number()), (*kind, number), "{file:?}");
-        assert!(!kind.words().is_empty() && faults[0].to_string().contains(kind.name()));
+        let [Fault { kind, spans }] = &faults[..] else { panic!("{file:?} has one fault") };
+        assert_eq!((kind, kind.number(), kind.name(), kind.words()), (known, number, name, words));
+        assert_eq!(faults[0].to_string(), format!("{words} ({name}) at byte {}", spans[spans.len() - 1].start));
     }
+}
+
+#[test]
+fn each_flag_does_what_it_says() {
+    let file = "// bets\n%%\n\\b 'A'\n";
+    assert_eq!(refused(LexFile::new(file).parse()).number(), 5);
+    let pattern =
+        |flags| LexFile::new(file).with_flags(flags).parse().map(|sheet| sheet.pattern(0).unwrap().into_owned());
+    assert_eq!(refused(pattern(Flags::POSIX_ESCAPES)).number(), 5);
+    assert_eq!(pattern(Flags::COMMENTS), Ok("\\b".to_string()));
+    assert_eq!(pattern(Flags::COMMENTS | Flags::POSIX_ESCAPES), Ok("\\x08".to_string()));
+}
+
+#[test]
+fn every_refusal_tells_its_words_its_number_and_why() {
+    let told = [
+        (Refusal::LongFile, "long file (1): it has more than 65,535 bytes"),
+        (Refusal::UnknownFlag, "stray flag (2): the flags are above 3"),
+        (Refusal::InvalidUtf8, "not text (3): it is not UTF-8"),
+        (Refusal::AreaFull(2), "area full (4): there are more rules (2,048) than the limit"),
+        (Refusal::FaultyFile(vec![]), "faulty file (5): it has faults"),
+        (Refusal::BrokenSheet, "broken sheet (6): it fails its check, or has no such rule"),
+        (
+            Refusal::BrokenMap,
+            "broken map (7): it has equal names, more than 2,048 entries, or bytes that are no entries",
+        ),
+        (Refusal::StartRefused, "poor start (8): the entry has more than 4,096 bytes"),
+        (Refusal::BrokenRun, "broken run (9): its numbers, its stack and the sheet do not fit each other"),
+        (Refusal::RowMismatch, "ill-fitting row (10): not one length for each rule, or a length above the bytes left"),
+        (Refusal::Other(99), "refused (99): by the number 99, which this program does not know"),
+    ];
+    told.iter().for_each(|(refusal, words)| assert_eq!(refusal.to_string(), *words));
 }
 
 #[test]

@@ -35,6 +35,10 @@ fn a_sheet_tells_its_rules() {
     assert_eq!(rules.iter().map(|rule| rule.operation).collect::<Vec<_>>(), operations);
     assert_eq!(rules.iter().map(|rule| rule.states.clone()).collect::<Vec<_>>(), [vec![], vec![], vec![1, 2], vec![]]);
     assert_eq!(&FILE[rules[2].name_range.clone()], "C");
+    // behind a target grmtools' span stands before the name
+    let spans = |k: usize| (rules[k].span.clone(), rules[k].name_range.clone());
+    assert_eq!([spans(0), spans(2)], [(39..40, 39..40), (63..64, 67..68)]);
+    assert_eq!(rules[3].name_range, 0..0);
     let patterns: Vec<_> = (0..4).map(|rule| sheet.pattern(rule).unwrap().into_owned()).collect();
     assert_eq!(patterns, ["a", "qb", "c", "d"]);
     assert_eq!(sheet.rule(4), None);

@@ -107,9 +107,9 @@ impl<'a> Lexer<'a> {
     }
 }
 
-/// How many bytes a pattern matches at the start of a text.
+/// How many bytes a pattern matches at the start of a text. One such as `x)|(?:b` leaves its anchor and may match behind it.
 fn length(pattern: &Regex, text: &str) -> usize {
-    pattern.find(text).map_or(0, |found| found.end())
+    pattern.find(text).filter(|found| found.start() == 0).map_or(0, |found| found.end())
 }
 
 #[cfg(test)]
@@ -140,6 +140,15 @@ mod tests {
         assert_eq!(reading.moves[0].stack, [0, 1]);
         assert_eq!((reading.end, reading.position), (End::Unlinked("E".to_string(), 2), 4));
         assert_eq!(lexer.state_name(1), "S");
+    }
+
+    #[test]
+    fn a_token_has_what_its_pattern_matches_at_its_place() {
+        let loaded = loaded("%%\nx)|(?:b 'A'\n[a-z] 'L'\n", &[("A", 1), ("L", 2)]);
+        let reading = Lexer::new(&loaded).read(&Entry::new("aab".into()));
+        let tokens: Vec<_> =
+            reading.moves.iter().map(|made| (made.token.clone().unwrap().1, made.range.clone())).collect();
+        assert_eq!(tokens, [(2, 0..1), (2, 1..2), (1, 2..3)]);
     }
 
     #[test]

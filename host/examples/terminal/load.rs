@@ -3,7 +3,7 @@
 use crate::map_file::{self, MapFile};
 use crate::message::{Level, Message};
 use crate::options::Options;
-use crate::source::{Source, grouped, visible};
+use crate::source::{Source, grouped, shortened, visible};
 use regex::{Regex, RegexBuilder};
 use std::ops::Range;
 use std::path::Path;
@@ -137,7 +137,9 @@ fn faulty(lex: &Source, fault: &Fault, engine: Option<&str>, options: &Options) 
     let (first, again) = (spans.next().unwrap_or_default(), spans.next());
     let place = again.clone().unwrap_or(first.clone());
     let engine = engine.filter(|_| kind == FaultKind::RegexError).map(visible_lines);
-    let mut message = Message::at(Level::Error, lex.excerpt(&place), kind.words());
+    let excerpt = lex.excerpt(&place);
+    let is_comment = excerpt.shown.trim_start().starts_with("//");
+    let mut message = Message::at(Level::Error, excerpt, kind.words());
     message = message.with_kind(kind.number(), kind.name()).with_engine(engine);
     if again.is_some() {
         message = message.with_note(Message::at(Level::Note, lex.excerpt(&first), "first here"));
@@ -145,7 +147,7 @@ fn faulty(lex: &Source, fault: &Fault, engine: Option<&str>, options: &Options) 
     for span in spans {
         message = message.with_note(Message::at(Level::Note, lex.excerpt(&span), "and here once more"));
     }
-    if options.flags & FLAG_COMMENTS == 0 && lex.excerpt(&place).shown.trim_start().starts_with("//") {
+    if options.flags & FLAG_COMMENTS == 0 && is_comment {
         message = message.with_note(Message::hint("with --comments, // skips a line"));
     }
     message
@@ -160,8 +162,9 @@ fn name(lex: &Source, span: &Range<usize>) -> Range<usize> {
     span.start + shift..span.end + shift
 }
 
+/// What the engine says, in lines that can be read: it repeats the pattern, which may be long.
 fn visible_lines(text: &str) -> String {
-    text.lines().map(visible).collect::<Vec<_>>().join("\n")
+    text.lines().map(|line| visible(&shortened(line))).collect::<Vec<_>>().join("\n")
 }
 
 /// A file that the library refuses by a number.

@@ -18,6 +18,8 @@ pub struct Source {
     pub bytes: Vec<u8>,
     /// The same as text. Behind the first byte that is not UTF-8 places in it are not those of the bytes.
     pub text: String,
+    /// Where the lines of the text start.
+    line_starts: Vec<usize>,
 }
 
 /// A part of a file, ready to be shown.
@@ -39,7 +41,9 @@ pub struct Excerpt {
 impl Source {
     pub fn new(name: &str, bytes: Vec<u8>) -> Source {
         let text = String::from_utf8_lossy(&bytes).into_owned();
-        Source { name: visible(name), bytes, text }
+        let behind_ends = text.match_indices('\n').map(|(at, _)| at + 1);
+        let line_starts = [0].into_iter().chain(behind_ends).collect();
+        Source { name: visible(name), bytes, text, line_starts }
     }
 
     /// Reads a file, but no more than one byte above `most`: whoever asks refuses a file that has as many.
@@ -59,13 +63,14 @@ impl Source {
         let start = character_edge(&self.text, span.start);
         let end = character_edge(&self.text, span.end).max(start);
         let (before, rest) = self.text.split_at_checked(start).unwrap_or((&self.text, ""));
-        let line_start = before.rfind('\n').map_or(0, |at| at + 1);
+        let line = self.line_starts.partition_point(|line_start| *line_start <= start);
+        let line_start = line.checked_sub(1).and_then(|before| self.line_starts.get(before)).copied().unwrap_or(0);
         let (_, left) = before.split_at_checked(line_start).unwrap_or_default();
         let right = rest.split('\n').next().unwrap_or_default().trim_end_matches('\r');
         let (shown, marks) = marked(left, right, end - start);
         Excerpt {
             file: self.name.clone(),
-            line: before.matches('\n').count() + 1,
+            line,
             column: left.chars().count() + 1,
             start: span.start,
             length: span.len(),
@@ -94,6 +99,12 @@ pub fn marked(left: &str, right: &str, length: usize) -> (String, String) {
     marks.push('^');
     marks.extend(part.chars().zip(rest.chars()).skip(1).map(|_| '~'));
     (shown, marks)
+}
+
+/// The start of a long line.
+pub fn shortened(line: &str) -> String {
+    let shown = first(line, MOST_SHOWN);
+    format!("{shown}{}", if shown.len() < line.len() { "..." } else { "" })
 }
 
 fn first(text: &str, characters: usize) -> &str {
