@@ -130,6 +130,17 @@ static void change_map(struct map *map)
     }
 }
 
+static void add_usual_names(struct map *map, const struct sheet *sheet)
+{
+    if (is_sound(sheet)) {
+        add_rule_names(map, sheet);
+    }
+    add_other_names(map, one_in(500) ? 2045 + below(6) : below(6));
+    if (one_in(20)) {
+        add_same_home_names(map, below(10));
+    }
+}
+
 void make_map(struct map *map, const struct sheet *sheet)
 {
     map->names.length = map->entries.length = 0;
@@ -138,12 +149,10 @@ void make_map(struct map *map, const struct sheet *sheet)
         add_random(&map->entries, one_in(2) ? 6 * below(10) : below(60), ONE_OF(1, 2, 256));
         return;
     }
-    if (is_sound(sheet)) {
-        add_rule_names(map, sheet);
-    }
-    add_other_names(map, one_in(500) ? 2045 + below(6) : below(6));
-    if (one_in(20)) {
-        add_same_home_names(map, one_in(20) ? SAME_HOME : below(10));
+    if (one_in(300)) {
+        add_same_home_names(map, SAME_HOME - below(60)); /* more than the index has slots for */
+    } else {
+        add_usual_names(map, sheet);
     }
     for (size_t changes = one_in(4) ? below(3) : 0; changes > 0; changes--) {
         change_map(map);
