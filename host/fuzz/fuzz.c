@@ -177,6 +177,10 @@ static void read_options(int count, char **words)
         }
         *option = number_of(words[k + 1]);
     }
+    if (cases == 0) {
+        fprintf(stderr, "fuzz: a run of no cases shows nothing\n");
+        exit(2);
+    }
 }
 
 /* In the self-test the first word is the name of a wrong library; without one their names are printed. */
