@@ -3,7 +3,7 @@
 
 #include <string.h>
 
-const size_t WIDTHS[6] = {TROYMANTLE_STATE_WIDTH,    TROYMANTLE_RULE_WIDTH, TROYMANTLE_ENTRY_WIDTH, 1,
+const size_t WIDTHS[6] = {TROYMANTLE_STATE_WIDTH,    TROYMANTLE_RULE_WIDTH, TROYMANTLE_LIST_WIDTH, 1,
                           TROYMANTLE_EXPECTED_WIDTH, TROYMANTLE_FAULT_WIDTH};
 static const unsigned LIMITS[6] = {64, 2048, 65535, 65535, 65535, 0};
 static const char *const NAMES[6] = {"area 1", "area 2", "area 3", "area 4", "area 5", "area 6"};
