@@ -11,6 +11,10 @@ use crate::random::Random;
 use crate::show;
 use std::fs;
 use std::path::Path;
+use std::time::Duration;
+
+/// The shapes are timed in turn so many times.
+const PASSES: usize = 5;
 
 /// Shapes of one call in which a size grows.
 pub struct Series {
@@ -135,30 +139,39 @@ impl Row {
     }
 }
 
-/// Times the shapes that are points of a series, and prints the tables.
+/// Times the shapes, which are points of a series, and prints the tables.
 pub fn tables(shapes: &[Shape], sides: &[Side]) -> Vec<Table> {
-    let mut tables: Vec<Table> = vec![];
-    for series in [&PARSE, &STEP] {
-        let of_series = shapes.iter().filter_map(|shape| Some((shape.point?, shape)));
-        let of_series: Vec<(Point, &Shape)> =
-            of_series.filter(|(point, _)| std::ptr::eq(point.series, series)).collect();
-        if of_series.is_empty() {
-            continue;
-        }
-        println!("growth of the {}, nanoseconds a {}", series.call, series.unit);
-        println!("{}", title(series, sides));
-        let rows = of_series.into_iter().map(|(point, shape)| timed(point, shape, sides)).collect();
-        tables.push(Table { series, rows });
-    }
-    tables
+    let shortest = shortest_of_passes(|| shapes.iter().map(|shape| times::shortest(&shape.work(), sides)).collect());
+    let told = |shape: &Shape, shortest| Some((shape.point?, Times::new(shortest, sides, shape.calls)));
+    let timed: Vec<(Point, Times)> =
+        shapes.iter().zip(&shortest).filter_map(|(shape, shortest)| told(shape, shortest)).collect();
+    [&PARSE, &STEP].into_iter().filter_map(|series| table(series, &timed, sides)).collect()
 }
 
-/// Times a shape and prints its line.
-fn timed(point: Point, shape: &Shape, sides: &[Side]) -> Row {
-    let times = times::times(&shape.work(), sides, shape.calls);
-    let row = Row::new(point.size, &times);
-    println!("{}", row.line(&times::ratios(&times)));
-    row
+/// The shortest times of each shape. What disturbs the machine for a while then spoils one pass of a shape, and not all.
+fn shortest_of_passes(pass: impl Fn() -> Vec<Vec<Duration>>) -> Vec<Vec<Duration>> {
+    let mut shortest = pass();
+    for _ in 1..PASSES {
+        for (time, next) in shortest.iter_mut().flatten().zip(pass().into_iter().flatten()) {
+            *time = next.min(*time);
+        }
+    }
+    shortest
+}
+
+/// Prints the table of a series, if something of it was timed.
+fn table(series: &'static Series, timed: &[(Point, Times)], sides: &[Side]) -> Option<Table> {
+    let mut rows = vec![];
+    for (point, times) in timed.iter().filter(|(point, _)| std::ptr::eq(point.series, series)) {
+        if rows.is_empty() {
+            println!("growth of the {}, nanoseconds a {}", series.call, series.unit);
+            println!("{}", title(series, sides));
+        }
+        let row = Row::new(point.size, times);
+        println!("{}", row.line(&times::ratios(times)));
+        rows.push(row);
+    }
+    (!rows.is_empty()).then_some(Table { series, rows })
 }
 
 fn title(series: &Series, sides: &[Side]) -> String {
@@ -254,6 +267,20 @@ mod tests {
         assert!(is_whole(&shapes));
         shapes.pop();
         assert!(!is_whole(&shapes));
+    }
+
+    #[test]
+    fn each_time_is_the_shortest_of_the_passes() {
+        let passes = std::cell::Cell::new(0);
+        let pass = || {
+            passes.set(passes.get() + 1);
+            [[9, 10 - passes.get()], [1 + passes.get(), 8]]
+                .map(|times| times.map(Duration::from_secs).to_vec())
+                .to_vec()
+        };
+        let expected = [[9, 5], [2, 8]].map(|times| times.map(Duration::from_secs).to_vec());
+        assert_eq!(shortest_of_passes(pass), expected);
+        assert_eq!(passes.get(), PASSES as u64);
     }
 
     #[test]

@@ -38,19 +38,34 @@ pub struct Times {
     pub note: Option<f64>,
 }
 
+impl Times {
+    /// Of the shortest times of so many calls.
+    pub fn new(shortest: &[Duration], sides: &[Side], calls: u32) -> Times {
+        let times: Vec<f64> = shortest.iter().map(|time| time.as_secs_f64() * 1e6 / f64::from(calls)).collect();
+        let layouts = 1 + sides.iter().map(|side| side.layouts.len()).sum::<usize>();
+        let of_side = |number: usize| times[1..layouts].iter().skip(number).step_by(sides.len()).copied().collect();
+        Times {
+            original: times[0],
+            sides: (0..sides.len()).map(|number| Spread::of(of_side(number))).collect(),
+            note: (times.len() > layouts).then(|| Spread::of(times[layouts..].to_vec()).median),
+        }
+    }
+}
+
 type Timer<'a> = Box<dyn Fn() -> Duration + 'a>;
 
 /// Prints a shape's lines.
 pub fn lines(shape: &Shape, sides: &[Side]) {
     let work = shape.work();
-    let times = times(&work, sides, shape.calls);
+    let times = Times::new(&shortest(&work, sides), sides, shape.calls);
     println!("{}", line(&shape.name, work.bytes, &times));
     if let (Some(note), Some(time)) = (&work.note, times.note) {
         println!("    {}", note_line(note, time, &times));
     }
 }
 
-pub fn times(work: &Work, sides: &[Side], calls: u32) -> Times {
+/// The shortest time of the original, of each layout of each library, and of what the note has.
+pub fn shortest(work: &Work, sides: &[Side]) -> Vec<Duration> {
     let mut timers: Vec<Timer> = vec![Box::new(|| (work.original)(plainly))];
     // a layout of the library before has its turn next to the same layout of the one after
     for layout in 0..sides.first().map_or(0, |side| side.layouts.len()) {
@@ -58,16 +73,8 @@ pub fn times(work: &Work, sides: &[Side], calls: u32) -> Times {
             timers.push(Box::new(move || (work.ours)(&side.layouts[layout])));
         }
     }
-    let layouts = timers.len();
     timers.extend(note_timers(work.note.as_ref(), sides));
-    let best = best_in_turn(&timers);
-    let times: Vec<f64> = best.iter().map(|time| time.as_secs_f64() * 1e6 / f64::from(calls)).collect();
-    let of_side = |number: usize| times[1..layouts].iter().skip(number).step_by(sides.len()).copied().collect();
-    Times {
-        original: times[0],
-        sides: (0..sides.len()).map(|number| Spread::of(of_side(number))).collect(),
-        note: (times.len() > layouts).then(|| Spread::of(times[layouts..].to_vec()).median),
-    }
+    best_in_turn(&timers)
 }
 
 /// The sheet check is that of the last library.
