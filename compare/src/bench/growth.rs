@@ -107,7 +107,8 @@ fn rule(number: usize) -> String {
     }
 }
 
-/// Random letters. Names that end with numbers in order would have a mark each (crates/names), which is our best case.
+/// Random letters, so that chance alone decides which names share a mark (crates/names). Names of one length that end with
+/// numbers in order would have a mark each.
 fn word(number: usize) -> String {
     let mut random = Random::new(1, number as u64);
     let length = 4 + random.below(5);
