@@ -14,7 +14,7 @@ use std::path::Path;
 use std::time::Duration;
 
 /// The shapes are timed in turn so many times.
-const PASSES: usize = 5;
+const PASSES: u64 = 5;
 
 /// Shapes of one call in which a size grows.
 pub struct Series {
@@ -107,7 +107,8 @@ fn rule(number: usize) -> String {
     }
 }
 
-/// Random letters. Names that end with numbers in order would have a mark each (crates/names), which is our best case.
+/// Random letters, so that chance alone decides which names share a mark (crates/names). Names of one length that end with
+/// numbers in order would have a mark each.
 fn word(number: usize) -> String {
     let mut random = Random::new(1, number as u64);
     let length = 4 + random.below(5);
@@ -141,19 +142,24 @@ impl Row {
 
 /// Times the shapes, which are points of a series, and prints the tables.
 pub fn tables(shapes: &[Shape], sides: &[Side]) -> Vec<Table> {
-    let shortest = shortest_of_passes(|| shapes.iter().map(|shape| times::shortest(&shape.work(), sides)).collect());
+    let shortest = shortest_of_passes(shapes.len(), |number| times::shortest(&shapes[number].work(), sides));
     let told = |shape: &Shape, shortest| Some((shape.point?, Times::new(shortest, sides, shape.calls)));
     let timed: Vec<(Point, Times)> =
         shapes.iter().zip(&shortest).filter_map(|(shape, shortest)| told(shape, shortest)).collect();
     [&PARSE, &STEP].into_iter().filter_map(|series| table(series, &timed, sides)).collect()
 }
 
-/// The shortest times of each shape. What disturbs the machine for a while then spoils one pass of a shape, and not all.
-fn shortest_of_passes(pass: impl Fn() -> Vec<Vec<Duration>>) -> Vec<Vec<Duration>> {
-    let mut shortest = pass();
-    for _ in 1..PASSES {
-        for (time, next) in shortest.iter_mut().flatten().zip(pass().into_iter().flatten()) {
-            *time = next.min(*time);
+/// The shortest times of each shape. Every pass has another order, so that what disturbs the machine now and then, and be it
+/// regularly, does not meet the same shape in all of them.
+fn shortest_of_passes(shapes: usize, timed: impl Fn(usize) -> Vec<Duration>) -> Vec<Vec<Duration>> {
+    let mut shortest: Vec<Vec<Duration>> = vec![vec![]; shapes];
+    for pass in 0..PASSES {
+        let mut order: Vec<usize> = (0..shapes).collect();
+        Random::new(1, pass).shuffle(&mut order);
+        for number in order {
+            let earlier = std::mem::take(&mut shortest[number]).into_iter().chain(std::iter::repeat(Duration::MAX));
+            shortest[number] =
+                timed(number).into_iter().zip(earlier).map(|(time, earlier)| time.min(earlier)).collect();
         }
     }
     shortest
@@ -271,16 +277,14 @@ mod tests {
 
     #[test]
     fn each_time_is_the_shortest_of_the_passes() {
-        let passes = std::cell::Cell::new(0);
-        let pass = || {
-            passes.set(passes.get() + 1);
-            [[9, 10 - passes.get()], [1 + passes.get(), 8]]
-                .map(|times| times.map(Duration::from_secs).to_vec())
-                .to_vec()
+        let seconds = |times: [u64; 2]| times.map(Duration::from_secs).to_vec();
+        let passes = [(); 3].map(|()| std::cell::Cell::new(0));
+        let timed = |number: usize| {
+            let pass = passes[number].replace(passes[number].get() + 1);
+            seconds([20 - pass, 10 * number as u64 + pass])
         };
-        let expected = [[9, 5], [2, 8]].map(|times| times.map(Duration::from_secs).to_vec());
-        assert_eq!(shortest_of_passes(pass), expected);
-        assert_eq!(passes.get(), PASSES as u64);
+        assert_eq!(shortest_of_passes(3, timed), [[16, 0], [16, 10], [16, 20]].map(seconds));
+        assert!(passes.iter().all(|passes| passes.get() == PASSES));
     }
 
     #[test]
