@@ -38,7 +38,7 @@ pub const TOKEN: u16 = 260;
 pub const FLAG_COMMENTS: u64 = 1;
 /// `\b` becomes `\x08`.
 pub const FLAG_POSIX_ESCAPES: u64 = 2;
-/// Both.
+/// Both flags, the greatest number that a parse takes.
 pub const MOST_FLAGS: u64 = 3;
 
 /// Bytes of a state in area 1.
