@@ -11,3 +11,5 @@ pub mod Uax31
 pub mod Ascii
 pub mod Encoding
 pub mod Decoding
+pub mod Edges
+pub mod Counts

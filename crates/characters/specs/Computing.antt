@@ -3,7 +3,7 @@
 use Rattle.characters.specs.Class.{isLineEnd, isBlank, isOtherWhitespace, isLetter, isDigit, isHexDigit, isMetaCharacter, isEscapeLetter, isAlwaysKept, isWhitespaceByte, isAsciiWhitespace}
 use Rattle.characters.specs.Unicode.{encode, encodeAll, isPatternWhiteSpace, isLineTerminator}
 use Rattle.characters.specs.Utf8.{charOf, charLen, utf8}
-use Rattle.characters.specs.Walk.{firstOf, first, lastOf, last, any, repeat, skip}
+use Rattle.characters.specs.Walk.{firstOf, first, lastOf, last, countOf, count, any, repeat, skip}
 use Rattle.characters.specs.Whitespace.{whitespaceOf, lineEndOf, whitespaceLen, lineEndLen}
 
 unfoldable class-file : Unit {0}
@@ -19,7 +19,7 @@ unfolding charOf charLen utf8
 utf8-file = tt
 
 unfoldable walk-file : Unit {0}
-unfolding firstOf first lastOf last any repeat skip
+unfolding firstOf first lastOf last countOf count any repeat skip
 walk-file = tt
 
 unfoldable whitespace-file : Unit {0}

@@ -4,6 +4,7 @@ use mathlib.Core.Bool.{Bool, true, cond, _||_}
 use mathlib.Core.List.{List, [], _∷_, _++_}
 use Prim.Native.Nat.{ℕ, _+_, _/_, _%_}
 use lib.Dec.{ltb}
+use lib.ListN.{length}
 use Rattle.characters.specs.Class.{within, among}
 
 -- the Unicode scalar values: the code points up to U+10FFFF but the surrogates
@@ -33,6 +34,13 @@ pub record Encoded (s : List ℕ) : Type 0 where
   pub scalarValues : List ℕ
   pub scalars : Scalars scalarValues
   pub bytes : encodeAll scalarValues ≡ s
+
+-- b is an edge of the text of the code points cs: the length of the bytes of some first of them
+pub record Edge (cs : List ℕ) (b : ℕ) : Type 0 where
+  pub before : List ℕ
+  pub behind : List ℕ
+  pub all : cs ≡ before ++ behind
+  pub bytes : b ≡ length (encodeAll before)
 
 -- the test r holds exactly of the encodings of lists of scalar values
 pub record Judges (s : List ℕ) (r : Bool) : Type 0 where

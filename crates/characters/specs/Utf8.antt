@@ -1,5 +1,5 @@
 -- Well-formed UTF-8, by the Unicode standard's table of well-formed byte sequences (table 3-7). Number 3 of 01 refuses all else.
-use mathlib.Core.Bool.{Bool, cond, _&&_, _||_}
+use mathlib.Core.Bool.{Bool, cond, not, _&&_, _||_}
 use mathlib.Core.List.{List}
 use Prim.Native.Nat.{ℕ, _+_}
 use lib.Dec.{eqb, leb, ltb}
@@ -11,6 +11,10 @@ use Rattle.characters.specs.Walk.{skip}
 -- a byte inside a character, not its first
 abbrev pub isContinuation : ℕ → Bool
 isContinuation b = within 0x80 0xbf b
+
+-- no character of the text goes on at k: the byte there is not one inside a character
+abbrev pub atEdge : List ℕ → ℕ → Bool
+atEdge s k = not (isContinuation (byte s k))
 
 -- the table's row for one byte
 abbrev pub oneByte : ℕ → Bool

@@ -26,6 +26,16 @@ unfoldable pub last : (ℕ → Bool) → ℕ → ℕ → Found
 unfolding lastOf
 last test i e = lastOf test i (e - i)
 
+-- how many of the n positions from i on pass the test
+unfoldable pub countOf : (ℕ → Bool) → ℕ → ℕ → ℕ
+countOf test i zero = 0
+countOf test i (suc n) = let c = countOf test i n in cond (test (i + n)) (suc c) c
+
+-- how many of the positions from i to before e pass the test
+unfoldable pub count : (ℕ → Bool) → ℕ → ℕ → ℕ
+unfolding countOf
+count test i e = countOf test i (e - i)
+
 -- one of the first n positions passes the test
 unfoldable pub any : (ℕ → Bool) → ℕ → Bool
 any test zero = false

@@ -10,58 +10,28 @@ use lib.ListN.{length, length-append}
 use Rattle.characters.specs.Walk.{first}
 use Rattle.characters.specs.Whitespace.{byte}
 use Rattle.characters.specs.Unicode.{encode, encodeAll}
-use Rattle.characters.specs.Utf8.{isContinuation}
-use Rattle.characters.proofs.Tests.{in-range, above-range}
+use Rattle.characters.specs.Utf8.{atEdge}
 use Rattle.characters.proofs.Walks.{first-here, first-none, first-over}
-use Rattle.characters.proofs.Codes.{by-size, encode-1, encode-2, encode-3, encode-4, encode-long, encodeAll-append}
-use Rattle.characters.proofs.Ascii.{first-at, inner-at, ascii-whole}
-use Rattle.escape.specs.Escape.{nextBackslash, atEdge, charEnd, nextEscape}
+use Rattle.characters.proofs.Codes.{encode-long, encodeAll-append}
+use Rattle.characters.proofs.Ascii.{ascii-whole}
+use Rattle.characters.proofs.Edges.{length-all, edge-behind, no-edge-inside, edge-at}
+use Rattle.escape.specs.Escape.{nextBackslash, charEnd, nextEscape}
 use Rattle.escape.proofs.Backslashes.{isBackslash}
 
--- the first byte of a character is no byte from 80 to BF
-first-outside : (y : ℕ) (t : List ℕ) → isContinuation (byte (encode y ++ t) 0) ≡ false
-first-outside y t =
-    by-size y
-    (λ r. rw (encode-1 y r, lt-leb 0x80 y r))
-    (λ l r. rw (encode-2 y l r) (above-range 0x80 0xbf (0xc0 + y / 0x40) (omega arith)))
-    (λ l r. rw (encode-3 y l r) (above-range 0x80 0xbf (0xe0 + y / 0x1000) (omega arith)))
-    (λ l. rw (encode-4 y l) (above-range 0x80 0xbf (0xf0 + y / 0x40000) (omega arith)))
-
 module _ (xs : List ℕ) (x : ℕ) where
-  -- how long a text is that goes on with x, and where the bytes of x end
-  length-all : (ys : List ℕ) → length (encodeAll (xs ++ x ∷ ys)) ≡ length (encodeAll xs) + (length (encode x) + length (encodeAll ys))
-  unfolding encodeAll
-  length-all ys =
-      ap length (encodeAll-append xs (x ∷ ys))
-      ∙ length-append (encodeAll xs) (encode x ++ encodeAll ys)
-      ∙ ap (λ (n : ℕ). length (encodeAll xs) + n) (length-append (encode x) (encodeAll ys))
-
-  edge-behind : length (encodeAll (xs ++ x ∷ [])) ≡ length (encodeAll xs) + length (encode x)
-  unfolding encodeAll
-  edge-behind = omega (arith, length-all [])
-
-  -- inside the character is no edge
-  no-edge-inside : (t : List ℕ) (m : ℕ) → length (encodeAll xs) + 1 ≤ m → m < length (encodeAll xs) + length (encode x) → atEdge (encodeAll (xs ++ x ∷ t)) m ≡ false
-  no-edge-inside t m h l =
-      let q : length (encodeAll xs) + (m - length (encodeAll xs)) ≡ m = omega arith in
-      let b = inner-at xs x t (m - length (encodeAll xs)) (omega arith) (omega arith) in
-      let d : isContinuation (byte (encodeAll (xs ++ x ∷ t)) (length (encodeAll xs) + (m - length (encodeAll xs)))) ≡ true = in-range 0x80 0xbf _ (b .0) (omega (arith, b .1)) in
-      ap (λ (k : ℕ). atEdge (encodeAll (xs ++ x ∷ t)) k) (sym q) ∙ ap not d
-
-  -- behind it another character starts, or the pattern ends
+  -- behind x another character starts, or the pattern ends
   edge-next : (y : ℕ) (t : List ℕ) → atEdge (encodeAll (xs ++ x ∷ y ∷ t)) (length (encodeAll xs) + length (encode x)) ≡ true
   edge-next y t =
-      ap (λ (k : ℕ). atEdge (encodeAll (xs ++ x ∷ y ∷ t)) k) (sym edge-behind)
+      ap (λ (k : ℕ). atEdge (encodeAll (xs ++ x ∷ y ∷ t)) k) (sym (edge-behind xs x))
       ∙ ap (λ (l : List ℕ). atEdge (encodeAll l) (length (encodeAll (xs ++ x ∷ [])))) (sym (append-assoc xs (x ∷ []) (y ∷ t)))
-      ∙ ap (λ (b : ℕ). not (isContinuation b)) (first-at (xs ++ x ∷ []) y t)
-      ∙ ap not (first-outside y (encodeAll t))
+      ∙ edge-at (xs ++ x ∷ []) (y ∷ t)
 
   stops : (ys zs : List ℕ) → length (encodeAll xs) + length (encode x) ≡ first (atEdge (encodeAll (xs ++ x ∷ (ys ++ zs)))) (length (encodeAll xs) + length (encode x)) (length (encodeAll (xs ++ x ∷ ys)))
   unfolding encodeAll
-  stops [] zs = first-none _ _ _ (omega (arith, length-all []))
+  stops [] zs = first-none _ _ _ (omega (arith, length-all xs x []))
   stops (y ∷ ys) zs =
       first-here (atEdge (encodeAll (xs ++ x ∷ (y ∷ (ys ++ zs))))) _ _
-      (omega (arith, length-all (y ∷ ys), encode-long y, length-append (encode y) (encodeAll ys)))
+      (omega (arith, length-all xs x (y ∷ ys), encode-long y, length-append (encode y) (encodeAll ys)))
       (edge-next y (ys ++ zs))
 
   -- the pattern ends behind the characters xs, x and ys, and zs follow it: at x a character has the bytes of x
@@ -70,8 +40,8 @@ module _ (xs : List ℕ) (x : ℕ) where
       ap (λ (l : List ℕ). charEnd (encodeAll l) (length (encodeAll (xs ++ x ∷ ys))) (length (encodeAll xs))) (append-assoc xs (x ∷ ys) zs)
       ∙ first-over (atEdge (encodeAll (xs ++ x ∷ (ys ++ zs)))) (length (encodeAll xs) + 1) (length (encodeAll xs) + length (encode x)) (length (encodeAll (xs ++ x ∷ ys)))
       (omega (arith, encode-long x))
-      (omega (arith, length-all ys))
-      (no-edge-inside (ys ++ zs))
+      (omega (arith, length-all xs x ys))
+      (no-edge-inside xs x (ys ++ zs))
       ∙ sym (stops ys zs)
 
 -- at the code point of a backslash the next escape is that backslash and the whole character x behind it

@@ -8,7 +8,8 @@ use native.Mathlib.Nat.{le-refl}
 use native.Mathlib.Omega.{arith}
 use borrow.Author.Tests.{le-ltb, ltb-true}
 use Rattle.characters.proofs.Walks.{first-from}
-use Rattle.escape.specs.Escape.{Escape, nextBackslash, atEdge, charEnd, nextEscape, isWhole, escapesFrom, escapes, lastEnd, lastWhole}
+use Rattle.characters.specs.Utf8.{atEdge}
+use Rattle.escape.specs.Escape.{Escape, nextBackslash, charEnd, nextEscape, isWhole, escapesFrom, escapes, lastEnd, lastWhole}
 use Rattle.escape.proofs.Backslashes.{isBackslash, backslash-again}
 
 pub char-from : (s : List ℕ) (c q : ℕ) → q + 1 ≤ charEnd s c q

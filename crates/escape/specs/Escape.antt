@@ -8,7 +8,7 @@ use Rattle.characters.specs.Walk.{first}
 use Rattle.characters.specs.Whitespace.{byte}
 use Rattle.text.specs.Range.{part}
 use Rattle.text.specs.Scan.{findByte}
-use Rattle.characters.specs.Utf8.{isContinuation}
+use Rattle.characters.specs.Utf8.{atEdge}
 
 -- ---- the escapes of a pattern
 
@@ -21,10 +21,6 @@ pub record Escape : Type 0 where
 -- the first backslash from p to before e, or e (01, Rules)
 abbrev pub nextBackslash : List ℕ → ℕ → ℕ → ℕ
 nextBackslash s e p = findByte s p e 0x5c
-
--- no character of the text goes on at k: the byte there is not one inside a character
-abbrev pub atEdge : List ℕ → ℕ → Bool
-atEdge s k = not (isContinuation (byte s k))
 
 -- where the character ends that starts at q: an escape is a whole character (01, Rules)
 abbrev pub charEnd : List ℕ → ℕ → ℕ → ℕ

@@ -1,8 +1,9 @@
 -- `escape::char_end` meets its contract: from where the loop stands the first position is the same.
 use mathlib.Core.Path.{_≡_}
 use Prim.Native.Nat.{_≤_, _-_, _+_}
+use Rattle.characters.specs.Utf8.{atEdge}
 use Rattle.characters.specs.Walk.{first}
-use Rattle.escape.specs.Escape.{atEdge, charEnd}
+use Rattle.escape.specs.Escape.{charEnd}
 use Rattle.characters.proofs.Walks.{scanning}
 use Rattle.escape.proofs.char_end.Statement.{statement}
 use Rattle.escape.proofs.char_end.Tie as tie
