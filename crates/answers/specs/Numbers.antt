@@ -1,4 +1,4 @@
--- The number of each answer of the calls, each once (01, Numbers given at the counter, and The run).
+-- The number of each answer of the calls, each once (01, Numbers given at the counter, and The run; 02).
 use Prim.Native.Nat.{ℕ}
 
 -- ---- accepted, and the refusals
@@ -6,7 +6,7 @@ use Prim.Native.Nat.{ℕ}
 abbrev pub acceptedNumber : ℕ
 acceptedNumber = 0
 
--- the file is too long
+-- the file is too long: it has more than mostSource bytes
 abbrev pub longFileNumber : ℕ
 longFileNumber = 1
 
@@ -45,6 +45,14 @@ brokenRunNumber = 9
 -- the row does not fit
 abbrev pub rowMismatchNumber : ℕ
 rowMismatchNumber = 10
+
+-- no such offset, line and column (02, 1/13)
+abbrev pub noSuchPlaceNumber : ℕ
+noSuchPlaceNumber = 11
+
+-- the most bytes of a file (01, Numbers given at the counter, 1)
+abbrev pub mostSource : ℕ
+mostSource = 65535
 
 -- ---- the answers of a step, from 256 on
 

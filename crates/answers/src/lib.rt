@@ -25,6 +25,11 @@ pub const BROKEN_RUN: u16 = 9;
 
 pub const ROW_MISMATCH: u16 = 10;
 
+pub const NO_SUCH_PLACE: u16 = 11;
+
+// The most bytes of a file.
+pub const MOST_SOURCE: usize = 65535;
+
 // The answers of a step, from 256 on.
 pub const DONE: u16 = 256;
 

@@ -13,3 +13,4 @@ pub mod Encoding
 pub mod Decoding
 pub mod Edges
 pub mod Counts
+pub mod Lasts

@@ -26,10 +26,14 @@ unfoldable pub last : (ℕ → Bool) → ℕ → ℕ → Found
 unfolding lastOf
 last test i e = lastOf test i (e - i)
 
+-- 1 where a test passes, 0 where it does not
+abbrev pub oneIf : Bool → ℕ
+oneIf t = cond t 1 0
+
 -- how many of the n positions from i on pass the test
 unfoldable pub countOf : (ℕ → Bool) → ℕ → ℕ → ℕ
 countOf test i zero = 0
-countOf test i (suc n) = let c = countOf test i n in cond (test (i + n)) (suc c) c
+countOf test i (suc n) = countOf test i n + oneIf (test (i + n))
 
 -- how many of the positions from i to before e pass the test
 unfoldable pub count : (ℕ → Bool) → ℕ → ℕ → ℕ

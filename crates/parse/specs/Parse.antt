@@ -11,7 +11,7 @@ use Rattle.area.specs.declared.Rule.{Rule}
 use Rattle.area.specs.declared.Expected.{Expected}
 use Rattle.area.specs.declared.Fault.{Fault}
 use Rattle.area.specs.Bytes.{zeros}
-use Rattle.answers.specs.Numbers.{acceptedNumber, longFileNumber, unknownFlagNumber, invalidUtf8Number, areaFullNumber, faultyFileNumber}
+use Rattle.answers.specs.Numbers.{acceptedNumber, longFileNumber, unknownFlagNumber, invalidUtf8Number, areaFullNumber, faultyFileNumber, mostSource}
 use Rattle.answers.specs.Words.{Fields, fields, word}
 use Rattle.area.specs.Contents.{append, laid, stateFormat, ruleFormat, entryFormat, textFormat, expectedFormat, faultFormat}
 use Rattle.fault.specs.Step.{Out, go, bad, full, next, onto, written}
@@ -108,7 +108,7 @@ module _ (q : Request) (k : Caps) where
   -- 1, 2, 3, then 4 or 5, whichever comes first
   unfoldable pub outcome : Outcome
   outcome =
-      cond (ltb 65535 (length (q .source))) longFile
+      cond (ltb mostSource (length (q .source))) longFile
       (cond (ltb 3 (q .options .flags)) unknownFlag
       (cond (utf8 (q .source)) file invalidUtf8))
 

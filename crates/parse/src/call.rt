@@ -11,10 +11,9 @@ ghost use Rattle.parse.specs.Contracts.{roomIn, leftIn};
 use crate::Answer;
 use crate::Parsed;
 use crate::sections::parse_sections;
+use answers::MOST_SOURCE;
 use area::clear;
 use characters::utf8::utf8;
-
-const MOST_BYTES: usize = 65535;
 
 const MOST_FLAGS: u64 = 3;
 
@@ -110,7 +109,7 @@ pub fn parse(
 {
     *counts = [0; 6];
     clear_all(area1, area2, area3, area4, area5, area6);
-    if src.len() > MOST_BYTES {
+    if src.len() > MOST_SOURCE {
         return Answer::LongFile;
     }
     if flags > MOST_FLAGS {

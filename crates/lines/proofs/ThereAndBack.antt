@@ -1,0 +1,164 @@
+-- There and back: an offset that is answered stands at its place, and no other offset does, since places rise from edge to edge. What a call answers
+-- of a text that passes the tests 1 and 3 is read off its definition.
+use mathlib.Core.Path.{_≡_, refl, sym, ap, subst, _∙_}
+use mathlib.Core.Bool.{Bool, true, false, cond, _&&_, false≢true}
+use mathlib.Core.List.{List}
+use Prim.Native.Nat.{ℕ, _+_, _≤_, _<_}
+use native.Mathlib.Omega.{arith}
+use borrow.Author.Tests.{leb-true, ltb-false, le-ltb, le-leb}
+use lib.Dec.{eqb, leb, ltb}
+use lib.ListN.{length}
+use Rattle.answers.specs.Numbers.{mostSource}
+use Rattle.characters.specs.Utf8.{atEdge, utf8}
+use Rattle.characters.proofs.Tests.{and-left, and-right}
+use Rattle.characters.proofs.Firsts.{first-passes, first-only}
+use Rattle.lines.specs.declared.Byte.{Byte}
+use Rattle.lines.specs.declared.Place.{Place}
+use Rattle.lines.specs.declared.LineColumn.{LineColumn}
+use Rattle.lines.specs.declared.LineColumn.the-variants as L
+use Rattle.lines.specs.declared.OffsetAt.{OffsetAt}
+use Rattle.lines.specs.declared.OffsetAt.the-variants as O
+use Rattle.lines.specs.Lines.{place, lineOf, columnOf, lineNum, colNum, isAllowed, tested, placeIn, lineColumn, stands, offsetOf, offsetIn, offsetAt}
+use Rattle.lines.specs.Places.{placeAt, isPast}
+use Rattle.lines.specs.ThereAndBack.{Has, ThereAndBack}
+use Rattle.lines.proofs.Ordering.{not-past-itself, stands-at, stands-where, stands-allowed, none-before}
+
+-- ---- what line_column says
+
+abbrev isKnown : LineColumn → Bool
+isKnown (L.Known p) = true
+isKnown L.LongFile = false
+isKnown L.InvalidUtf8 = false
+isKnown L.NoSuchPlace = false
+
+abbrev knownPlace : LineColumn → Place
+knownPlace (L.Known p) = p
+knownPlace L.LongFile = place 0 0
+knownPlace L.InvalidUtf8 = place 0 0
+knownPlace L.NoSuchPlace = place 0 0
+
+-- the source passes the tests 1 and 3
+pub record Text (s : List ℕ) : Type 0 where
+  pub short : length s ≤ mostSource
+  pub wellFormed : utf8 s ≡ true
+
+-- the offset b of a text is allowed, and its place is p
+pub record Placed (s : List ℕ) (b : ℕ) (p : Place) : Type 0 where
+  pub text : Text s
+  pub allowed : isAllowed s b ≡ true
+  pub is : placeAt s b ≡ p
+
+module _ (s : List ℕ) (b : ℕ) (p : Place) where
+  pub known-placed : lineColumn s b ≡ L.Known p → Placed s b p
+  unfolding lineColumn tested placeIn placeAt
+  known-placed e = go (ltb mostSource (length s)) (utf8 s) (isAllowed s b) refl refl refl e
+    where
+      go :
+          (t u v : Bool)
+          → ltb mostSource (length s) ≡ t
+          → utf8 s ≡ u
+          → isAllowed s b ≡ v
+          → cond t L.LongFile (cond u (cond v (L.Known (place (lineNum s b) (colNum s b))) L.NoSuchPlace) L.InvalidUtf8) ≡ L.Known p
+          → Placed s b p
+      go true u v x y z e = absurd (false≢true (ap isKnown e))
+      go false false v x y z e = absurd (false≢true (ap isKnown e))
+      go false true false x y z e = absurd (false≢true (ap isKnown e))
+      go false true true x y z e =
+          record { text = record { short = ltb-false mostSource (length s) x; wellFormed = y }; allowed = z; is = ap knownPlace e }
+
+  pub placed-known : Placed s b p → lineColumn s b ≡ L.Known p
+  unfolding lineColumn tested placeIn placeAt
+  placed-known h = rw (le-ltb mostSource (length s) (h .text .short), h .text .wellFormed, h .allowed) (ap L.Known (h .is))
+
+-- ---- what offset_at says
+
+abbrev isFound : OffsetAt → Bool
+isFound (O.Known b) = true
+isFound O.LongFile = false
+isFound O.InvalidUtf8 = false
+isFound O.NoSuchPlace = false
+
+abbrev foundByte : OffsetAt → ℕ
+foundByte (O.Known b) = b .0
+foundByte O.LongFile = 0
+foundByte O.InvalidUtf8 = 0
+foundByte O.NoSuchPlace = 0
+
+module _ (s : List ℕ) (l c : ℕ) where
+  of-text : Text s → offsetAt s l c ≡ offsetIn s l c
+  unfolding offsetAt tested
+  of-text h = rw (le-ltb mostSource (length s) (h .short), h .wellFormed)
+
+  -- an answer that is no refusal by 1 or 3 is one of a text
+  by-tests : (P : OffsetAt → Bool) → P O.LongFile ≡ false → P O.InvalidUtf8 ≡ false → P (offsetAt s l c) ≡ true → Text s
+  unfolding offsetAt tested
+  by-tests P long invalid e = go (ltb mostSource (length s)) (utf8 s) refl refl e
+    where
+      go :
+          (t u : Bool)
+          → ltb mostSource (length s) ≡ t
+          → utf8 s ≡ u
+          → P (cond t O.LongFile (cond u (offsetIn s l c) O.InvalidUtf8)) ≡ true
+          → Text s
+      go true u x y e = absurd (false≢true (sym long ∙ e))
+      go false false x y e = absurd (false≢true (sym invalid ∙ e))
+      go false true x y e = record { short = ltb-false mostSource (length s) x; wellFormed = y }
+
+  -- the first offset that stands there is within the text, or none does
+  in-cases : (t : Bool) → leb (offsetOf s l c) (length s) ≡ t → offsetIn s l c ≡ cond t (O.Known (record { 0 = offsetOf s l c })) O.NoSuchPlace
+  unfolding offsetIn
+  in-cases t e = ap (λ (u : Bool). cond u (O.Known (record { 0 = offsetOf s l c })) O.NoSuchPlace) e
+
+  found-stands : (b : Byte) → offsetIn s l c ≡ O.Known b → stands s l c (b .0) ≡ true
+  found-stands b e = go (leb (offsetOf s l c) (length s)) refl
+    where
+      go : (t : Bool) → leb (offsetOf s l c) (length s) ≡ t → stands s l c (b .0) ≡ true
+      go false x = absurd (false≢true (ap isFound (sym (in-cases false x) ∙ e)))
+      go true x =
+          let within = leb-true (offsetOf s l c) (length s) x in
+          let is : offsetOf s l c ≡ b .0 = ap foundByte (sym (in-cases true x) ∙ e) in
+          ap (stands s l c) (sym is) ∙ first-passes (stands s l c) 0 (length s + 1) (omega arith) (omega arith)
+
+  -- the offset that stands there is the one that is found
+  stands-found : (b : ℕ) → stands s l c b ≡ true → offsetIn s l c ≡ O.Known (record { 0 = b })
+  stands-found b e =
+      let inside = leb-true b (length s) (and-left (leb b (length s)) (atEdge s b) (stands-allowed s (place l c) b e)) in
+      let near : isPast (placeAt s b) (place l c) ≡ false = ap (λ (p : Place). isPast p (place l c)) (stands-at s (place l c) b e) ∙ not-past-itself (place l c) in
+      let found = first-only (stands s l c) 0 b (length s + 1) (omega arith) (omega arith) e (λ m h g. none-before s (place l c) m b near g) in
+      in-cases true (le-leb (offsetOf s l c) (length s) (omega (arith, found, inside))) ∙ ap (λ (x : ℕ). O.Known (record { 0 = x })) found
+
+-- ---- the two together
+
+module _ (s : List ℕ) where
+  has-stands : (b l c : ℕ) → Has s b l c → stands s l c b ≡ true
+  has-stands b l c e =
+      let h = known-placed s b (place l c) e in
+      stands-where s (place l c) b (h .allowed) (h .is)
+
+  goes-back : (b l c : ℕ) → Has s b l c → offsetAt s l c ≡ O.Known (record { 0 = b })
+  goes-back b l c e = of-text s l c (known-placed s b (place l c) e .text) ∙ stands-found s l c b (has-stands b l c e)
+
+  goes-there : (l c : ℕ) (b : Byte) → offsetAt s l c ≡ O.Known b → Has s (b .0) l c
+  goes-there l c b e =
+      let text = by-tests s l c isFound refl refl (ap isFound e) in
+      let at = found-stands s l c b (sym (of-text s l c text) ∙ e) in
+      placed-known s (b .0) (place l c) (record { text = text; allowed = stands-allowed s (place l c) (b .0) at; is = stands-at s (place l c) (b .0) at })
+
+  refused-nowhere : (l c : ℕ) → offsetAt s l c ≡ O.NoSuchPlace → (b : ℕ) → Has s b l c → ⊥
+  refused-nowhere l c e b h = false≢true (ap isFound (sym e ∙ goes-back b l c h))
+
+  nowhere-refused : Text s → (l c : ℕ) → ((b : ℕ) → Has s b l c → ⊥) → offsetAt s l c ≡ O.NoSuchPlace
+  nowhere-refused text l c none = of-text s l c text ∙ go (leb (offsetOf s l c) (length s)) refl
+    where
+      go : (t : Bool) → leb (offsetOf s l c) (length s) ≡ t → offsetIn s l c ≡ O.NoSuchPlace
+      go true x = absurd (none (offsetOf s l c) (goes-there l c (record { 0 = offsetOf s l c }) (of-text s l c text ∙ in-cases s l c true x)))
+      go false x = in-cases s l c false x
+
+  pub there-and-back : ThereAndBack s
+  there-and-back =
+      record {
+        back = goes-back;
+        there = goes-there;
+        refused = refused-nowhere;
+        only = λ h u l c none. nowhere-refused (record { short = h; wellFormed = u }) l c none;
+      }
