@@ -10,6 +10,7 @@ use words::parse_word;
 
 mod linking;
 mod pattern;
+mod places;
 mod running;
 
 // Reads a lex file into six areas. On refusal the areas and counts are zero, but for the fault spans of number 5.

@@ -4,6 +4,8 @@ ghost use Rattle.parse.specs.Parse.{parseWord};
 ghost use Rattle.sheet_check.specs.Pattern.{patternWord};
 ghost use Rattle.link.specs.Link.{linkWord};
 ghost use Rattle.run.specs.Run.{startWord, stepWord};
+ghost use Rattle.lines.specs.Lines.{lineColumnWord, offsetWord};
+ghost use Rattle.lines.specs.Places.{SmallOffset};
 use answers::ACCEPTED;
 use answers::AREA_FULL;
 use answers::BROKEN_MAP;
@@ -13,6 +15,7 @@ use answers::DONE;
 use answers::FAULTY_FILE;
 use answers::INVALID_UTF8;
 use answers::LONG_FILE;
+use answers::NO_SUCH_PLACE;
 use answers::ROW_MISMATCH;
 use answers::SKIP;
 use answers::START_REFUSED;
@@ -21,6 +24,8 @@ use answers::TOKEN;
 use answers::UNKNOWN_FLAG;
 use answers::UNLINKED;
 use answers::word;
+use lines::LineColumn;
+use lines::OffsetAt;
 use link::LinkAnswer;
 use parse::Answer;
 use run::Begun;
@@ -86,5 +91,33 @@ pub fn step_word(answer: Step) -> u64
         Step::Unlinked => word(UNLINKED, 0, 0, 0),
         Step::Skip => word(SKIP, 0, 0, 0),
         Step::Token(id, from, length) => word(TOKEN, id, from, length),
+    }
+}
+
+// That of the line and column of an offset, which do not fit it.
+pub fn line_column_word(answer: LineColumn) -> u64
+    ensures { λ r. ⌜ r ≡ lineColumnWord answer ⌝ }
+{
+    match answer {
+        LineColumn::Known(_) => word(ACCEPTED, 0, 0, 0),
+        LineColumn::LongFile => word(LONG_FILE, 0, 0, 0),
+        LineColumn::InvalidUtf8 => word(INVALID_UTF8, 0, 0, 0),
+        LineColumn::NoSuchPlace => word(NO_SUCH_PLACE, 0, 0, 0),
+    }
+}
+
+// That of the offset of a line and column.
+pub fn offset_word(answer: OffsetAt) -> u64
+    requires { ⌜ SmallOffset answer ⌝ }
+    ensures { λ r. ⌜ r ≡ offsetWord answer ⌝ }
+{
+    match answer {
+        OffsetAt::Known(byte) => {
+            let b = byte.0;
+            word(ACCEPTED, b as u16, 0, 0)
+        }
+        OffsetAt::LongFile => word(LONG_FILE, 0, 0, 0),
+        OffsetAt::InvalidUtf8 => word(INVALID_UTF8, 0, 0, 0),
+        OffsetAt::NoSuchPlace => word(NO_SUCH_PLACE, 0, 0, 0),
     }
 }
