@@ -61,13 +61,13 @@ impl Place {
     }
 
     /// Where a place of a part stands in the whole text, in which the part starts at `start`.
-    fn from_part(self, start: Place) -> Place {
+    fn counted_from(self, start: Place) -> Place {
         let column = if self.line == 1 { self.column.saturating_add(start.column - 1) } else { self.column };
         Place { line: self.line.saturating_add(start.line - 1), column }
     }
 
     /// The same the other way, for a place that is not before `start`, or for the part that starts the text.
-    fn in_part(self, start: Place) -> Place {
+    fn relative_to(self, start: Place) -> Place {
         let column = if self.line == start.line { self.column - (start.column - 1) } else { self.column };
         Place { line: self.line - (start.line - 1), column }
     }
@@ -105,7 +105,7 @@ impl<T: AsRef<[u8]>> Places<T> {
             starts.push((start, place));
             let end = edge(bytes, start + PART);
             let part = bytes.get(start..end).unwrap_or_default();
-            let behind = Place::of(part, part.len())?.from_part(place);
+            let behind = Place::of(part, part.len())?.counted_from(place);
             next = (end < bytes.len()).then_some((end, behind));
         }
         Ok(Places { text, starts })
@@ -123,7 +123,7 @@ impl<T: AsRef<[u8]>> Places<T> {
     /// [`Refusal::NoSuchPlace`] where the offset is above the text's length or inside a character.
     pub fn place(&self, offset: usize) -> Result<Place, Refusal> {
         let (start, place, part) = self.part(self.starts.partition_point(|(start, _)| *start <= offset));
-        Ok(Place::of(part, offset - start)?.from_part(place))
+        Ok(Place::of(part, offset - start)?.counted_from(place))
     }
 
     /// The offset in bytes that has the place, as [`Place::offset`] has it.
@@ -133,7 +133,7 @@ impl<T: AsRef<[u8]>> Places<T> {
     /// [`Refusal::NoSuchPlace`] where no offset has it.
     pub fn offset(&self, place: Place) -> Result<usize, Refusal> {
         let (start, first, part) = self.part(self.starts.partition_point(|(_, first)| *first <= place));
-        Ok(start + place.in_part(first).offset(part)?)
+        Ok(start + place.relative_to(first).offset(part)?)
     }
 
     /// The last one of the first so many parts, or the first one: where it starts, and its bytes.
