@@ -3,7 +3,7 @@
  * Link with target/staticlib/libtroymantle.a, which `rt staticlib troymantle` proves and builds (x86-64). The calls have no state of
  * their own, keep nothing that they are lent, end on every input and refuse bad input by number. Of the caller they ask this alone:
  * each pointer is not null and points to as many bytes or numbers as stand beside it, also where that is none; what a call may write
- * overlaps nothing else that it is lent; arrays of uint16_t are aligned. docs/CALLS.md has the calls in full.
+ * overlaps nothing else that it is lent; arrays of numbers are aligned. docs/CALLS.md has the calls in full.
  *
  * tools/declarations holds this file to the Rattle source and to the Rust declarations (host/sys/src/lib.rs). */
 
@@ -25,17 +25,19 @@ extern "C" {
 
 /* Numbers: accepted, and the refusals. */
 #define TROYMANTLE_ACCEPTED 0
-#define TROYMANTLE_LONG_FILE 1     /* parse: the file has more than 65,535 bytes */
-#define TROYMANTLE_UNKNOWN_FLAG 2  /* parse: the flags are above 3 */
-#define TROYMANTLE_INVALID_UTF8 3  /* parse: the file is not UTF-8 */
-#define TROYMANTLE_AREA_FULL 4     /* parse, link: a record does not fit its area or passes its limit; A is the area */
-#define TROYMANTLE_FAULTY_FILE 5   /* parse: area 6 has the faults; A is the number of their spans */
-#define TROYMANTLE_BROKEN_SHEET 6  /* pattern, pattern_test, link, step: the sheet fails its check; the first two: or no such rule */
-#define TROYMANTLE_BROKEN_MAP 7    /* link: length no multiple of 6, above 2,048 entries, a range past the names, or equal names */
-#define TROYMANTLE_START_REFUSED 8 /* start: n is above 4,096, or the stack has fewer than 2 * (n + 1) bytes */
-#define TROYMANTLE_BROKEN_RUN 9    /* step: n above 4,096, position above n, depth 0 or above position + 1, moves above position, a short
-                                      stack, or an id in use that is not declared */
-#define TROYMANTLE_ROW_MISMATCH 10 /* step: the row has not two bytes for each rule, or a length above the bytes left */
+#define TROYMANTLE_LONG_FILE 1      /* parse, line_column, offset_at: the file has more than 65,535 bytes */
+#define TROYMANTLE_UNKNOWN_FLAG 2   /* parse: the flags are above 3 */
+#define TROYMANTLE_INVALID_UTF8 3   /* parse, line_column, offset_at: the file is not UTF-8 */
+#define TROYMANTLE_AREA_FULL 4      /* parse, link: a record does not fit its area or passes its limit; A is the area */
+#define TROYMANTLE_FAULTY_FILE 5    /* parse: area 6 has the faults; A is the number of their spans */
+#define TROYMANTLE_BROKEN_SHEET 6   /* pattern, pattern_test, link, step: the sheet fails its check; the first two: or no such rule */
+#define TROYMANTLE_BROKEN_MAP 7     /* link: length no multiple of 6, above 2,048 entries, a range past the names, or equal names */
+#define TROYMANTLE_START_REFUSED 8  /* start: n is above 4,096, or the stack has fewer than 2 * (n + 1) bytes */
+#define TROYMANTLE_BROKEN_RUN 9     /* step: n above 4,096, position above n, depth 0 or above position + 1, moves above position, a short
+                                       stack, or an id in use that is not declared */
+#define TROYMANTLE_ROW_MISMATCH 10  /* step: the row has not two bytes for each rule, or a length above the bytes left */
+#define TROYMANTLE_NO_SUCH_PLACE 11 /* line_column: the offset is above the file's length or inside a character; offset_at: no
+                                       offset has that line and column */
 
 /* Numbers: the answers of a step. */
 #define TROYMANTLE_DONE 256     /* the position is n; nothing changed */
@@ -168,6 +170,20 @@ uint64_t troymantle_step(
     uint16_t run[4],
     uint8_t *stack, size_t stack_length,
     const uint8_t *row, size_t row_length);
+
+/* The line and the column of an offset, for people: place gets both, the line first. They count from 1, and the column in characters. A
+ * line ends at U+000A, which is its last character. An offset equal to the file's length has a place too. Refuses by 1, 3, 11, and then
+ * changes nothing. */
+uint64_t troymantle_line_column(
+    const uint8_t *source, size_t source_length,
+    uint64_t offset,
+    uint32_t place[2]);
+
+/* The offset that has this line and column: A is the offset. Refuses by 1, 3, 11. */
+uint64_t troymantle_offset_at(
+    const uint8_t *source, size_t source_length,
+    uint64_t line,
+    uint64_t column);
 
 #ifdef __cplusplus
 }

@@ -113,17 +113,20 @@ static void show_refused_row(void)
     printf("refused by %d: a row that does not fit; the position is still %d\n", TROYMANTLE_ROW_MISMATCH, run[1]);
 }
 
-/* A rule without a blank: area 6 has the fault's kind and place. */
+/* A rule without a blank: area 6 has the fault's kind and offset, of which a call tells line and column. */
 static void show_faulty_file(void)
 {
     static const char faulty[] = "%%\nWIN";
     uint64_t word = parse(BYTES(faulty));
     expect("parse", word, TROYMANTLE_FAULTY_FILE);
-    unsigned kind = field(area6, 1), place = field(area6, 2);
+    unsigned kind = field(area6, 1), offset = field(area6, 2);
     if (TROYMANTLE_A(word) != 1 || kind != TROYMANTLE_MISSING_SPACE) {
         exit(1);
     }
-    printf("refused by %d: a file with a fault of kind %u at %u\n", TROYMANTLE_FAULTY_FILE, kind, place);
+    uint32_t place[2];
+    expect("line_column", troymantle_line_column(BYTES(faulty), offset, place), TROYMANTLE_ACCEPTED);
+    printf("refused by %d: a file with a fault of kind %u at %u:%u\n", TROYMANTLE_FAULTY_FILE, kind, place[0],
+           place[1]);
 }
 
 int main(void)

@@ -97,6 +97,13 @@ static void try_run(const struct sheet *sheet)
     try_steps(sheet, &run);
 }
 
+static void try_lines(void)
+{
+    static struct bytes text;
+    make_place_text(&text);
+    try_places(&text, text.length > 2000 ? 1 : 4);
+}
+
 void run_case(void)
 {
     static struct sheet sheet;
@@ -105,4 +112,5 @@ void run_case(void)
     try_map(&sheet);
     try_pattern(&sheet, choose_rule(&sheet));
     try_run(&sheet);
+    try_lines();
 }

@@ -1,4 +1,4 @@
-/* Conditions of 01, written from its words. */
+/* Conditions of 01 and 02, written from their words. */
 #include "fuzz.h"
 
 #include <stdlib.h>
@@ -180,4 +180,40 @@ bool is_row(const struct bytes *row, const struct run *run, unsigned rules)
         k++;
     }
     return k == rules;
+}
+
+/* ---- 11: lines and columns (02, 1/13) */
+
+/* Behind one character more: a line feed is the last one of its line. */
+static struct place next_place(const struct bytes *text, struct place place)
+{
+    const uint8_t *at = text->data + place.offset;
+    bool is_end = *at == '\n';
+    place.offset += character(at, text->length - place.offset);
+    place.line += is_end;
+    place.column = is_end ? 1 : place.column + 1;
+    return place;
+}
+
+struct place place_up_to(const struct bytes *text, uint64_t offset)
+{
+    struct place place = FIRST_PLACE;
+    while (place.offset < text->length) {
+        struct place next = next_place(text, place);
+        if (next.offset > offset) {
+            return place;
+        }
+        place = next;
+    }
+    return place;
+}
+
+bool find_offset(const struct bytes *text, uint64_t line, uint64_t column, uint64_t *offset)
+{
+    struct place place = FIRST_PLACE;
+    while (place.offset < text->length && (place.line != line || place.column != column)) {
+        place = next_place(text, place);
+    }
+    *offset = place.offset;
+    return place.line == line && place.column == column;
 }

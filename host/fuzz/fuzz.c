@@ -1,8 +1,8 @@
-/* A bounded random loop over the six calls, with hostile sizes, contents, sheets, maps, runs and rows.
+/* A bounded random loop over the calls, with hostile sizes, contents, sheets, maps, runs, rows and places.
  *
  *     fuzz [--seed S] [--first K] [--cases N]
  *
- * What a call gives back is held to the conditions of 01 that are cheap to state. It ends with 1 at the first
+ * What a call gives back is held to the conditions of 01 and 02 that are cheap to state. It ends with 1 at the first
  * violation, and tells the case that repeats it. */
 #include "fuzz.h"
 
@@ -29,7 +29,8 @@ enum { SECONDS_A_CASE = 300 };
 enum { CASES_FOR_ALL = 5000 };
 enum { SECONDS_OF_PROGRESS = 10 };
 
-static const char *const CALL_NAMES[CALLS] = {"parse", "pattern", "pattern_test", "link", "start", "step"};
+static const char *const CALL_NAMES[CALLS] = {"parse", "pattern", "pattern_test", "link",
+                                              "start", "step",    "line_column",  "offset_at"};
 
 static uint64_t seed = 1, first, cases = 20000, number;
 static enum call call;
@@ -144,7 +145,7 @@ static bool saw_all(void)
 {
     bool all = true;
     for (size_t k = 0; k <= TROYMANTLE_TOKEN; k++) {
-        bool is_answer = k <= TROYMANTLE_ROW_MISMATCH || k >= TROYMANTLE_DONE;
+        bool is_answer = k <= TROYMANTLE_NO_SUCH_PLACE || k >= TROYMANTLE_DONE;
         if (is_answer && answers[k] == 0) {
             fprintf(stderr, "fuzz: no call answered %zu\n", k);
             all = false;

@@ -69,7 +69,9 @@ struct loan {
 
 void lend_begin(void);
 void lend(struct loan *loan, enum access access, const char *name, const void *before, size_t length);
-void lend_numbers(struct loan *loan, enum access access, const char *name, const uint16_t *before, size_t count);
+/* Aligned, each of so many bytes. */
+void lend_numbers(struct loan *loan, enum access access, const char *name, const void *before, size_t count,
+                  size_t width);
 /* With contents that mean nothing. */
 void lend_fresh(struct loan *loan, const char *name, size_t length, size_t alignment);
 /* Where in what is lent an address lies, for what is told. */
@@ -83,28 +85,30 @@ void end_loan(struct loan *loan);
 /* The arguments of what was lent by its place in the loan. */
 #define LENT(k) loan.lents[k].bytes, loan.lents[k].length
 #define LENT_NUMBERS(k) ((uint16_t *)(void *)loan.lents[k].bytes)
+#define LENT_PLACE(k) ((uint32_t *)(void *)loan.lents[k].bytes)
 #define LENT_SHEET LENT(0), LENT(1), LENT(2), LENT(3), LENT(4), LENT(5), LENT_NUMBERS(6)
 
 /* ---- fuzz.c: the case that is run, and what is told of it */
 
-enum call { PARSE, PATTERN, PATTERN_TEST, LINK, START, STEP, CALLS };
+enum call { PARSE, PATTERN, PATTERN_TEST, LINK, START, STEP, LINE_COLUMN, OFFSET_AT, CALLS };
 
 void begin_call(enum call call);
 /* Counts the answer. */
 void end_call(uint64_t word);
 _Noreturn void fail(const char *format, ...) __attribute__((format(printf, 1, 2)));
 
-/* ---- texts.c: lex files and verdicts */
+/* ---- texts.c: lex files, verdicts, and texts for lines and columns */
 
 /* A file without faults, and one of any kind. */
 void make_good_text(struct bytes *text);
 void make_text(struct bytes *text);
 void make_verdicts(struct bytes *verdicts);
+void make_place_text(struct bytes *text);
 /* Names that the index of a link cannot tell apart, by a number below SAME_HOME. */
 enum { SAME_HOME_LENGTH = 99, SAME_HOME = 25 * 25 };
 void make_same_home_name(char name[SAME_HOME_LENGTH + 1], size_t number);
 
-/* ---- inputs.c: sheets, maps, runs and rows */
+/* ---- inputs.c: sheets, maps, runs, rows and places */
 
 struct sheet {
     struct bytes source, areas[5];
@@ -134,8 +138,11 @@ size_t other_length(size_t length);
 void change_run(struct run *run);
 void make_row(struct bytes *row, const struct sheet *sheet, const struct run *run);
 uint64_t choose_rule(const struct sheet *sheet);
+uint64_t choose_offset(const struct bytes *text);
+/* A line and a column. */
+void choose_pair(const struct bytes *text, bool is_text, uint64_t pair[2]);
 
-/* ---- expected.c: conditions of 01 */
+/* ---- expected.c: conditions of 01 and 02 */
 
 bool is_utf8(const uint8_t *data, size_t length);
 bool is_sound(const struct sheet *sheet);
@@ -143,7 +150,18 @@ bool is_map(const struct map *map);
 bool is_run(const struct run *run, unsigned states);
 bool is_row(const struct bytes *row, const struct run *run, unsigned rules);
 
-/* ---- parse_call.c, sheet_calls.c, run_calls.c: calls, and what is checked of each */
+/* An offset at the edge of a character, with its line and column. */
+struct place {
+    uint64_t offset, line, column;
+};
+
+#define FIRST_PLACE ((struct place){0, 1, 1})
+/* The place of the last such offset of a text that is not above this one. The text is UTF-8, here and below. */
+struct place place_up_to(const struct bytes *text, uint64_t offset);
+/* Whether an offset has the line and column; then it is told. */
+bool find_offset(const struct bytes *text, uint64_t line, uint64_t column, uint64_t *offset);
+
+/* ---- parse_call.c, sheet_calls.c, run_calls.c, place_calls.c: calls, and what is checked of each */
 
 extern const size_t WIDTHS[6];
 /* Parses with areas of these lengths. Accepted, the sheet is what the call left. */
@@ -159,6 +177,8 @@ void try_link(struct sheet *sheet, const struct map *map, size_t length7, size_t
 /* Run and stack are as the call left them. */
 uint64_t try_start(uint64_t n, struct run *run);
 void try_step(const struct sheet *sheet, struct run *run, const struct bytes *row);
+/* Lines and columns of so many offsets, and offsets of so many lines and columns. */
+void try_places(const struct bytes *source, size_t tries);
 
 /* ---- cases.c: all calls once or more, by the random numbers of the case */
 

@@ -1,4 +1,4 @@
-/* Sheets, maps, runs and rows, good and bad. */
+/* Sheets, maps, runs, rows and places, good and bad. */
 #include "fuzz.h"
 
 #include <stdio.h>
@@ -213,5 +213,33 @@ void make_row(struct bytes *row, const struct sheet *sheet, const struct run *ru
     }
     if (one_in(16)) {
         resize(row, other_length(row->length));
+    }
+}
+
+/* ---- places */
+
+uint64_t choose_offset(const struct bytes *text)
+{
+    uint64_t offset = below(text->length + 1), end = text->length;
+    return one_in(2) ? offset
+                     : ONE_OF(0, 1, end - 1, end, end, end + 1, end + 2, offset + (1ull << 16), offset + (1ull << 32),
+                              1ull << 63, UINT64_MAX, random_word());
+}
+
+/* The line and column of an offset, often of a line's end or of the last one, and often one of them changed. */
+void choose_pair(const struct bytes *text, bool is_text, uint64_t pair[2])
+{
+    size_t at = one_in(4) ? text->length : below(text->length + 1);
+    bool is_line_end = one_in(3);
+    while (is_line_end && at < text->length && text->data[at] != '\n') {
+        at++;
+    }
+    struct place place = is_text ? place_up_to(text, at) : FIRST_PLACE;
+    pair[0] = place.line;
+    pair[1] = place.column;
+    if (one_in(2)) {
+        pair[below(2)] += ONE_OF(1, 1, 1, UINT64_MAX, UINT64_MAX, 1ull << 16, 1ull << 32, 1ull << 63);
+    } else if (one_in(4)) {
+        pair[below(2)] = ONE_OF(0, 1, 65535, 65536, 65537, UINT64_MAX, random_word());
     }
 }

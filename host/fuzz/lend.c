@@ -109,10 +109,11 @@ void lend(struct loan *loan, enum access access, const char *name, const void *b
     memcpy(lent->bytes, before, length);
 }
 
-void lend_numbers(struct loan *loan, enum access access, const char *name, const uint16_t *before, size_t count)
+void lend_numbers(struct loan *loan, enum access access, const char *name, const void *before, size_t count,
+                  size_t width)
 {
-    struct lent *lent = next_lent(loan, access, name, count * sizeof *before, sizeof *before);
-    lent->before = (const uint8_t *)before;
+    struct lent *lent = next_lent(loan, access, name, count * width, width);
+    lent->before = before;
     memcpy(lent->bytes, before, lent->length);
 }
 

@@ -53,18 +53,19 @@ static void check_accepted(const struct loan *loan, const struct sheet *sheet)
     }
 }
 
-/* A span of a fault, behind another of the number before: its own number, kind and place. */
-static bool is_fault(const uint8_t *span, unsigned before, size_t length)
+/* A span of a fault, behind another of the number before: its own number, kind and place. It starts at the edge of a
+ * character, so that it has a line and a column. */
+static bool is_fault(const uint8_t *span, unsigned before, const struct bytes *source)
 {
     unsigned number = field(span, 0), kind = field(span, 1), start = field(span, 2), end = field(span, 3);
     bool may_be_long = kind == TROYMANTLE_DUPLICATE_START_STATE || kind == TROYMANTLE_DUPLICATE_NAME ||
                        kind == TROYMANTLE_VERBATIM_NOT_SUPPORTED;
-    return (number == before || number == before + 1) && kind <= 11 && start <= end && end <= length &&
-           (may_be_long || start == end);
+    return (number == before || number == before + 1) && kind <= 11 && start <= end && end <= source->length &&
+           (may_be_long || start == end) && (start == source->length || (source->data[start] & 0xc0) != 0x80);
 }
 
 /* 1 to 4: everything is zero; 5: everything but the fault spans. */
-static void check_refused(const struct loan *loan, uint64_t word, size_t source_length)
+static void check_refused(const struct loan *loan, uint64_t word, const struct bytes *source)
 {
     size_t spans = TROYMANTLE_NUMBER(word) == TROYMANTLE_FAULTY_FILE ? TROYMANTLE_A(word) : 0;
     for (size_t k = 0; k < 6; k++) {
@@ -73,7 +74,7 @@ static void check_refused(const struct loan *loan, uint64_t word, size_t source_
     must_be_zero_from(&loan->lents[COUNTS], 0);
     const uint8_t *faults = loan->lents[AREA_1 + 5].bytes;
     for (size_t k = 0; k < spans; k++) {
-        if (!is_fault(faults + 8 * k, k == 0 ? 0 : field(faults + 8 * (k - 1), 0), source_length)) {
+        if (!is_fault(faults + 8 * k, k == 0 ? 0 : field(faults + 8 * (k - 1), 0), source)) {
             fail("fault span %zu is none", k);
         }
     }
@@ -114,7 +115,7 @@ uint64_t try_parse(const struct bytes *source, uint64_t flags, const struct byte
         take_sheet(sheet, source, &loan);
         check_accepted(&loan, sheet);
     } else {
-        check_refused(&loan, word, source->length);
+        check_refused(&loan, word, source);
     }
     end_loan(&loan);
     return word;

@@ -15,7 +15,7 @@ static void take_run(struct run *run, const struct lent *numbers, const struct l
 
 static void lend_run(struct loan *loan, const struct run *run)
 {
-    lend_numbers(loan, WRITE, "the run", run->numbers, 4);
+    lend_numbers(loan, WRITE, "the run", run->numbers, 4, sizeof *run->numbers);
     lend(loan, WRITE, "the stack", run->stack.data, run->stack.length);
 }
 

@@ -10,7 +10,7 @@ void lend_sheet(struct loan *loan, const struct sheet *sheet, enum access area_2
     for (size_t k = 0; k < 5; k++) {
         lend(loan, k == 1 ? area_2 : READ, names[k], sheet->areas[k].data, sheet->areas[k].length);
     }
-    lend_numbers(loan, READ, "the counts", sheet->counts, 6);
+    lend_numbers(loan, READ, "the counts", sheet->counts, 6, sizeof *sheet->counts);
 }
 
 static void expect_word(uint64_t word, uint64_t right)

@@ -1,4 +1,5 @@
-/* Lex files: without faults, broken at some places, of fragments, of random bytes, and long ones. */
+/* Lex files: without faults, broken at some places, of fragments, of random bytes, and long ones. Texts for lines and
+ * columns. */
 #include "fuzz.h"
 
 #include <stdio.h>
@@ -262,5 +263,44 @@ void make_verdicts(struct bytes *verdicts)
     size_t length = one_in(3) ? below(12) : 0, refuses = one_in(2) ? 10 : 0;
     for (size_t k = 0; k < length; k++) {
         add_byte(verdicts, refuses != 0 && one_in(refuses) ? (uint8_t)random_word() : 0);
+    }
+}
+
+/* ---- lines and columns */
+
+static const char *const CHARACTERS[] = {"a", "z", "é", "€", "\U0001f600", "\n", "\n", "\r\n", "\r", "\v", "\u2028"};
+
+/* Just so many bytes, of one character or of all; the last one may be cut, and one may be none of a text. */
+static void make_long_place_text(struct bytes *text, size_t length)
+{
+    const char *one = one_in(2) ? CHARACTERS[below(sizeof CHARACTERS / sizeof *CHARACTERS)] : NULL;
+    while (text->length < length) {
+        if (one != NULL) {
+            add_text(text, one);
+        } else {
+            ADD_ONE_OF(text, CHARACTERS);
+        }
+    }
+    text->length = length;
+    if (one_in(2)) {
+        text->data[below(length)] = 0xff;
+    }
+}
+
+void make_place_text(struct bytes *text)
+{
+    size_t kind = below(100);
+    text->length = 0;
+    if (kind < 3) {
+        make_long_place_text(text, ONE_OF(65534, 65535, 65536, 65537));
+    } else if (kind < 20) {
+        make_text(text);
+    } else {
+        for (size_t more = below(24); more > 0; more--) {
+            ADD_ONE_OF(text, CHARACTERS);
+        }
+    }
+    if (one_in(8)) {
+        change_text(text);
     }
 }

@@ -192,4 +192,118 @@ uint64_t wrong_step(BYTES(source), BYTES(area1), BYTES(area2), SHEET_BEHIND_AREA
     }
     return wrong_step_word(word);
 }
+
+/* ---- line_column */
+
+static uint32_t count_carriage_returns(const uint8_t *source, uint64_t offset)
+{
+    uint32_t count = 0;
+    for (uint64_t k = 0; k < offset; k++) {
+        count += source[k] == '\r';
+    }
+    return count;
+}
+
+/* How many bytes an offset's line has before it. */
+static uint32_t count_bytes(const uint8_t *source, uint64_t offset)
+{
+    uint64_t start = offset;
+    while (start > 0 && source[start - 1] != '\n') {
+        start--;
+    }
+    return (uint32_t)(offset - start);
+}
+
+/* What an accepted call answers in the place of what is right. */
+static void change_place(BYTES(source), uint64_t offset, uint32_t place[2])
+{
+    if (is_chosen(line_column_counts_a_line_feed_to_the_next_line, offset < source_length && source[offset] == '\n')) {
+        place[0]++;
+        place[1] = 1;
+    } else if (is_chosen(line_column_ends_lines_at_carriage_returns, true)) {
+        place[0] += count_carriage_returns(source, offset);
+    } else if (is_chosen(line_column_counts_bytes, true)) {
+        place[1] = 1 + count_bytes(source, offset);
+    } else if (is_chosen(line_column_counts_from_0, true)) {
+        place[1]--;
+    }
+}
+
+static void touch_in_line_column(BYTES(source), uint32_t place[2], uint64_t word)
+{
+    if (is_chosen(line_column_writes_the_place_at_a_refusal, word != TROYMANTLE_ACCEPTED)) {
+        place[1]++;
+    } else if (is_chosen(line_column_writes_behind_the_place, true)) {
+        write_byte((uint8_t *)(place + 2));
+    } else if (is_chosen(line_column_writes_the_source, source_length > 0)) {
+        write_byte(source);
+    } else if (is_chosen(line_column_reads_behind_the_source, true)) {
+        read_byte(source + source_length);
+    }
+}
+
+static uint64_t wrong_line_column_word(uint64_t word, BYTES(source), uint64_t offset)
+{
+    if (is_chosen(line_column_tests_text_before_length, !is_utf8(source, source_length))) {
+        return instead(word, TROYMANTLE_LONG_FILE, TROYMANTLE_INVALID_UTF8);
+    }
+    if (is_chosen(line_column_tests_the_offset_before_text, offset > source_length)) {
+        return instead(word, TROYMANTLE_INVALID_UTF8, TROYMANTLE_NO_SUCH_PLACE);
+    }
+    if (is_chosen(line_column_takes_the_inside_of_a_character, offset < source_length)) {
+        return instead(word, TROYMANTLE_NO_SUCH_PLACE, TROYMANTLE_ACCEPTED);
+    }
+    return is_chosen(line_column_has_a_value, word == TROYMANTLE_ACCEPTED) ? 1 << 16 : word;
+}
+
+uint64_t wrong_line_column(BYTES(source), uint64_t offset, uint32_t place[2])
+{
+    uint64_t asked = is_chosen(line_column_takes_the_offset_by_its_low_bits, true)        ? (uint32_t)offset
+                     : is_chosen(line_column_refuses_the_length, offset == source_length) ? UINT64_MAX
+                                                                                          : offset;
+    uint64_t word = troymantle_line_column(GIVEN(source), asked, place);
+    if (word == TROYMANTLE_ACCEPTED) {
+        change_place(GIVEN(source), asked, place);
+    }
+    touch_in_line_column(GIVEN(source), place, word);
+    return wrong_line_column_word(word, GIVEN(source), offset);
+}
+
+/* ---- offset_at */
+
+/* What is answered in the place of the offset that is right. */
+static uint64_t wrong_offset(uint64_t word, BYTES(source), uint64_t line, uint64_t column)
+{
+    bool is_accepted = TROYMANTLE_NUMBER(word) == TROYMANTLE_ACCEPTED;
+    if (is_chosen(offset_at_takes_a_column_past_the_line, word == TROYMANTLE_NO_SUCH_PLACE)) {
+        uint64_t last = troymantle_offset_at(GIVEN(source), line, column - 1);
+        return TROYMANTLE_NUMBER(last) == TROYMANTLE_ACCEPTED && TROYMANTLE_A(last) < source_length ? last + (1 << 16)
+                                                                                                    : word;
+    }
+    if (is_chosen(offset_at_counts_bytes, is_accepted)) {
+        return troymantle_offset_at(GIVEN(source), line, 1) + ((column - 1) << 16);
+    }
+    if (is_chosen(offset_at_refuses_the_length, is_accepted && TROYMANTLE_A(word) == source_length)) {
+        return TROYMANTLE_NO_SUCH_PLACE;
+    }
+    return is_chosen(offset_at_has_a_second_value, is_accepted) ? word + (1ull << 32) : word;
+}
+
+uint64_t wrong_offset_at(BYTES(source), uint64_t line, uint64_t column)
+{
+    bool is_low = is_chosen(offset_at_takes_the_pair_by_its_low_bits, true);
+    uint64_t asked_line = is_chosen(offset_at_takes_line_0, line == 0) ? 1 : is_low ? (uint32_t)line : line;
+    uint64_t asked_column = is_chosen(offset_at_takes_column_0, column == 0) ? 1 : is_low ? (uint32_t)column : column;
+    uint64_t word = troymantle_offset_at(GIVEN(source), asked_line, asked_column);
+    if (is_chosen(offset_at_reads_before_the_source, true)) {
+        read_byte(source - 1);
+    }
+    if (is_chosen(offset_at_tests_text_before_length, !is_utf8(source, source_length))) {
+        return instead(word, TROYMANTLE_LONG_FILE, TROYMANTLE_INVALID_UTF8);
+    }
+    if (is_chosen(offset_at_tests_the_pair_before_text, line == 0 || column == 0)) {
+        return instead(word, TROYMANTLE_INVALID_UTF8, TROYMANTLE_NO_SUCH_PLACE);
+    }
+    return wrong_offset(word, GIVEN(source), line, column);
+}
 #endif

@@ -41,7 +41,31 @@
     X(step_has_a_value_at_a_skip)                                                                                      \
     X(step_takes_a_broken_run)                                                                                         \
     X(step_reads_behind_the_row)                                                                                       \
-    X(step_does_not_end)
+    X(step_does_not_end)                                                                                               \
+    X(line_column_counts_a_line_feed_to_the_next_line)                                                                 \
+    X(line_column_ends_lines_at_carriage_returns)                                                                      \
+    X(line_column_counts_bytes)                                                                                        \
+    X(line_column_counts_from_0)                                                                                       \
+    X(line_column_takes_the_inside_of_a_character)                                                                     \
+    X(line_column_refuses_the_length)                                                                                  \
+    X(line_column_takes_the_offset_by_its_low_bits)                                                                    \
+    X(line_column_tests_text_before_length)                                                                            \
+    X(line_column_tests_the_offset_before_text)                                                                        \
+    X(line_column_writes_the_place_at_a_refusal)                                                                       \
+    X(line_column_writes_behind_the_place)                                                                             \
+    X(line_column_writes_the_source)                                                                                   \
+    X(line_column_reads_behind_the_source)                                                                             \
+    X(line_column_has_a_value)                                                                                         \
+    X(offset_at_takes_a_column_past_the_line)                                                                          \
+    X(offset_at_takes_line_0)                                                                                          \
+    X(offset_at_takes_column_0)                                                                                        \
+    X(offset_at_counts_bytes)                                                                                          \
+    X(offset_at_refuses_the_length)                                                                                    \
+    X(offset_at_takes_the_pair_by_its_low_bits)                                                                        \
+    X(offset_at_tests_text_before_length)                                                                              \
+    X(offset_at_tests_the_pair_before_text)                                                                            \
+    X(offset_at_reads_before_the_source)                                                                               \
+    X(offset_at_has_a_second_value)
 
 #define WRONG_NUMBER(name) name,
 enum wrong_library { NOT_WRONG, WRONG_LIBRARIES(WRONG_NUMBER) WRONG_END };
@@ -57,6 +81,8 @@ extern __typeof__(troymantle_pattern_test) wrong_pattern_test;
 extern __typeof__(troymantle_link) wrong_link;
 extern __typeof__(troymantle_start) wrong_start;
 extern __typeof__(troymantle_step) wrong_step;
+extern __typeof__(troymantle_line_column) wrong_line_column;
+extern __typeof__(troymantle_offset_at) wrong_offset_at;
 
 #ifndef WRONG_C
 #define troymantle_parse wrong_parse
@@ -65,6 +91,8 @@ extern __typeof__(troymantle_step) wrong_step;
 #define troymantle_link wrong_link
 #define troymantle_start wrong_start
 #define troymantle_step wrong_step
+#define troymantle_line_column wrong_line_column
+#define troymantle_offset_at wrong_offset_at
 #endif
 
 #endif

@@ -78,3 +78,13 @@ pub fn start(n: u64, run: &mut [u16; 4], stack: &mut [u8]) -> Word {
 pub fn step(sheet: &SheetBytes, run: &mut [u16; 4], stack: &mut [u8], row: &[u8]) -> Word {
     on_sheet!(troymantle_step, as_ptr, sheet, run, stack.as_mut_ptr(), stack.len(), row.as_ptr(), row.len())
 }
+
+pub fn line_column(source: &[u8], offset: u64, place: &mut [u32; 2]) -> Word {
+    // SAFETY: as above.
+    Word(unsafe { sys::troymantle_line_column(source.as_ptr(), source.len(), offset, place) })
+}
+
+pub fn offset_at(source: &[u8], line: u64, column: u64) -> Word {
+    // SAFETY: as above.
+    Word(unsafe { sys::troymantle_offset_at(source.as_ptr(), source.len(), line, column) })
+}

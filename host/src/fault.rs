@@ -2,6 +2,7 @@
 
 use crate::numbers;
 use crate::records::records;
+use crate::{Place, Places, Refusal};
 use std::fmt;
 use std::ops::Range;
 
@@ -13,34 +14,48 @@ pub struct Fault {
     /// Where, in bytes of the file. A repeated name has a span for each time that it stands there, the first one first; any
     /// other fault has one span, which is empty where only a place is known.
     pub spans: Vec<Range<usize>>,
+    /// The line and column: for a repeated name those of its first repeat, for any other where it starts.
+    pub place: Place,
 }
 
 impl Fault {
-    /// The byte where the fault is: for a repeated name its first repeat, for any other where it starts.
-    pub fn place(&self) -> usize {
-        self.spans.get(1).or(self.spans.first()).map_or(0, |span| span.start)
+    /// The byte of the file that has this place.
+    pub fn offset(&self) -> usize {
+        offset(&self.spans)
     }
 
-    /// The faults of area 6: the spans of one fault stand one behind the other and have its number.
-    pub(crate) fn listed(area: &[u8], spans: usize) -> Vec<Fault> {
-        let mut faults: Vec<Fault> = vec![];
-        let mut last = None;
-        for [number, kind, start, end] in records(area, spans) {
-            let span = Range { start: usize::from(start), end: usize::from(end) };
-            match faults.last_mut() {
-                Some(fault) if last == Some(number) => fault.spans.push(span),
-                _ => faults.push(Fault { kind: FaultKind::of(kind), spans: vec![span] }),
-            }
-            last = Some(number);
-        }
-        faults
+    /// The faults that area 6 has of a file.
+    pub(crate) fn listed(source: &[u8], area: &[u8], spans: usize) -> Result<Vec<Fault>, Refusal> {
+        let places = Places::new(source)?;
+        let listed = spans_of_faults(area, spans).into_iter();
+        let faults = listed.map(|(kind, spans)| Ok(Fault { kind, place: places.place(offset(&spans))?, spans }));
+        faults.collect()
     }
 }
 
-/// `kind's words (kind's name) at byte PLACE`.
+fn offset(spans: &[Range<usize>]) -> usize {
+    spans.get(1).or(spans.first()).map_or(0, |span| span.start)
+}
+
+/// The spans of one fault stand one behind the other and have its number.
+fn spans_of_faults(area: &[u8], spans: usize) -> Vec<(FaultKind, Vec<Range<usize>>)> {
+    let mut faults: Vec<(FaultKind, Vec<Range<usize>>)> = vec![];
+    let mut last = None;
+    for [number, kind, start, end] in records(area, spans) {
+        let span = Range { start: usize::from(start), end: usize::from(end) };
+        match faults.last_mut() {
+            Some((_, spans)) if last == Some(number) => spans.push(span),
+            _ => faults.push((FaultKind::of(kind), vec![span])),
+        }
+        last = Some(number);
+    }
+    faults
+}
+
+/// `line:column: kind's words (kind's name)`; a host puts the file's name and a colon before it.
 impl fmt::Display for Fault {
     fn fmt(&self, f: &mut fmt::Formatter) -> fmt::Result {
-        write!(f, "{} ({}) at byte {}", self.kind, self.kind.name(), self.place())
+        write!(f, "{}: {} ({})", self.place, self.kind, self.kind.name())
     }
 }
 

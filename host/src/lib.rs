@@ -52,14 +52,15 @@
 //! # }
 //! ```
 //!
-//! A call that is refused answers a [`Refusal`] and changes nothing; the faults of a file are [`Fault`]s. No input makes this
-//! crate panic.
+//! A call that is refused answers a [`Refusal`] and changes nothing; the faults of a file are [`Fault`]s, each with the
+//! [`Place`] that an editor shows. No input makes this crate panic.
 
 mod calls;
 mod fault;
 mod lex_file;
 mod map;
 pub mod numbers;
+mod place;
 mod records;
 mod refusal;
 mod run;
@@ -68,6 +69,7 @@ mod sheet;
 pub use fault::{Fault, FaultKind};
 pub use lex_file::{Flags, LexFile};
 pub use map::{Map, NamesTooLong};
+pub use place::{Place, Places};
 pub use refusal::Refusal;
 pub use run::{Row, Run, Step};
 pub use sheet::{Linked, Operation, Parts, Rule, Sheet, State};

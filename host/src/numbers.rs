@@ -22,6 +22,8 @@ pub const START_REFUSED: u16 = 8;
 pub const BROKEN_RUN: u16 = 9;
 /// The row does not fit the rules or the bytes that are left.
 pub const ROW_MISMATCH: u16 = 10;
+/// No offset is there, or has that line and column.
+pub const NO_SUCH_PLACE: u16 = 11;
 
 /// The position is at the entry's end.
 pub const DONE: u16 = 256;

@@ -30,6 +30,8 @@ pub enum Refusal {
     BrokenRun,
     /// 10, ill-fitting row: not one length for each rule, or a length above the bytes that are left.
     RowMismatch,
+    /// 11, no such place: the offset is above the text's length or inside a character, or no offset has the line and column.
+    NoSuchPlace,
     /// A number of a library that is newer than this crate.
     Other(u16),
 }
@@ -48,6 +50,7 @@ impl Refusal {
             Refusal::StartRefused => numbers::START_REFUSED,
             Refusal::BrokenRun => numbers::BROKEN_RUN,
             Refusal::RowMismatch => numbers::ROW_MISMATCH,
+            Refusal::NoSuchPlace => numbers::NO_SUCH_PLACE,
             Refusal::Other(number) => *number,
         }
     }
@@ -65,6 +68,7 @@ impl Refusal {
             Refusal::StartRefused => "poor start",
             Refusal::BrokenRun => "broken run",
             Refusal::RowMismatch => "ill-fitting row",
+            Refusal::NoSuchPlace => "no such place",
             Refusal::Other(_) => "refused",
         }
     }
@@ -80,6 +84,7 @@ impl Refusal {
             numbers::START_REFUSED => Refusal::StartRefused,
             numbers::BROKEN_RUN => Refusal::BrokenRun,
             numbers::ROW_MISMATCH => Refusal::RowMismatch,
+            numbers::NO_SUCH_PLACE => Refusal::NoSuchPlace,
             other => Refusal::Other(other),
         }
     }
@@ -98,6 +103,9 @@ impl Refusal {
             Refusal::StartRefused => "the entry has more than 4,096 bytes".to_string(),
             Refusal::BrokenRun => "its numbers, its stack and the sheet do not fit each other".to_string(),
             Refusal::RowMismatch => "not one length for each rule, or a length above the bytes left".to_string(),
+            Refusal::NoSuchPlace => {
+                "the offset is past the end or inside a character, or no offset has the line and column".to_string()
+            }
             Refusal::Other(number) => format!("by the number {number}, which this program does not know"),
         }
     }

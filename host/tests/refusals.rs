@@ -3,9 +3,11 @@
 // a fault's spans are ranges
 #![allow(clippy::single_range_in_vec_init)]
 
-use troymantle::{Fault, FaultKind, Flags, LexFile, Map, Parts, Refusal, Row, Run, Sheet, Step};
+use troymantle::{Fault, FaultKind, Flags, LexFile, Map, Parts, Place, Places, Refusal, Row, Run, Sheet, Step};
 
 const FILE: &str = "%x S\n%%\na 'A'\nb <+S>'B'\n<S>c ;\n";
+/// No text has it.
+const NOWHERE: Place = Place { line: 0, column: 0 };
 
 fn sheet() -> Sheet {
     LexFile::new(FILE).parse().expect("the file is accepted")
@@ -28,6 +30,11 @@ fn number_1_for_a_file_above_65_535_bytes() {
     let refusal = refused(LexFile::new(&(longest + "\n")).parse());
     assert_eq!((refusal.number(), refusal.words()), (1, "long file"));
     assert_eq!(refusal.to_string(), "long file (1): it has more than 65,535 bytes");
+    // also by the calls for line and column, before 3 and 11
+    let longest = b"\xff".repeat(65_535);
+    assert_eq!(Place::of(&longest, 70_000), Err(Refusal::InvalidUtf8));
+    let long = b"\xff".repeat(65_536);
+    assert_eq!((Place::of(&long, 70_000), NOWHERE.offset(&long)), (Err(Refusal::LongFile), Err(Refusal::LongFile)));
 }
 
 #[test]
@@ -43,6 +50,14 @@ fn number_2_for_flags_above_3() {
 fn number_3_for_bytes_that_are_not_utf8() {
     let refusal = refused(LexFile::new(b"%%\na\xff 'A'\n").parse());
     assert_eq!((refusal.number(), refusal.words()), (3, "not text"));
+    // also by the calls for line and column, before 11 and wherever the bytes stand
+    for offset in [0, 1, 2, 3, 4, usize::MAX] {
+        assert_eq!(Place::of(b"a\nb\xff", offset), Err(Refusal::InvalidUtf8));
+    }
+    for place in [Place { line: 1, column: 1 }, NOWHERE] {
+        assert_eq!(place.offset(b"a\nb\xff"), Err(Refusal::InvalidUtf8));
+    }
+    assert_eq!(Places::new(b"a\nb\xff").err(), Some(Refusal::InvalidUtf8));
 }
 
 #[test]
@@ -81,18 +96,18 @@ fn number_5_with_every_fault() {
     assert_eq!((refusal.number(), refusal.words()), (5, "faulty file"));
     let Refusal::FaultyFile(faults) = &refusal else { panic!("faults come along") };
     let expected = [
-        (FaultKind::DuplicateStartState, vec![3..4, 5..6]),
-        (FaultKind::DuplicateStartState, vec![0..0, 10..17]),
-        (FaultKind::DuplicateName, vec![24..25, 30..31, 41..42]),
-        (FaultKind::VerbatimNotSupported, vec![33..37]),
-        (FaultKind::MissingSpace, vec![44..44]),
+        (FaultKind::DuplicateStartState, vec![3..4, 5..6], (1, 6)),
+        (FaultKind::DuplicateStartState, vec![0..0, 10..17], (2, 4)),
+        (FaultKind::DuplicateName, vec![24..25, 30..31, 41..42], (5, 4)),
+        (FaultKind::VerbatimNotSupported, vec![33..37], (6, 1)),
+        (FaultKind::MissingSpace, vec![44..44], (8, 1)),
     ];
-    let expected = expected.map(|(kind, spans)| Fault { kind, spans });
+    let expected = expected.map(|(kind, spans, (line, column))| Fault { kind, spans, place: Place { line, column } });
     assert_eq!(faults[..], expected);
-    assert_eq!(faults[2].place(), 30);
+    assert_eq!(faults[2].offset(), 30);
     assert_eq!(
         refusal.to_string(),
-        "faulty file (5): this state is declared already (DuplicateStartState) at byte 5, and 4 more"
+        "faulty file (5): 1:6: this state is declared already (DuplicateStartState), and 4 more"
     );
 }
 
@@ -103,7 +118,7 @@ fn a_pattern_that_the_engine_refuses_is_a_fault() {
         asked.push((rule, pattern.to_string()));
         !pattern.starts_with('(')
     });
-    let fault = Fault { kind: FaultKind::RegexError, spans: vec![11..11] };
+    let fault = Fault { kind: FaultKind::RegexError, spans: vec![11..11], place: Place { line: 3, column: 1 } };
     assert_eq!(refused(answer), Refusal::FaultyFile(vec![fault]));
     assert_eq!(asked, [(0, "qa".to_string()), (1, "(b".to_string()), (2, "c".to_string())]);
 }
@@ -131,9 +146,11 @@ fn every_kind_of_fault_has_a_number_a_name_and_words() {
         else {
             panic!("{file:?} has a fault")
         };
-        let [Fault { kind, spans }] = &faults[..] else { panic!("{file:?} has one fault") };
+        let [fault @ Fault { kind, spans, place }] = &faults[..] else { panic!("{file:?} has one fault") };
         assert_eq!((kind, kind.number(), kind.name(), kind.words()), (known, number, name, words));
-        assert_eq!(faults[0].to_string(), format!("{words} ({name}) at byte {}", spans[spans.len() - 1].start));
+        assert_eq!(fault.offset(), spans[spans.len() - 1].start);
+        assert_eq!(Place::of(file, fault.offset()), Ok(*place));
+        assert_eq!(fault.to_string(), format!("{}:{}: {words} ({name})", place.line, place.column));
     }
 }
 
@@ -164,6 +181,10 @@ fn every_refusal_tells_its_words_its_number_and_why() {
         (Refusal::StartRefused, "poor start (8): the entry has more than 4,096 bytes"),
         (Refusal::BrokenRun, "broken run (9): its numbers, its stack and the sheet do not fit each other"),
         (Refusal::RowMismatch, "ill-fitting row (10): not one length for each rule, or a length above the bytes left"),
+        (
+            Refusal::NoSuchPlace,
+            "no such place (11): the offset is past the end or inside a character, or no offset has the line and column",
+        ),
         (Refusal::Other(99), "refused (99): by the number 99, which this program does not know"),
     ];
     told.iter().for_each(|(refusal, words)| assert_eq!(refusal.to_string(), *words));
@@ -255,6 +276,33 @@ fn number_10_for_a_row_that_does_not_fit() {
     assert!(matches!(run.step(&Row::from_bytes(vec![1; 5])), Err(Refusal::RowMismatch)));
     assert_eq!((run.position(), run.moves(), run.states()), (0, 0, vec![0]));
     assert_eq!(run.step(&[2, 0, 0].into_iter().collect()), Ok(Step::Token { id: 7, range: 0..2 }));
+}
+
+#[test]
+fn number_11_for_an_offset_that_is_not_there() {
+    let text = "aé\n€😀";
+    for offset in [2, 5, 6, 8, 9, 10, 12, 13, 65_536, usize::MAX] {
+        let refusal = refused(Place::of(text, offset));
+        assert_eq!((refusal.number(), refusal.words()), (11, "no such place"));
+        assert_eq!(Places::new(text).unwrap().place(offset), Err(refusal));
+    }
+    assert!([0, 1, 3, 4, 7, 11].iter().all(|offset| Place::of(text, *offset).is_ok()));
+    assert_eq!(refused(Place::of("", 1)), Refusal::NoSuchPlace);
+}
+
+#[test]
+fn number_11_for_a_line_and_column_that_no_offset_has() {
+    let text = "aé\n€😀";
+    // the line feed is column 3 of line 1, the end column 3 of line 2
+    let columns = [1, 2, 3];
+    assert_eq!(columns.map(|column| Place { line: 1, column }.offset(text)), [Ok(0), Ok(1), Ok(3)]);
+    assert_eq!(columns.map(|column| Place { line: 2, column }.offset(text)), [Ok(4), Ok(7), Ok(11)]);
+    for (line, column) in [(0, 0), (0, 1), (1, 0), (2, 0), (1, 4), (2, 4), (3, 1), (1, u32::MAX), (u32::MAX, 1)] {
+        let place = Place { line, column };
+        assert_eq!(refused(place.offset(text)), Refusal::NoSuchPlace, "{place}");
+        assert_eq!(refused(Places::new(text).unwrap().offset(place)), Refusal::NoSuchPlace, "{place}");
+    }
+    assert_eq!(Place { line: 1, column: 2 }.offset(""), Err(Refusal::NoSuchPlace));
 }
 
 /// `S0`, `S1` and so on.

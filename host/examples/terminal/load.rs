@@ -137,20 +137,22 @@ fn faulty(lex: &Source, fault: &Fault, engine: Option<&str>, options: &Options) 
     let (first, again) = (spans.next().unwrap_or_default(), spans.next());
     let place = again.clone().unwrap_or(first.clone());
     let engine = engine.filter(|_| kind == FaultKind::RegexError).map(visible_lines);
-    let excerpt = lex.excerpt(&place);
-    let is_comment = excerpt.shown.trim_start().starts_with("//");
-    let mut message = Message::at(Level::Error, excerpt, kind.words());
+    let mut message = Message::at(Level::Error, lex, &place, kind.words());
     message = message.with_kind(kind.number(), kind.name()).with_engine(engine);
     if again.is_some() {
-        message = message.with_note(Message::at(Level::Note, lex.excerpt(&first), "first here"));
+        message = message.with_note(Message::at(Level::Note, lex, &first, "first here"));
     }
     for span in spans {
-        message = message.with_note(Message::at(Level::Note, lex.excerpt(&span), "and here once more"));
+        message = message.with_note(Message::at(Level::Note, lex, &span, "and here once more"));
     }
-    if options.flags & FLAG_COMMENTS == 0 && is_comment {
+    if options.flags & FLAG_COMMENTS == 0 && is_in_comment(lex, &place) {
         message = message.with_note(Message::hint("with --comments, // skips a line"));
     }
     message
+}
+
+fn is_in_comment(lex: &Source, place: &Range<usize>) -> bool {
+    lex.excerpt(place).is_some_and(|excerpt| excerpt.shown.trim_start().starts_with("//"))
 }
 
 /// Where a rule's name itself stands, of which grmtools has a span: behind a target it is as if there were none.
@@ -176,7 +178,7 @@ fn refused(source: &Source, refusal: &Refusal) -> Message {
     };
     let message = match (refusal, source.invalid_utf8()) {
         (Refusal::UnknownFlag, _) => Message::error(words),
-        (Refusal::InvalidUtf8, Some(place)) => Message::at(Level::Error, source.excerpt(&place), words),
+        (Refusal::InvalidUtf8, Some(place)) => Message::at(Level::Error, source, &place, words),
         _ => Message::of_file(&source.name, words),
     };
     message.with_number(number, area)
@@ -190,7 +192,7 @@ fn unmapped(lex: &Source, sheet: &Sheet, linked: &Linked) -> Vec<Message> {
     let missing = named.filter(|(name, _)| !expected.contains(name));
     let told = missing.map(|(name, range)| {
         let words = format!("rule {} is not in the map", visible(&name));
-        Message::at(Level::Error, lex.excerpt(&range), words).with_name(&name)
+        Message::at(Level::Error, lex, &range, words).with_name(&name)
     });
     let mut messages: Vec<_> = told.collect();
     if let Some(last) = messages.pop() {
@@ -205,7 +207,7 @@ fn unused(map: &Source, file: &MapFile, linked: &Linked) -> Vec<Message> {
         linked.unused.iter().filter_map(|number| Some((file.map.entry(*number)?.0, file.names.get(*number)?)));
     let told = entries.map(|(name, span)| {
         let words = format!("no rule has the name {}", visible(&name));
-        Message::at(Level::Warning, map.excerpt(span), words).with_name(&name)
+        Message::at(Level::Warning, map, span, words).with_name(&name)
     });
     told.collect()
 }

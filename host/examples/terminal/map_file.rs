@@ -32,7 +32,7 @@ pub fn read(source: &Source) -> Result<MapFile, Vec<Message>> {
         return Err(vec![Message::of_file(&source.name, "a map file has at most 1,048,576 bytes")]);
     }
     if let Some(place) = source.invalid_utf8() {
-        return Err(vec![Message::at(Level::Error, source.excerpt(&place), "the file is not UTF-8 from here on")]);
+        return Err(vec![Message::at(Level::Error, source, &place, "the file is not UTF-8 from here on")]);
     }
     let mut file = MapFile::default();
     let mut first: HashMap<&str, Range<usize>> = HashMap::new();
@@ -47,7 +47,7 @@ pub fn read(source: &Source) -> Result<MapFile, Vec<Message>> {
                     first.insert(entry.name, entry.span);
                 }
             },
-            Some(Err((span, words))) => wrong.push(Message::at(Level::Error, source.excerpt(&span), words)),
+            Some(Err((span, words))) => wrong.push(Message::at(Level::Error, source, &span, words)),
             None => {}
         }
         start += text.len();
@@ -58,12 +58,12 @@ pub fn read(source: &Source) -> Result<MapFile, Vec<Message>> {
 fn add(file: &mut MapFile, source: &Source, entry: &Entry) -> Option<Message> {
     file.names.push(entry.span.clone());
     let error = file.map.add(entry.name, entry.id).err()?;
-    Some(Message::at(Level::Error, source.excerpt(&entry.span), error.to_string()))
+    Some(Message::at(Level::Error, source, &entry.span, error.to_string()))
 }
 
 fn repeated(source: &Source, entry: &Entry, earlier: &Range<usize>) -> Message {
-    let note = Message::at(Level::Note, source.excerpt(earlier), "first here");
-    let message = Message::at(Level::Error, source.excerpt(&entry.span), "this name has an id already");
+    let note = Message::at(Level::Note, source, earlier, "first here");
+    let message = Message::at(Level::Error, source, &entry.span, "this name has an id already");
     message.with_name(entry.name).with_note(note)
 }
 

@@ -2,8 +2,9 @@
 
 use crate::json::Object;
 use crate::paint::{Paint, Style};
-use crate::source::Excerpt;
+use crate::source::{Excerpt, Source};
 use std::fmt::Write;
+use std::ops::Range;
 
 /// How bad it is.
 #[derive(Clone, Copy, Debug, PartialEq, Eq)]
@@ -59,8 +60,9 @@ impl Message {
     }
 
     /// About a part of a file.
-    pub fn at(level: Level, excerpt: Excerpt, words: impl Into<String>) -> Message {
-        Message::new(level, Place::Part(excerpt), words)
+    pub fn at(level: Level, source: &Source, span: &Range<usize>, words: impl Into<String>) -> Message {
+        let place = source.excerpt(span).map_or_else(|| Place::File(source.name.clone()), Place::Part);
+        Message::new(level, place, words)
     }
 
     /// A word of help for the message before it.
@@ -96,7 +98,7 @@ impl Message {
             Place::Nowhere if self.level == Level::Note => String::new(),
             Place::Nowhere => "terminal: ".to_string(),
             Place::File(file) => format!("{file}: "),
-            Place::Part(part) => format!("{}:{}:{}: ", part.file, part.line, part.column),
+            Place::Part(part) => format!("{}:{}: ", part.file, part.place),
         };
         let (level, style) = match self.level {
             Level::Error => ("error: ", Style::Bad),
@@ -130,8 +132,8 @@ impl Message {
             Place::File(file) => object.text("file", file),
             Place::Part(part) => object
                 .text("file", &part.file)
-                .number("line", part.line)
-                .number("column", part.column)
+                .number("line", part.place.line as usize)
+                .number("column", part.place.column as usize)
                 .number("start", part.start)
                 .number("length", part.length),
         };
@@ -157,12 +159,11 @@ pub fn painted_marks(marks: &str, paint: Paint) -> String {
 #[cfg(test)]
 mod tests {
     use super::*;
-    use crate::source::Source;
 
     fn message() -> Message {
         let source = Source::new("f.l", b"%x A\n%x A\n".to_vec());
-        let first = Message::at(Level::Note, source.excerpt(&(3..4)), "first here");
-        let message = Message::at(Level::Error, source.excerpt(&(8..9)), "again");
+        let first = Message::at(Level::Note, &source, &(3..4), "first here");
+        let message = Message::at(Level::Error, &source, &(8..9), "again");
         message.with_kind(6, "DuplicateStartState").with_note(first)
     }
 

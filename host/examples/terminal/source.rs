@@ -1,9 +1,10 @@
-//! Files, and their places as people count them: lines and columns from 1, a column for each character.
+//! Files, and parts of them with their lines and columns.
 
 use std::fs::File;
 use std::io::{self, Read};
 use std::ops::Range;
 use std::path::Path;
+use troymantle::{Place, Places};
 
 /// A line above so many characters is shown in part.
 const MOST_SHOWN: usize = 120;
@@ -18,19 +19,17 @@ pub struct Source {
     pub bytes: Vec<u8>,
     /// The same as text. Behind the first byte that is not UTF-8 places in it are not those of the bytes.
     pub text: String,
-    /// Where the lines of the text start.
-    line_starts: Vec<usize>,
+    /// Lines and columns of the text. It is UTF-8, so the library has them.
+    places: Option<Places<String>>,
 }
 
 /// A part of a file, ready to be shown.
 #[derive(Clone, Debug, PartialEq, Eq)]
 pub struct Excerpt {
     pub file: String,
-    /// From 1; only U+000A ends a line.
-    pub line: usize,
-    /// From 1, in characters.
-    pub column: usize,
-    /// Where the part starts, and how many bytes it has.
+    /// The line and column where the part starts.
+    pub place: Place,
+    /// The byte where it starts, and how many it has.
     pub start: usize,
     pub length: usize,
     /// The line of the part's start, and a line that marks the part below it.
@@ -41,9 +40,8 @@ pub struct Excerpt {
 impl Source {
     pub fn new(name: &str, bytes: Vec<u8>) -> Source {
         let text = String::from_utf8_lossy(&bytes).into_owned();
-        let behind_ends = text.match_indices('\n').map(|(at, _)| at + 1);
-        let line_starts = [0].into_iter().chain(behind_ends).collect();
-        Source { name: visible(name), bytes, text, line_starts }
+        let places = Places::new(text.clone()).ok();
+        Source { name: visible(name), bytes, text, places }
     }
 
     /// Reads a file, but no more than one byte above `most`: whoever asks refuses a file that has as many.
@@ -59,24 +57,18 @@ impl Source {
         Some(error.valid_up_to()..error.valid_up_to())
     }
 
-    pub fn excerpt(&self, span: &Range<usize>) -> Excerpt {
+    /// A part of the file; none where the library has no place for it.
+    pub fn excerpt(&self, span: &Range<usize>) -> Option<Excerpt> {
         let start = character_edge(&self.text, span.start);
         let end = character_edge(&self.text, span.end).max(start);
-        let (before, rest) = self.text.split_at_checked(start).unwrap_or((&self.text, ""));
-        let line = self.line_starts.partition_point(|line_start| *line_start <= start);
-        let line_start = line.checked_sub(1).and_then(|before| self.line_starts.get(before)).copied().unwrap_or(0);
-        let (_, left) = before.split_at_checked(line_start).unwrap_or_default();
-        let right = rest.split('\n').next().unwrap_or_default().trim_end_matches('\r');
+        let places = self.places.as_ref()?;
+        let place = places.place(start).ok()?;
+        let line_start = places.offset(Place { column: 1, ..place }).ok()?;
+        let next_line = places.offset(Place { line: place.line + 1, column: 1 }).unwrap_or(self.text.len());
+        let left = self.text.get(line_start..start)?;
+        let right = self.text.get(start..next_line)?.trim_end_matches(['\r', '\n']);
         let (shown, marks) = marked(left, right, end - start);
-        Excerpt {
-            file: self.name.clone(),
-            line,
-            column: left.chars().count() + 1,
-            start: span.start,
-            length: span.len(),
-            shown,
-            marks,
-        }
+        Some(Excerpt { file: self.name.clone(), place, start: span.start, length: span.len(), shown, marks })
     }
 }
 
@@ -153,7 +145,11 @@ mod tests {
     use super::*;
 
     fn excerpt(text: &str, span: Range<usize>) -> Excerpt {
-        Source::new("f", text.as_bytes().to_vec()).excerpt(&span)
+        Source::new("f", text.as_bytes().to_vec()).excerpt(&span).unwrap()
+    }
+
+    fn place(line: u32, column: u32) -> Place {
+        Place { line, column }
     }
 
     #[test]
@@ -161,7 +157,7 @@ mod tests {
         let text = "%%\nä€😀 'N'\n";
         let at = text.find('N').unwrap();
         let found = excerpt(text, at..at + 1);
-        assert_eq!((found.line, found.column, found.start, found.length), (2, 6, at, 1));
+        assert_eq!((found.place, found.start, found.length), (place(2, 6), at, 1));
         assert_eq!(found.shown, "ä€😀 'N'");
         assert_eq!(found.marks, "     ^");
     }
@@ -169,7 +165,7 @@ mod tests {
     #[test]
     fn tabs_stay_before_the_caret() {
         let found = excerpt("\ta\tbcd\n", 3..6);
-        assert_eq!((found.line, found.column), (1, 4));
+        assert_eq!(found.place, place(1, 4));
         assert_eq!(found.shown, "\ta\tbcd");
         assert_eq!(found.marks, "\t \t^~~");
     }
@@ -196,32 +192,32 @@ mod tests {
     #[test]
     fn only_line_feeds_end_lines() {
         let text = "a\u{2028}b\rc\u{b}d\ne";
-        assert_eq!(excerpt(text, text.len() - 1..text.len()).line, 2);
+        assert_eq!(excerpt(text, text.len() - 1..text.len()).place, place(2, 1));
         let found = excerpt(text, text.len() - 3..text.len() - 2);
-        assert_eq!((found.line, found.column), (1, 7));
+        assert_eq!(found.place, place(1, 7));
         assert_eq!(found.shown, "a\u{fffd}b\u{240d}c\u{240b}d");
     }
 
     #[test]
     fn the_end_has_a_place() {
         let found = excerpt("ab\n", 3..3);
-        assert_eq!((found.line, found.column, found.shown.as_str(), found.marks.as_str()), (2, 1, "", "^"));
+        assert_eq!((found.place, found.shown.as_str(), found.marks.as_str()), (place(2, 1), "", "^"));
         let found = excerpt("", 0..0);
-        assert_eq!((found.line, found.column, found.shown.as_str(), found.marks.as_str()), (1, 1, "", "^"));
-        assert_eq!(excerpt("ab", 7..9).column, 3);
+        assert_eq!((found.place, found.shown.as_str(), found.marks.as_str()), (place(1, 1), "", "^"));
+        assert_eq!(excerpt("ab", 7..9).place, place(1, 3));
     }
 
     #[test]
     fn places_inside_a_character_are_its_start() {
         let found = excerpt("é1", 1..3);
-        assert_eq!((found.column, found.marks.as_str()), (1, "^~"));
+        assert_eq!((found.place, found.marks.as_str()), (place(1, 1), "^~"));
     }
 
     #[test]
     fn bytes_that_are_not_utf8_have_a_place() {
         let source = Source::new("f", b"a\nb\xffc".to_vec());
-        let found = source.excerpt(&source.invalid_utf8().unwrap());
-        assert_eq!((found.line, found.column, found.shown.as_str()), (2, 2, "b\u{fffd}c"));
+        let found = source.excerpt(&source.invalid_utf8().unwrap()).unwrap();
+        assert_eq!((found.place, found.shown.as_str()), (place(2, 2), "b\u{fffd}c"));
     }
 
     #[test]
