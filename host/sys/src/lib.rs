@@ -96,4 +96,18 @@ functions! {
         stack: *mut u8, stack_length: usize,
         row: *const u8, row_length: usize,
     );
+
+    /// The line and the column of an offset in a source.
+    fn troymantle_line_column as LineColumn(
+        source: *const u8, source_length: usize,
+        offset: u64,
+        place: *mut [u32; 2],
+    );
+
+    /// The offset of a line and a column in a source.
+    fn troymantle_offset_at as OffsetAt(
+        source: *const u8, source_length: usize,
+        line: u64,
+        column: u64,
+    );
 }
