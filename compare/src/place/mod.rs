@@ -68,7 +68,9 @@ impl Tally {
             self.answers.iter().map(|(number, count)| format!("{number}: {}", show::number(*count))).collect();
         let whose = if cfg!(feature = "ours") { "Troymantle's" } else { "the model's" };
         format!(
-            "{} sources, {} calls: {whose} lines, line starts and columns are those of the original at {} places, but for one column more at {} line feeds behind a carriage return, and so are the starts of {} lines; every answer and place is that of 02. Answers: {}",
+            "{} sources, {} calls: {whose} lines, line starts and columns are those of the original at {} places, but for one \
+             column more at {} line feeds behind a carriage return, and so are the starts of {} lines; every answer and place \
+             is that of 02. Answers: {}",
             show::number(cases),
             show::number(self.answers.values().sum()),
             show::number(self.places),
