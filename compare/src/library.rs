@@ -83,7 +83,7 @@ impl Library {
         }
     }
 
-    /// Whether the build has the function, which every build has but for the later ones.
+    /// Whether the build has the function. Only the later ones can be missing.
     pub fn has(&self, function: &str) -> bool {
         match function {
             "troymantle_line_column" => self.line_column.is_some(),
