@@ -6,6 +6,7 @@ use crate::link::{Call, Left};
 use crate::sheet::Sheet;
 use crate::side::Side;
 use crate::step::Run;
+use std::ops::Range;
 
 pub struct Ours;
 
@@ -49,9 +50,44 @@ pub fn step(sheet: &Sheet, run: &Run, row: &[u8]) -> (u64, Run) {
     (word, Run { numbers, stack: unguarded(lent) })
 }
 
+/// A source that many calls are lent. It stands between bytes that would change an answer if they were read as a part of it.
+pub struct Source {
+    bytes: Vec<u8>,
+    range: Range<usize>,
+    kept: Vec<u8>,
+}
+
+impl Source {
+    /// Moved by so many bytes, between guards of this byte.
+    pub fn new(source: &[u8], shift: usize, guard: u8) -> Source {
+        let range = GUARD + shift..GUARD + shift + source.len();
+        let mut bytes = vec![guard; range.end + GUARD];
+        bytes[range.clone()].copy_from_slice(source);
+        Source { kept: bytes.clone(), bytes, range }
+    }
+
+    pub fn line_column(&self, offset: u64, before: [u32; 2]) -> (u64, [u32; 2]) {
+        let mut lent = [GUARD_NUMBER, GUARD_NUMBER, before[0], before[1], GUARD_NUMBER, GUARD_NUMBER];
+        let [_, _, place @ .., _, _] = &mut lent;
+        let word = LINKED.line_column(&self.bytes[self.range.clone()], offset, place);
+        let [one, two, line, column, five, six] = lent;
+        assert_eq!([one, two, five, six], [GUARD_NUMBER; 4], "the call wrote outside the place that was lent to it");
+        (word, [line, column])
+    }
+
+    pub fn offset_at(&self, line: u64, column: u64) -> u64 {
+        LINKED.offset_at(&self.bytes[self.range.clone()], line, column)
+    }
+
+    pub fn is_unchanged(&self) -> bool {
+        self.bytes == self.kept
+    }
+}
+
 /// Bytes before and after each lent area; the call must leave them alone.
 const GUARD: usize = 16;
 const GUARD_BYTE: u8 = 0x5a;
+const GUARD_NUMBER: u32 = 0x5a5a_5a5a;
 /// What the areas of a parse hold before the call.
 const OLD_BYTE: u8 = 0xa5;
 
@@ -77,7 +113,7 @@ fn unguarded(bytes: Vec<u8>) -> Vec<u8> {
 #[cfg(test)]
 mod tests {
     use super::*;
-    use crate::answers::{self, BROKEN_SHEET, DONE, ROW_MISMATCH, TOKEN};
+    use crate::answers::{self, BROKEN_SHEET, DONE, NO_SUCH_PLACE, ROW_MISMATCH, TOKEN};
     use crate::{link, sheet};
 
     const SOURCE: &str = "%%\na 'A'";
@@ -110,6 +146,15 @@ mod tests {
         let token = |start, length| answers::word(TOKEN, &[9, start, length]);
         assert_eq!(words, [token(0, 2), ROW_MISMATCH, token(2, 1), DONE]);
         assert_eq!(run, Run { numbers: [3, 3, 1, 2], stack: vec![0, 0, 7, 7, 7, 7, 7, 7] });
+    }
+
+    #[test]
+    fn the_library_finds_a_place_and_the_way_back() {
+        let source = Source::new("é\nab".as_bytes(), 1, 0x80);
+        assert_eq!(source.line_column(4, [7, 7]), (0, [2, 2]));
+        assert_eq!(source.offset_at(2, 2), answers::word(0, &[4]));
+        assert_eq!(source.line_column(1, [7, 7]), (NO_SUCH_PLACE, [7, 7]));
+        assert!(source.is_unchanged());
     }
 
     #[test]

@@ -7,7 +7,7 @@ use std::ffi::{CStr, CString, c_char, c_int, c_void};
 use std::mem::transmute;
 use std::os::unix::ffi::OsStrExt;
 use std::path::Path;
-use troymantle_sys::{Link, Parse, PatternTest, Start, Step};
+use troymantle_sys::{LineColumn, Link, OffsetAt, Parse, PatternTest, Start, Step};
 
 unsafe extern "C" {
     fn dlopen(file: *const c_char, flags: c_int) -> *mut c_void;
@@ -38,6 +38,9 @@ pub struct Library {
     link: Link,
     start: Start,
     step: Step,
+    /// None in a build from before these calls.
+    line_column: Option<LineColumn>,
+    offset_at: Option<OffsetAt>,
 }
 
 /// The static library that this program was built with.
@@ -48,6 +51,8 @@ pub const LINKED: Library = Library {
     link: troymantle_sys::troymantle_link,
     start: troymantle_sys::troymantle_start,
     step: troymantle_sys::troymantle_step,
+    line_column: Some(troymantle_sys::troymantle_line_column),
+    offset_at: Some(troymantle_sys::troymantle_offset_at),
 };
 
 impl Library {
@@ -72,7 +77,18 @@ impl Library {
                 link: transmute::<*mut c_void, Link>(find(c"troymantle_link")?),
                 start: transmute::<*mut c_void, Start>(find(c"troymantle_start")?),
                 step: transmute::<*mut c_void, Step>(find(c"troymantle_step")?),
+                line_column: find(c"troymantle_line_column").ok().map(|it| transmute::<*mut c_void, LineColumn>(it)),
+                offset_at: find(c"troymantle_offset_at").ok().map(|it| transmute::<*mut c_void, OffsetAt>(it)),
             })
+        }
+    }
+
+    /// Whether the build has the function. Only the later ones can be missing.
+    pub fn has(&self, function: &str) -> bool {
+        match function {
+            "troymantle_line_column" => self.line_column.is_some(),
+            "troymantle_offset_at" => self.offset_at.is_some(),
+            _ => true,
         }
     }
 
@@ -153,6 +169,18 @@ impl Library {
         unsafe {
             on_sheet!((self.step), sheet, sheet.areas[1], as_ptr, numbers, stack, stack_length, row.as_ptr(), row.len())
         }
+    }
+
+    pub fn line_column(&self, source: &[u8], offset: u64, place: &mut [u32; 2]) -> u64 {
+        let call = self.line_column.expect("the library has troymantle_line_column");
+        // SAFETY: the source's pointer goes with its length; the call writes the two numbers alone.
+        unsafe { call(source.as_ptr(), source.len(), offset, place) }
+    }
+
+    pub fn offset_at(&self, source: &[u8], line: u64, column: u64) -> u64 {
+        let call = self.offset_at.expect("the library has troymantle_offset_at");
+        // SAFETY: the source's pointer goes with its length, and the call writes nothing.
+        unsafe { call(source.as_ptr(), source.len(), line, column) }
     }
 }
 

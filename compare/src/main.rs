@@ -15,6 +15,7 @@ mod misreadings;
 mod model;
 mod options;
 mod oracle;
+mod place;
 mod random;
 mod record;
 mod recorded;
@@ -66,6 +67,11 @@ compare step        compares runs with the original's lexer loop and with the ru
     --cases N       how many runs (20000)
     --seed S        (1)
     --first I       the number of the first run (0)
+compare place       compares lines and columns of offsets, and the way back, with 02's words, and with the original's
+                    NewlineCache where both mean the same
+    --cases N       how many sources (20000)
+    --seed S        (1)
+    --first I       the number of the first source (0)
 compare self-test   checks 01's files to try, and that the cases notice every deliberate misreading of 01
     --cases N       how many cases at most (200000)
     --seed S        (1)
@@ -120,6 +126,10 @@ fn dispatch(arguments: &[String]) -> Result<(), String> {
         "step" => {
             let options = Options::read(rest, &["--cases", "--seed", "--first"])?;
             step::run(options.number("--seed", 1)?, options.number("--first", 0)?, options.number("--cases", 20_000)?)
+        }
+        "place" => {
+            let options = Options::read(rest, &["--cases", "--seed", "--first"])?;
+            place::run(options.number("--seed", 1)?, options.number("--first", 0)?, options.number("--cases", 20_000)?)
         }
         "self-test" => {
             let options = Options::read(rest, &["--cases", "--seed"])?;

@@ -21,7 +21,7 @@ pub fn case(case: &Case) -> String {
 }
 
 /// As a Rust byte string.
-fn source(bytes: &[u8]) -> String {
+pub fn source(bytes: &[u8]) -> String {
     let quoted = |bytes: &[u8]| bytes.escape_ascii().to_string();
     if bytes.len() <= SHOWN_SOURCE {
         return format!("b\"{}\"", quoted(bytes));

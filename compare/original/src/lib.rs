@@ -9,13 +9,13 @@ mod engine;
 mod stand_ins;
 
 pub use lexer::definition::{Definition, Lexed, Linked, lend_rows};
+pub use newlinecache::NewlineCache;
 pub use span::Span;
 pub use stand_ins::{LexError, Lexeme, LexerTypes, is_meta_character};
 
 use defaults::DefaultLexerTypes;
 use header::HeaderErrorKind;
 use lexer::DEFAULT_LEX_FLAGS;
-use newlinecache::NewlineCache;
 use parser::{LexParser, StartStateOperation};
 use yacc::parser::SpansKind;
 
@@ -24,9 +24,16 @@ mod span {
     include!(env!("ORIGINAL_SPAN"));
 }
 
-#[allow(dead_code)]
+#[allow(dead_code, clippy::new_without_default)]
 mod newlinecache {
     include!(env!("ORIGINAL_NEWLINES"));
+
+    impl NewlineCache {
+        /// Where the line starts: the original's `line_num_to_byte`, which is private.
+        pub fn line_byte_of(&self, line_num: usize) -> Option<usize> {
+            self.line_num_to_byte(line_num)
+        }
+    }
 }
 
 #[allow(dead_code)]

@@ -2,7 +2,7 @@
 //! as `compare once`, which does a shape once, and callgrind counts inside our function alone.
 
 use super::shape::{Shape, plainly};
-use super::{Wanted, chosen, layouts, shapes};
+use super::{Wanted, callable, chosen, layouts, shapes};
 use crate::library::Library;
 use crate::{options, show};
 use std::path::{Path, PathBuf};
@@ -21,12 +21,15 @@ pub fn count(wanted: &Wanted) -> Result<(), String> {
     look_for_valgrind()?;
     let mut names = vec!["original"];
     let mut objects: Vec<Option<PathBuf>> = vec![None];
+    let mut libraries = vec![];
     for (name, archive) in wanted.archives()? {
+        let object = layouts::build(&archive, name, 0)?;
+        libraries.push((name, Library::load(&object)?));
         names.push(name);
-        objects.push(Some(layouts::build(&archive, name, 0)?));
+        objects.push(Some(object));
     }
     println!("{}", title(&names));
-    for shape in shapes {
+    for shape in callable(shapes, &libraries) {
         if shape.slow && wanted.words.is_empty() {
             println!("{}: left out, since counting takes minutes; name it to have it", shape.name);
             continue;

@@ -6,6 +6,7 @@ mod growth;
 mod hostile;
 mod layouts;
 mod links;
+mod places;
 mod plot;
 mod runs;
 mod shape;
@@ -40,6 +41,8 @@ pub fn bench(wanted: &Wanted) -> Result<(), String> {
     let shapes = chosen(&wanted.words)?;
     let plot = wanted.plot(growth::is_whole(&shapes))?;
     let sides = wanted.sides()?;
+    let libraries: Vec<(&str, Library)> = sides.iter().map(|side| (side.name, side.layouts[0])).collect();
+    let shapes = callable(shapes, &libraries);
     let (growing, plain): (Vec<Shape>, Vec<Shape>) = shapes.into_iter().partition(|shape| shape.point.is_some());
     if !plain.is_empty() {
         println!("{}", times::title(&sides));
@@ -98,7 +101,22 @@ impl Wanted {
 }
 
 fn shapes() -> Vec<Shape> {
-    [files::shapes(), links::shapes(), runs::shapes(), growth::shapes()].into_iter().flatten().collect()
+    [files::shapes(), links::shapes(), runs::shapes(), places::shapes(), growth::shapes()]
+        .into_iter()
+        .flatten()
+        .collect()
+}
+
+/// The shapes whose function every library has; the others are told. A library from before a call has it not.
+fn callable(mut shapes: Vec<Shape>, libraries: &[(&str, Library)]) -> Vec<Shape> {
+    shapes.retain(|shape| match libraries.iter().find(|(_, library)| !library.has(shape.function)) {
+        Some((name, _)) => {
+            println!("{}: left out, since the library `{name}` has no {}", shape.name, shape.function);
+            false
+        }
+        None => true,
+    });
+    shapes
 }
 
 /// The shapes whose name contains one of the words; without words all.
@@ -130,7 +148,7 @@ mod tests {
         assert_eq!(names(&["step"]), Ok(of("step")));
         assert_eq!(names(&["growth"]), Ok(all[all.len() - 19..].to_vec()));
         assert_eq!(names(&["growth: step"]).map(|names| names.len()), Ok(12));
-        assert_eq!(names(&["parse", "link", "step"]), Ok(all.clone()));
+        assert_eq!(names(&["parse", "link", "step", "place"]), Ok(all.clone()));
         assert_eq!(names(&["small", "10 rules"]).map(|names| names.len()), Ok(5));
         assert!(names(&["step", "stop"]).is_err_and(|told| told.contains("`stop`")));
     }
@@ -178,7 +196,7 @@ mod tests {
     fn a_loaded_library_answers_as_the_linked_one() {
         let ours = wanted(None, None, 2).archives().unwrap_or_default();
         let libraries = layouts::load(&ours[0].1, "tested", 2).unwrap_or_else(|told| panic!("{told}"));
-        for shape in chosen(&["small file", "10 rules", "growth"].map(str::to_string)).unwrap_or_default() {
+        for shape in chosen(&["small file", "10 rules", "place", "growth"].map(str::to_string)).unwrap_or_default() {
             let work = shape.work();
             for library in libraries.iter().chain([&crate::library::LINKED]) {
                 assert!(!(work.ours)(library).is_zero());

@@ -54,6 +54,8 @@ pub enum Note {
     BareWalk(Box<dyn Fn() -> Duration>),
     /// Another call that does the sheet check and little else.
     SheetCheck(Box<dyn Fn(&Library) -> Duration>),
+    /// The original behind a check of UTF-8, which it takes for granted.
+    TextCheck(Box<dyn Fn() -> Duration>),
 }
 
 pub fn plainly(work: &mut dyn FnMut()) {

@@ -81,7 +81,7 @@ pub fn shortest(work: &Work, sides: &[Side]) -> Vec<Duration> {
 fn note_timers<'a>(note: Option<&'a Note>, sides: &'a [Side]) -> Vec<Timer<'a>> {
     let timer = |check: &'a dyn Fn(&Library) -> Duration, library| Box::new(move || check(library)) as Timer;
     match (note, sides.last()) {
-        (Some(Note::BareWalk(walk)), _) => vec![Box::new(walk)],
+        (Some(Note::BareWalk(timer) | Note::TextCheck(timer)), _) => vec![Box::new(timer)],
         (Some(Note::SheetCheck(check)), Some(side)) => {
             side.layouts.iter().map(|library| timer(check, library)).collect()
         }
@@ -167,6 +167,10 @@ fn note_line(note: &Note, time: f64, times: &Times) -> String {
         Note::BareWalk(_) => {
             let ratio = times.original / time;
             format!("a bare walk, which does less than a parse: {told} microseconds, original ÷ it {ratio:.2}")
+        }
+        Note::TextCheck(_) => {
+            let ours = times.sides.last().map(|ours| format!(", it ÷ ours {:.2}", time / ours.median));
+            format!("the original behind from_utf8 of the bytes: {told} microseconds{}", ours.unwrap_or_default())
         }
     }
 }

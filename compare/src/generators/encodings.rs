@@ -4,7 +4,7 @@ use super::{Draft, grammar, letters_of_index};
 use crate::random::Random;
 
 /// The bytes at the edges of the rows of Unicode's table of well-formed sequences, and some whitespace's.
-const BYTES: &[u8] = &[
+pub const EDGE_BYTES: &[u8] = &[
     b'a', b'%', 0x7f, 0x80, 0x85, 0x8f, 0x90, 0x9f, 0xa0, 0xa8, 0xbf, 0xc0, 0xc1, 0xc2, 0xdf, 0xe0, 0xe2, 0xec, 0xed,
     0xee, 0xef, 0xf0, 0xf1, 0xf3, 0xf4, 0xf5, 0xff,
 ];
@@ -30,8 +30,8 @@ const SEQUENCES: &[&[u8]] = &[
 
 pub fn draft(random: &mut Random, index: u64) -> Draft {
     if index.is_multiple_of(2) {
-        let letters = letters_of_index(index / 2, BYTES.len());
-        let bytes = letters.iter().map(|letter| BYTES[*letter]);
+        let letters = letters_of_index(index / 2, EDGE_BYTES.len());
+        let bytes = letters.iter().map(|letter| EDGE_BYTES[*letter]);
         let start: &[u8] = random.pick(&[b"" as &[u8], b"%%\n", b"%%\n\\"]);
         return Draft::new(start.iter().copied().chain(bytes).collect::<Vec<u8>>(), 0);
     }
@@ -45,11 +45,12 @@ pub fn draft(random: &mut Random, index: u64) -> Draft {
     draft
 }
 
-fn damage(random: &mut Random, source: &mut Vec<u8>) {
+/// Cuts, changes, removes or inserts something.
+pub fn damage(random: &mut Random, source: &mut Vec<u8>) {
     let at = random.below(source.len() + 1);
     match random.below(4) {
         0 => source.truncate(at),
-        1 if at < source.len() => source[at] = random.pick(BYTES),
+        1 if at < source.len() => source[at] = random.pick(EDGE_BYTES),
         2 if at < source.len() => {
             source.remove(at);
         }

@@ -11,6 +11,7 @@ mod room;
 use crate::case::{AREAS, Case};
 use crate::random::Random;
 
+pub use encodings::{EDGE_BYTES, damage};
 pub use room::roomy;
 
 #[derive(Clone, Copy, Debug, PartialEq, Eq)]
@@ -114,7 +115,7 @@ fn random_verdicts(random: &mut Random) -> Vec<u8> {
 }
 
 /// The string of that index over an alphabet of that many letters: all of length 0, then 1, and so on.
-fn letters_of_index(mut index: u64, alphabet: usize) -> Vec<usize> {
+pub fn letters_of_index(mut index: u64, alphabet: usize) -> Vec<usize> {
     let alphabet = alphabet as u64;
     let (mut length, mut strings) = (0, 1);
     while index >= strings {
