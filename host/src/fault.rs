@@ -2,7 +2,7 @@
 
 use crate::numbers;
 use crate::records::records;
-use crate::{Place, Places, Refusal};
+use crate::Place;
 use std::fmt;
 use std::ops::Range;
 
@@ -25,12 +25,16 @@ impl Fault {
     }
 
     /// The faults that area 6 has of a file.
-    pub(crate) fn listed(source: &[u8], area: &[u8], spans: usize) -> Result<Vec<Fault>, Refusal> {
-        let places = Places::new(source)?;
+    pub(crate) fn listed(source: &[u8], area: &[u8], spans: usize) -> Vec<Fault> {
         let listed = spans_of_faults(area, spans).into_iter();
-        let faults = listed.map(|(kind, spans)| Ok(Fault { kind, place: places.place(offset(&spans))?, spans }));
-        faults.collect()
+        listed.map(|(kind, spans)| Fault { kind, place: place(source, offset(&spans)), spans }).collect()
     }
+}
+
+/// The place of a fault's offset. Faults start at edges between characters; were one inside a character, it would have the
+/// place of that character, so that no fault is lost.
+fn place(source: &[u8], offset: usize) -> Place {
+    (offset.saturating_sub(3)..=offset).rev().find_map(|at| Place::of(source, at).ok()).unwrap_or(Place::FIRST)
 }
 
 fn offset(spans: &[Range<usize>]) -> usize {

@@ -81,7 +81,7 @@ impl<'a> LexFile<'a> {
                 AREA_FULL => return Err(Refusal::AreaFull(value)),
                 FAULTY_FILE => {
                     let [.., six] = areas;
-                    return Err(Refusal::FaultyFile(Fault::listed(self.source, &six, usize::from(value))?));
+                    return Err(Refusal::FaultyFile(Fault::listed(self.source, &six, usize::from(value))));
                 }
                 number => return Err(Refusal::of(number)),
             }

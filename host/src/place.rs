@@ -27,7 +27,7 @@ pub struct Place {
 
 impl Place {
     /// Where every text starts.
-    const FIRST: Place = Place { line: 1, column: 1 };
+    pub(crate) const FIRST: Place = Place { line: 1, column: 1 };
 
     /// The place of an offset in bytes; the text's length has one too. This passes over the whole text; for many offsets
     /// of one text there is [`Places`].

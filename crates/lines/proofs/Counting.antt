@@ -17,7 +17,7 @@ use Rattle.characters.specs.declared.Found.the-variants.{At, Nothing}
 use Rattle.characters.proofs.Tests.{answer-yes, answer-no}
 use Rattle.characters.proofs.Walks.{last-found, last-again, last-ended}
 use Rattle.characters.proofs.Counts.{count-none, counted-most, counted-next, counted-ended}
-use Rattle.lines.specs.Lines.{endsLine, behindEnd}
+use Rattle.lines.specs.Lines.{lineFeed, endsLine, behindEnd}
 use Rattle.lines.specs.Places.{ShortRange}
 
 -- 1 where a test passes, and 0 where it does not
@@ -27,11 +27,11 @@ one-at t e = rw e
 pub none-at : (t : Bool) → t ≡ false → 0 ≡ oneIf t
 none-at t e = rw e
 
-pub is-line-feed : (b : ℕ) → b ≡ 0x0a → 1 ≡ oneIf (eqb b 0x0a)
-is-line-feed b e = one-at (eqb b 0x0a) (eq-eqb b 0x0a e)
+pub is-line-feed : (b : ℕ) → b ≡ lineFeed → 1 ≡ oneIf (eqb b lineFeed)
+is-line-feed b e = one-at (eqb b lineFeed) (eq-eqb b lineFeed e)
 
-pub no-line-feed : (b : ℕ) → (b ≡ 0x0a → ⊥) → 0 ≡ oneIf (eqb b 0x0a)
-no-line-feed b d = none-at (eqb b 0x0a) (ne-eqb b 0x0a d)
+pub no-line-feed : (b : ℕ) → (b ≡ lineFeed → ⊥) → 0 ≡ oneIf (eqb b lineFeed)
+no-line-feed b d = none-at (eqb b lineFeed) (ne-eqb b lineFeed d)
 
 pub inside-none : (r b : Bool) → r ≡ b → r ≡ true → 0 ≡ oneIf (not b)
 inside-none r b e f = none-at (not b) (answer-yes r b e f)
@@ -58,14 +58,14 @@ pub ruleset counting-bytes = (needs, range-inside, count-begins, count-fits, cou
 -- ---- the loop came down from e and stands at k
 
 module _ (s : List ℕ) (i e k : ℕ) (before : last (endsLine s) i e ≡ last (endsLine s) i k) where
-  pub line-start-found : i < k → byte s (k - 1) ≡ 0x0a → k ≡ behindEnd (last (endsLine s) i e)
+  pub line-start-found : i < k → byte s (k - 1) ≡ lineFeed → k ≡ behindEnd (last (endsLine s) i e)
   unfolding behindEnd
   line-start-found h q =
       let p : k ≡ k - 1 + 1 = omega arith in
-      p ∙ ap behindEnd (last-found (endsLine s) i k e before h (eq-eqb (byte s (k - 1)) 0x0a q))
+      p ∙ ap behindEnd (last-found (endsLine s) i k e before h (eq-eqb (byte s (k - 1)) lineFeed q))
 
-  pub line-start-again : i < k → (byte s (k - 1) ≡ 0x0a → ⊥) → last (endsLine s) i e ≡ last (endsLine s) i (k - 1)
-  line-start-again h d = last-again (endsLine s) i k e before h (ne-eqb (byte s (k - 1)) 0x0a d)
+  pub line-start-again : i < k → (byte s (k - 1) ≡ lineFeed → ⊥) → last (endsLine s) i e ≡ last (endsLine s) i (k - 1)
+  line-start-again h d = last-again (endsLine s) i k e before h (ne-eqb (byte s (k - 1)) lineFeed d)
 
   pub line-start-none : k ≤ i → 0 ≡ behindEnd (last (endsLine s) i e)
   unfolding behindEnd

@@ -16,7 +16,7 @@ use Rattle.characters.specs.Whitespace.{byte}
 use Rattle.characters.proofs.Tests.{and-left, and-right, or-true, not-false, range-of, le-or-lt}
 use Rattle.characters.proofs.Counts.{count-some, count-failing}
 use Rattle.lines.specs.declared.Place.{Place}
-use Rattle.lines.specs.Lines.{endsLine, lineNum, colNum, place, isAllowed, stands, lineOf, columnOf}
+use Rattle.lines.specs.Lines.{lineFeed, endsLine, lineNum, colNum, place, isAllowed, stands, lineOf, columnOf}
 use Rattle.lines.specs.Places.{placeAt, isPast}
 use Rattle.lines.proofs.Moving.{line-on, column-on}
 
@@ -114,7 +114,7 @@ inside-stays s i e =
     one m h l = omega arith
 
     no-end : endsLine s i ≡ false
-    no-end = ne-eqb (byte s i) 0x0a (λ q. omega (arith, q, range-of 0x80 0xbf (byte s i) (not-false (isContinuation (byte s i)) e) .0))
+    no-end = ne-eqb (byte s i) lineFeed (λ q. omega (arith, q, range-of 0x80 0xbf (byte s i) (not-false (isContinuation (byte s i)) e) .0))
 
 -- ---- which offsets stand at a place
 

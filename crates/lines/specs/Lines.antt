@@ -20,9 +20,13 @@ use Rattle.lines.specs.declared.OffsetAt.the-variants as O
 
 -- ---- the line and column of an offset
 
--- a line ends at U+000A only
+-- U+000A, which is one byte
+abbrev pub lineFeed : ℕ
+lineFeed = 0x0a
+
+-- a line ends at it only
 abbrev pub endsLine : List ℕ → ℕ → Bool
-endsLine s k = eqb (byte s k) 0x0a
+endsLine s k = eqb (byte s k) lineFeed
 
 -- the line of the offset b, from 1: the line ends before it are counted
 unfoldable pub lineNum : List ℕ → ℕ → ℕ

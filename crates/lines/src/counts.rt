@@ -5,17 +5,20 @@ ghost use lib.Dec.{eqb};
 ghost use Rattle.area.specs.Contracts.{before};
 ghost use Rattle.characters.specs.Utf8.{isContinuation, atEdge};
 ghost use Rattle.characters.specs.Walk.{oneIf, last, count};
-ghost use Rattle.lines.specs.Lines.{endsLine, behindEnd};
+ghost use Rattle.lines.specs.Lines.{lineFeed, endsLine, behindEnd};
 ghost use Rattle.lines.specs.Places.{ShortRange};
 use crate::Byte;
 use crate::LineByte;
 use characters::utf8::is_continuation;
 
+// A line ends at it only.
+const LINE_FEED: u8 = 0x0a;
+
 // 1 for a byte that ends a line.
 fn ends_line(b: u8) -> u8
-    ensures { λ r. ⌜ r ≡ oneIf (eqb b 0x0a) ⌝ }
+    ensures { λ r. ⌜ r ≡ oneIf (eqb b lineFeed) ⌝ }
 {
-    if b == 0x0a { 1 } else { 0 }
+    if b == LINE_FEED { 1 } else { 0 }
 }
 
 // 1 for the first byte of a character.
@@ -63,7 +66,7 @@ pub fn line_byte(s: &[u8], from: Byte, to: Byte) -> LineByte
     let i = from.0;
     let mut k = to.0;
     while i < k {
-        if s[k - 1] == 0x0a {
+        if s[k - 1] == LINE_FEED {
             return LineByte(k);
         }
         k -= 1;
