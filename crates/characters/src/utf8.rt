@@ -1,8 +1,9 @@
 // Well-formed UTF-8: the rows of the Unicode standard's table 3-7, and a walk from character to character.
 ghost use mathlib.Core.Path.{_≡_};
-ghost use Prim.Native.Nat.{_≤_};
+ghost use Prim.Native.Nat.{_+_, _≤_};
 ghost use lib.ListN.{length};
-ghost use Rattle.characters.specs.Shortcuts.{Tells};
+ghost use Rattle.characters.specs.Walk.{any};
+ghost use Rattle.characters.specs.Shortcuts.{RulesOut, Tells, outOfPlace, outOfPlaceBehind, startsOutOfPlace, endsOutOfPlace};
 ghost use Rattle.characters.specs.Whitespace.{Width};
 ghost use Rattle.characters.specs.Utf8;
 ghost use Rattle.characters.specs.Utf8.{isContinuation, twoBytes, threeBytes, fourBytes, charOf, charLen};
@@ -90,10 +91,66 @@ fn is_ascii(s: &[u8]) -> bool
     !above
 }
 
+// Whether no well-formed text has d behind the bytes a b c.
+fn is_out_of_place(a: u8, b: u8, c: u8, d: u8) -> bool
+    ensures { λ r. ⌜ r ≡ outOfPlace a b c d ⌝ }
+{
+    let goes_on = (0xc0 <= c) | ((0xe0 <= b) | (0xf0 <= a));
+    let inside = (0x80 <= d) & (d <= 0xbf);
+    let below_a0 = (0x80 <= d) & (d <= 0x9f);
+    let below_90 = (0x80 <= d) & (d <= 0x8f);
+    ((goes_on & !inside) | (!goes_on & inside))
+        | ((((0xc0 <= d) & (d <= 0xc1)) | (0xf5 <= d))
+            | ((((c == 0xe0) & below_a0) | ((c == 0xed) & !below_a0))
+                | (((c == 0xf0) & below_90) | ((c == 0xf4) & !below_90))))
+}
+
+fn starts_out_of_place(a: u8, b: u8, c: u8) -> bool
+    ensures { λ r. ⌜ r ≡ startsOutOfPlace a b c ⌝ }
+{
+    is_out_of_place(0, 0, 0, a) | (is_out_of_place(0, 0, a, b) | is_out_of_place(0, a, b, c))
+}
+
+fn ends_out_of_place(a: u8, b: u8, c: u8) -> bool
+    ensures { λ r. ⌜ r ≡ endsOutOfPlace a b c ⌝ }
+{
+    is_out_of_place(a, b, c, 0) | (is_out_of_place(b, c, 0, 0) | is_out_of_place(c, 0, 0, 0))
+}
+
+// Whether one of the n bytes from position 3 on is out of place. Each is looked at by itself, so that the compiler can take many at once.
+fn has_out_of_place(s: &[u8], n: usize) -> bool
+    requires { ⌜ n + 3 ≤ length (now s) ⌝ }
+    ensures { λ r. ⌜ RulesOut (any (outOfPlaceBehind (now (s .entry))) n) r ⌝ }
+{
+    let mut found = false;
+    let mut k = 0;
+    while k < n {
+        found = found | is_out_of_place(s[k], s[k + 1], s[k + 2], s[k + 3]);
+        k += 1;
+    }
+    found
+}
+
+// Whether every byte is in place, those of a text of three bytes or more; of a shorter one nothing is said.
+fn is_in_place(s: &[u8]) -> bool
+    ensures { λ r. ⌜ Tells (Utf8.utf8 (now (s .entry))) r ⌝ }
+{
+    if s.len() < 3 {
+        return false;
+    }
+    let n = s.len() - 3;
+    let starts = starts_out_of_place(s[0], s[1], s[2]);
+    let ends = ends_out_of_place(s[n], s[n + 1], s[n + 2]);
+    !(starts | (has_out_of_place(s, n) | ends))
+}
+
 pub fn utf8(s: &[u8]) -> bool
     ensures { λ r. ⌜ r ≡ Utf8.utf8 (now (s .entry)) ⌝ }
 {
     if is_ascii(s) {
+        return true;
+    }
+    if is_in_place(s) {
         return true;
     }
     let mut k = 0;
