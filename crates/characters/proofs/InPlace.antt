@@ -4,11 +4,11 @@ use mathlib.Core.Path.{_≡_, refl, sym, ap, _∙_}
 use mathlib.Core.Bool.{Bool, true, false, not, _&&_, _||_, true≢false, false≢true}
 use mathlib.Core.List.{List}
 use mathlib.Core.Logic.{⊎-elim}
-use Prim.Native.Nat.{ℕ, zero, suc, _+_, _≤_, _<_}
+use Prim.Native.Nat.{ℕ, zero, suc, _+_, _-_, _≤_, _<_}
 use native.Mathlib.Nat.{add-assoc, eq-or-lt-of-le, eq-zero-or-pos}
 use native.Mathlib.Omega.{arith}
 use borrow.Author.Needs.{needs}
-use borrow.Author.Tests.{le-leb, lt-leb, leb-false, eq-eqb, not-false}
+use borrow.Author.Tests.{le-leb, lt-leb, leb-false, eq-eqb, ne-eqb, not-false}
 use lib.Dec.{leb, eqb}
 use lib.ListN.{length, List·getD-eq-default}
 use Rattle.characters.specs.Class.{within}
@@ -20,7 +20,8 @@ use Rattle.characters.specs.Shortcuts.{outOfPlace, outOfPlaceBehind, sta
 use Rattle.characters.proofs.Tests.{or-none, or-true, range-of, le-or-lt, not-true}
 use Rattle.characters.proofs.Spaces.{byte-inside}
 use Rattle.characters.proofs.Chars.{char-one, char-two, char-three, char-four, char-fits, char-inside}
-use Rattle.characters.proofs.Runs.{none-passes, none-ruled-out, rules-out-again, rules-out-ended}
+use Rattle.characters.proofs.Runs.{none-passes, none-of, none-ruled-out, rules-out-again, rules-out-ended, rules-itself-out, answer-rules-out}
+use Rattle.characters.proofs.Runs.{none-yet, block-passed, rest-rules-out, rules-out-nothing, tells-nothing}
 use Rattle.characters.proofs.Encoding.{row-c2, row-e0, row-e1, row-ed, row-ee, row-f0, row-f1, row-f4, not-two, not-three}
 use Rattle.characters.proofs.Encoding.{chars-stay, chars-go}
 
@@ -365,14 +366,39 @@ in-place-tells s n x y z f g h e =
           in-place-well-formed s n e (sym f ∙ t .0) (g .none (t .1)) (sym h ∙ t .2);
     }
 
--- a test that does not pass says nothing
-pub tells-nothing : (p : Bool) → Tells p false
-tells-nothing p = record { holds = λ e. absurd (false≢true e) }
+-- ---- blocks of ASCII bytes
 
-pub answer-rules-out : (p r : Bool) → r ≡ p → RulesOut p r
-answer-rules-out p r e = record { none = λ f. sym e ∙ f }
+ascii-in-place : (a b c d : ℕ) → a < 0x80 → b < 0x80 → c < 0x80 → d < 0x80 → outOfPlace a b c d ≡ false
+unfolding outOfPlace
+ascii-in-place a b c d ha hb hc hd =
+    let g : goesOn a b c ≡ false = none-goes-on a b c (omega arith) (omega arith) (omega arith) in
+    let e0 : eqb c 0xe0 ≡ false = ne-eqb c 0xe0 (omega arith) in
+    let ed : eqb c 0xed ≡ false = ne-eqb c 0xed (omega arith) in
+    let f0 : eqb c 0xf0 ≡ false = ne-eqb c 0xf0 (omega arith) in
+    let f4 : eqb c 0xf4 ≡ false = ne-eqb c 0xf4 (omega arith) in
+    simp (g, lt-leb 0x80 d hd, lt-leb 0xc0 d (omega arith), lt-leb 0xf5 d (omega arith), e0, ed, f0, f4)
+
+pub ascii-block :
+    (s : List ℕ) (k : ℕ) (r : Bool)
+    → RulesOut (any (λ j. leb 0x80 (byte s (k + j))) 80) r
+    → not r ≡ true
+    → RulesOut (any (λ j. outOfPlaceBehind s (k + j)) 64) false
+ascii-block s k r f e = record { none = λ z. none-of (λ j. outOfPlaceBehind s (k + j)) 64 in-place }
+  where
+    low : (j : ℕ) (i : ℕ) → i ≡ k + j → j < 80 → byte s i < 0x80
+    low j i q h = rw q (leb-false 0x80 (byte s (k + j)) (none-passes (λ m. leb 0x80 (byte s (k + m))) 80 j (f .none (not-true r e)) h))
+
+    in-place : (j : ℕ) → j < 64 → outOfPlaceBehind s (k + j) ≡ false
+    in-place j h =
+        ascii-in-place (byte s (k + j)) (byte s (k + j + 1)) (byte s (k + j + 2)) (byte s (k + j + 3))
+        (low j (k + j) refl (omega arith))
+        (low (j + 1) (k + j + 1) (omega arith) (omega arith))
+        (low (j + 2) (k + j + 2) (omega arith) (omega arith))
+        (low (j + 3) (k + j + 3) (omega arith) (omega arith))
 
 pub one-of-three : (x y z p q r : Bool) → x ≡ p → y ≡ q → z ≡ r → x || (y || z) ≡ p || (q || r)
 one-of-three x y z p q r e f g = cc
 
-pub ruleset looking-for-out-of-place = (needs, one-of-three, none-ruled-out, rules-out-again, rules-out-ended, answer-rules-out, tells-nothing)
+pub ruleset looking-for-out-of-place = (needs, one-of-three, none-ruled-out, rules-out-again, rules-out-ended, rules-itself-out, answer-rules-out, tells-nothing)
+
+pub ruleset passing-blocks = (needs, none-yet, block-passed, rest-rules-out, rules-out-nothing)

@@ -1,9 +1,9 @@
 -- Positions that are looked at together: what a test rules out of all of them. So a text of ASCII bytes is well formed.
 use mathlib.Core.Path.{_≡_, refl, sym, ap, _∙_}
-use mathlib.Core.Bool.{Bool, true, false, not, _||_}
+use mathlib.Core.Bool.{Bool, true, false, not, _||_, true≢false, false≢true}
 use mathlib.Core.List.{List}
 use mathlib.Core.Logic.{⊎-elim}
-use Prim.Native.Nat.{ℕ, zero, suc, _+_, _≤_, _<_}
+use Prim.Native.Nat.{ℕ, zero, suc, _+_, _-_, _≤_, _<_}
 use native.Mathlib.Nat.{eq-or-lt-of-le, le-of-suc-le-suc, eq-zero-or-pos}
 use native.Mathlib.Numerals.{add-one}
 use native.Mathlib.Omega.{arith}
@@ -15,7 +15,7 @@ use Rattle.characters.specs.Walk.{any}
 use Rattle.characters.specs.Whitespace.{byte}
 use Rattle.characters.specs.Utf8.{charLen, skipChars, utf8}
 use Rattle.characters.specs.Shortcuts.{RulesOut, Tells}
-use Rattle.characters.proofs.Tests.{or-none, not-true}
+use Rattle.characters.proofs.Tests.{or-none, not-true, le-or-lt}
 use Rattle.characters.proofs.Shortcuts.{told}
 use Rattle.characters.proofs.Walks.{skip-stays, skip-goes}
 use Rattle.characters.proofs.Chars.{char-one, char-fits, char-inside, walking}
@@ -30,6 +30,11 @@ module _ (test : ℕ → Bool) where
       let p = or-none (any test n) (test n) e in
       ⊎-elim (λ q. ap test q ∙ p .1) (λ l. none-passes n m (p .0) l) (eq-or-lt-of-le (le-of-suc-le-suc h))
 
+  pub none-of : (n : ℕ) → ((m : ℕ) → m < n → test m ≡ false) → any test n ≡ false
+  unfolding any
+  none-of zero f = refl
+  none-of (suc n) f = rw (none-of n (λ m h. f m (omega arith)), f n (omega arith)) refl
+
   pub none-ruled-out : RulesOut (any test 0) false
   unfolding any
   none-ruled-out = record { none = λ e. refl }
@@ -43,6 +48,30 @@ module _ (test : ℕ → Bool) where
   rules-out-ended found k n f a b =
       let q : k ≡ n = omega arith in
       rw (← q) f
+
+-- ---- all of the first n positions, a block after the other
+
+module _ (test : ℕ → Bool) where
+  pub none-yet : any test 0 ≡ false
+  unfolding any
+  none-yet = refl
+
+  module _ (k : ℕ) (before : any test k ≡ false) where
+    none-behind : (n : ℕ) → any (λ j. test (k + j)) n ≡ false → any test (k + n) ≡ false
+    none-behind n e = none-of test (k + n) (λ m h. ⊎-elim (λ l. here m l h) (none-passes test k m before) (le-or-lt k m))
+      where
+        here : (m : ℕ) → k ≤ m → m < k + n → test m ≡ false
+        here m l h =
+            let q : m ≡ k + (m - k) = omega arith in
+            ap test q ∙ none-passes (λ j. test (k + j)) n (m - k) e (omega arith)
+
+    pub block-passed : (n : ℕ) (r : Bool) → RulesOut (any (λ j. test (k + j)) n) r → r ≡ false → any test (k + n) ≡ false
+    block-passed n r f e = none-behind n (f .none e)
+
+    pub rest-rules-out : (n : ℕ) (r : Bool) → RulesOut (any (λ j. test (k + j)) (n - k)) r → k ≤ n → RulesOut (any test n) r
+    rest-rules-out n r f h =
+        let q : k + (n - k) ≡ n = omega arith in
+        record { none = λ e. rw (← q) (none-behind (n - k) (f .none e)) }
 
 -- ---- a text of ASCII bytes is well formed
 
@@ -74,6 +103,16 @@ ascii-tells s above k f a b =
 
 pub rules-itself-out : (p : Bool) → RulesOut p p
 rules-itself-out p = record { none = λ e. e }
+
+pub answer-rules-out : (p r : Bool) → r ≡ p → RulesOut p r
+answer-rules-out p r e = record { none = λ f. sym e ∙ f }
+
+-- a test that passes rules nothing out, and one that does not tells nothing
+pub rules-out-nothing : (p : Bool) → RulesOut p true
+rules-out-nothing p = record { none = λ e. absurd (true≢false e) }
+
+pub tells-nothing : (p : Bool) → Tells p false
+tells-nothing p = record { holds = λ e. absurd (false≢true e) }
 
 pub ruleset looking-for-ascii = (needs, none-ruled-out, rules-out-again, rules-itself-out, ascii-tells)
 

@@ -1,10 +1,11 @@
 // Well-formed UTF-8: the rows of the Unicode standard's table 3-7, and a walk from character to character.
 ghost use mathlib.Core.Path.{_≡_};
 ghost use Prim.Native.Nat.{_+_, _≤_};
+ghost use lib.Dec.{leb};
 ghost use lib.ListN.{length};
 ghost use Rattle.characters.specs.Walk.{any};
 ghost use Rattle.characters.specs.Shortcuts.{RulesOut, Tells, outOfPlace, outOfPlaceBehind, startsOutOfPlace, endsOutOfPlace};
-ghost use Rattle.characters.specs.Whitespace.{Width};
+ghost use Rattle.characters.specs.Whitespace.{Width, byte};
 ghost use Rattle.characters.specs.Utf8;
 ghost use Rattle.characters.specs.Utf8.{isContinuation, twoBytes, threeBytes, fourBytes, charOf, charLen};
 use crate::whitespace::byte_at;
@@ -117,18 +118,60 @@ fn ends_out_of_place(a: u8, b: u8, c: u8) -> bool
     is_out_of_place(a, b, c, 0) | (is_out_of_place(b, c, 0, 0) | is_out_of_place(c, 0, 0, 0))
 }
 
-// Whether one of the n bytes from position 3 on is out of place. Each is looked at by itself, so that the compiler can take many at once.
-fn has_out_of_place(s: &[u8], n: usize) -> bool
+// Whether one of the n bytes from k on is not ASCII. This loop and the next look at all bytes whatever they find, so that the compiler can take
+// many at once.
+fn has_above_ascii(s: &[u8], k: usize, n: usize) -> bool
+    requires { ⌜ k + n ≤ length (now s) ⌝ }
+    ensures { λ r. ⌜ RulesOut (any (λ j. leb 0x80 (byte (now (s .entry)) (k + j))) n) r ⌝ }
+{
+    let mut found = false;
+    let mut j = 0;
+    while j < n {
+        found = found | (0x80 <= s[k + j]);
+        j += 1;
+    }
+    found
+}
+
+// Whether one of the n bytes behind the three from k on is out of place.
+fn has_out_of_place(s: &[u8], k: usize, n: usize) -> bool
+    requires { ⌜ k + n + 3 ≤ length (now s) ⌝ }
+    ensures { λ r. ⌜ RulesOut (any (λ j. outOfPlaceBehind (now (s .entry)) (k + j)) n) r ⌝ }
+{
+    let mut found = false;
+    let mut j = 0;
+    while j < n {
+        let i = k + j;
+        found = found | is_out_of_place(s[i], s[i + 1], s[i + 2], s[i + 3]);
+        j += 1;
+    }
+    found
+}
+
+// The same of a block of 64, which is settled where all its bytes are ASCII.
+fn block_out_of_place(s: &[u8], k: usize) -> bool
+    requires { ⌜ k + 80 ≤ length (now s) ⌝ }
+    ensures { λ r. ⌜ RulesOut (any (λ j. outOfPlaceBehind (now (s .entry)) (k + j)) 64) r ⌝ }
+{
+    if !has_above_ascii(s, k, 80) {
+        return false;
+    }
+    has_out_of_place(s, k, 64)
+}
+
+// Whether one of the n bytes from position 3 on is out of place, with a way out at the first block that has one.
+fn is_any_out_of_place(s: &[u8], n: usize) -> bool
     requires { ⌜ n + 3 ≤ length (now s) ⌝ }
     ensures { λ r. ⌜ RulesOut (any (outOfPlaceBehind (now (s .entry))) n) r ⌝ }
 {
-    let mut found = false;
     let mut k = 0;
-    while k < n {
-        found = found | is_out_of_place(s[k], s[k + 1], s[k + 2], s[k + 3]);
-        k += 1;
+    while 80 <= n - k {
+        if block_out_of_place(s, k) {
+            return true;
+        }
+        k += 64;
     }
-    found
+    has_out_of_place(s, k, n - k)
 }
 
 // Whether every byte is in place, those of a text of three bytes or more; of a shorter one nothing is said.
@@ -141,7 +184,7 @@ fn is_in_place(s: &[u8]) -> bool
     let n = s.len() - 3;
     let starts = starts_out_of_place(s[0], s[1], s[2]);
     let ends = ends_out_of_place(s[n], s[n + 1], s[n + 2]);
-    !(starts | (has_out_of_place(s, n) | ends))
+    !(starts | (is_any_out_of_place(s, n) | ends))
 }
 
 pub fn utf8(s: &[u8]) -> bool

@@ -7,7 +7,7 @@ use Rattle.characters.proofs.utf8.is_in_place.Tie as tie
 returns-2 : tie.Need-returns-2
 returns-2 c =
     let starts = c .before .before .before .before .before .starts-out-of-place .ensures in
-    in-place-tells _ _ _ _ _ starts (c .has-out-of-place .ensures) (c .before .ends-out-of-place .ensures) (omega arith)
+    in-place-tells _ _ _ _ _ starts (c .is-any-out-of-place .ensures) (c .before .ends-out-of-place .ensures) (omega arith)
 
 pub is-in-place-spec : {M : Type 1} → statement M
 is-in-place-spec =
