@@ -1,10 +1,11 @@
 -- A text whose bytes are all in place is well formed. Where no character goes on, the byte is the first of a character; those behind it are in
 -- place too, so that they fit a row of the table; and behind them no character goes on again. So the walk comes to the end of the text.
+-- At the end: a block of ASCII bytes is in place without a look at each position.
 use mathlib.Core.Path.{_≡_, refl, sym, ap, _∙_}
 use mathlib.Core.Bool.{Bool, true, false, not, _&&_, _||_, true≢false, false≢true}
 use mathlib.Core.List.{List}
 use mathlib.Core.Logic.{⊎-elim}
-use Prim.Native.Nat.{ℕ, zero, suc, _+_, _-_, _≤_, _<_}
+use Prim.Native.Nat.{ℕ, zero, suc, _+_, _≤_, _<_}
 use native.Mathlib.Nat.{add-assoc, eq-or-lt-of-le, eq-zero-or-pos}
 use native.Mathlib.Omega.{arith}
 use borrow.Author.Needs.{needs}
@@ -20,7 +21,7 @@ use Rattle.characters.specs.Shortcuts.{outOfPlace, outOfPlaceBehind, sta
 use Rattle.characters.proofs.Tests.{or-none, or-true, range-of, le-or-lt, not-true}
 use Rattle.characters.proofs.Spaces.{byte-inside}
 use Rattle.characters.proofs.Chars.{char-one, char-two, char-three, char-four, char-fits, char-inside}
-use Rattle.characters.proofs.Runs.{none-passes, none-of, none-ruled-out, rules-out-again, rules-out-ended, rules-itself-out, answer-rules-out}
+use Rattle.characters.proofs.Runs.{none-passes, none-of, none-ruled-out, rules-out-again, rules-out-ended, answer-rules-out}
 use Rattle.characters.proofs.Runs.{none-yet, block-passed, rest-rules-out, rules-out-nothing, tells-nothing}
 use Rattle.characters.proofs.Encoding.{row-c2, row-e0, row-e1, row-ed, row-ee, row-f0, row-f1, row-f4, not-two, not-three}
 use Rattle.characters.proofs.Encoding.{chars-stay, chars-go}
@@ -399,6 +400,6 @@ ascii-block s k r f e = record { none = λ z. none-of (λ j. outOfPlaceBehind s 
 pub one-of-three : (x y z p q r : Bool) → x ≡ p → y ≡ q → z ≡ r → x || (y || z) ≡ p || (q || r)
 one-of-three x y z p q r e f g = cc
 
-pub ruleset looking-for-out-of-place = (needs, one-of-three, none-ruled-out, rules-out-again, rules-out-ended, rules-itself-out, answer-rules-out, tells-nothing)
+pub ruleset looking-for-out-of-place = (needs, one-of-three, none-ruled-out, rules-out-again, rules-out-ended, answer-rules-out, tells-nothing)
 
 pub ruleset passing-blocks = (needs, none-yet, block-passed, rest-rules-out, rules-out-nothing)

@@ -4,7 +4,7 @@ use mathlib.Core.Bool.{Bool, true, false, not, _||_, true≢false, false≢true}
 use mathlib.Core.List.{List}
 use mathlib.Core.Logic.{⊎-elim}
 use Prim.Native.Nat.{ℕ, zero, suc, _+_, _-_, _≤_, _<_}
-use native.Mathlib.Nat.{eq-or-lt-of-le, le-of-suc-le-suc, eq-zero-or-pos}
+use native.Mathlib.Nat.{zero-add, eq-or-lt-of-le, le-of-suc-le-suc, eq-zero-or-pos}
 use native.Mathlib.Numerals.{add-one}
 use native.Mathlib.Omega.{arith}
 use borrow.Author.Needs.{needs}
@@ -75,9 +75,9 @@ module _ (test : ℕ → Bool) where
 
 -- ---- a text of ASCII bytes is well formed
 
-module _ (s : List ℕ) (ascii : any (λ k. leb 0x80 (byte s k)) (length s) ≡ false) where
+module _ (s : List ℕ) (ascii : any (λ k. leb 0x80 (byte s (0 + k))) (length s) ≡ false) where
   below : (k : ℕ) → k < length s → byte s k < 0x80
-  below k h = leb-false 0x80 (byte s k) (none-passes (λ j. leb 0x80 (byte s j)) (length s) k ascii h)
+  below k h = rw zero-add at (leb-false 0x80 (byte s (0 + k)) (none-passes (λ j. leb 0x80 (byte s (0 + j))) (length s) k ascii h))
 
   one : (k : ℕ) → k < length s → 1 ≡ charLen s k
   one k h =
@@ -97,9 +97,8 @@ module _ (s : List ℕ) (ascii : any (λ k. leb 0x80 (byte s k)) (length s) ≡ 
   unfolding utf8
   ascii-well-formed = eq-eqb (skipChars s 0) (length s) (to-the-end (length s) 0 (omega arith))
 
-pub ascii-tells : (s : List ℕ) (above : Bool) (k : ℕ) → RulesOut (any (λ m. leb 0x80 (byte s m)) k) above → length s ≤ k → k ≤ length s → Tells (utf8 s) (not above)
-ascii-tells s above k f a b =
-    record { holds = λ t. ascii-well-formed s (rules-out-ended (λ m. leb 0x80 (byte s m)) above k (length s) f a b .none (not-true above t)) }
+pub ascii-tells : (s : List ℕ) (above : Bool) → RulesOut (any (λ m. leb 0x80 (byte s (0 + m))) (length s)) above → Tells (utf8 s) (not above)
+ascii-tells s above f = record { holds = λ t. ascii-well-formed s (f .none (not-true above t)) }
 
 pub rules-itself-out : (p : Bool) → RulesOut p p
 rules-itself-out p = record { none = λ e. e }
@@ -114,6 +113,6 @@ rules-out-nothing p = record { none = λ e. absurd (true≢false e) }
 pub tells-nothing : (p : Bool) → Tells p false
 tells-nothing p = record { holds = λ e. absurd (false≢true e) }
 
-pub ruleset looking-for-ascii = (needs, none-ruled-out, rules-out-again, rules-itself-out, ascii-tells)
+pub ruleset looking-for-ascii = (needs, none-ruled-out, rules-out-again, rules-out-ended, rules-itself-out, ascii-tells)
 
 pub ruleset walking-by-characters = (walking, told)

@@ -37,7 +37,7 @@ unexpected a b c d = (goesOn a b c && not (isContinuation d)) || (not (goesOn a 
 abbrev pub inNoCharacter : ℕ → Bool
 inNoCharacter d = within 0xc0 0xc1 d || leb 0xf5 d
 
--- no character has d behind its first byte c, for d is too low or too high
+-- d is too low behind E0 or F0, or too high behind ED or F4
 abbrev pub wrongSecond : ℕ → ℕ → Bool
 wrongSecond c d =
     ((eqb c 0xe0 && within 0x80 0x9f d) || (eqb c 0xed && not (within 0x80 0x9f d)))
@@ -55,6 +55,6 @@ outOfPlaceBehind s k = outOfPlace (byte s k) (byte s (k + 1)) (byte s (k + 2)) (
 unfoldable pub startsOutOfPlace : ℕ → ℕ → ℕ → Bool
 startsOutOfPlace a b c = outOfPlace 0 0 0 a || (outOfPlace 0 0 a b || outOfPlace 0 a b c)
 
--- the text ends inside a character, whose bytes are among its last three a b c
+-- a text whose last three bytes are a b c ends inside a character
 unfoldable pub endsOutOfPlace : ℕ → ℕ → ℕ → Bool
 endsOutOfPlace a b c = outOfPlace a b c 0 || (outOfPlace b c 0 0 || outOfPlace c 0 0 0)

@@ -79,17 +79,25 @@ pub fn char_len(s: &[u8], k: usize) -> usize
     0
 }
 
-// Whether every byte is ASCII, and so a character by itself. It looks at all of them whatever it finds, so that the compiler can take many at once.
+// Whether one of the n bytes from k on is not ASCII. It looks at all of them whatever it finds, so that the compiler can take many at once.
+fn has_above_ascii(s: &[u8], k: usize, n: usize) -> bool
+    requires { ⌜ k + n ≤ length (now s) ⌝ }
+    ensures { λ r. ⌜ RulesOut (any (λ j. leb 0x80 (byte (now (s .entry)) (k + j))) n) r ⌝ }
+{
+    let mut found = false;
+    let mut j = 0;
+    while j < n {
+        found = found | (0x80 <= s[k + j]);
+        j += 1;
+    }
+    found
+}
+
+// Whether every byte is ASCII, and so a character by itself.
 fn is_ascii(s: &[u8]) -> bool
     ensures { λ r. ⌜ Tells (Utf8.utf8 (now (s .entry))) r ⌝ }
 {
-    let mut above = false;
-    let mut k = 0;
-    while k < s.len() {
-        above = above | (0x80 <= s[k]);
-        k += 1;
-    }
-    !above
+    !has_above_ascii(s, 0, s.len())
 }
 
 // Whether no well-formed text has d behind the bytes a b c.
@@ -106,34 +114,21 @@ fn is_out_of_place(a: u8, b: u8, c: u8, d: u8) -> bool
                 | (((c == 0xf0) & below_90) | ((c == 0xf4) & !below_90))))
 }
 
+// Whether one of the first three bytes a b c of a text is out of place.
 fn starts_out_of_place(a: u8, b: u8, c: u8) -> bool
     ensures { λ r. ⌜ r ≡ startsOutOfPlace a b c ⌝ }
 {
     is_out_of_place(0, 0, 0, a) | (is_out_of_place(0, 0, a, b) | is_out_of_place(0, a, b, c))
 }
 
+// Whether a text whose last three bytes are a b c ends inside a character.
 fn ends_out_of_place(a: u8, b: u8, c: u8) -> bool
     ensures { λ r. ⌜ r ≡ endsOutOfPlace a b c ⌝ }
 {
     is_out_of_place(a, b, c, 0) | (is_out_of_place(b, c, 0, 0) | is_out_of_place(c, 0, 0, 0))
 }
 
-// Whether one of the n bytes from k on is not ASCII. This loop and the next look at all bytes whatever they find, so that the compiler can take
-// many at once.
-fn has_above_ascii(s: &[u8], k: usize, n: usize) -> bool
-    requires { ⌜ k + n ≤ length (now s) ⌝ }
-    ensures { λ r. ⌜ RulesOut (any (λ j. leb 0x80 (byte (now (s .entry)) (k + j))) n) r ⌝ }
-{
-    let mut found = false;
-    let mut j = 0;
-    while j < n {
-        found = found | (0x80 <= s[k + j]);
-        j += 1;
-    }
-    found
-}
-
-// Whether one of the n bytes behind the three from k on is out of place.
+// Whether one of the n bytes behind the three from k on is out of place. It looks at all of them too.
 fn has_out_of_place(s: &[u8], k: usize, n: usize) -> bool
     requires { ⌜ k + n + 3 ≤ length (now s) ⌝ }
     ensures { λ r. ⌜ RulesOut (any (λ j. outOfPlaceBehind (now (s .entry)) (k + j)) n) r ⌝ }
@@ -148,7 +143,7 @@ fn has_out_of_place(s: &[u8], k: usize, n: usize) -> bool
     found
 }
 
-// The same of a block of 64, which is settled where all its bytes are ASCII.
+// The same of a block of 64, which is settled where the bytes that it looks at are ASCII: 67, and up to 80, so that they are whole groups of 16.
 fn block_out_of_place(s: &[u8], k: usize) -> bool
     requires { ⌜ k + 80 ≤ length (now s) ⌝ }
     ensures { λ r. ⌜ RulesOut (any (λ j. outOfPlaceBehind (now (s .entry)) (k + j)) 64) r ⌝ }
@@ -174,7 +169,7 @@ fn is_any_out_of_place(s: &[u8], n: usize) -> bool
     has_out_of_place(s, k, n - k)
 }
 
-// Whether every byte is in place, those of a text of three bytes or more; of a shorter one nothing is said.
+// Whether every byte is in place. Of a text of fewer than three bytes nothing is said.
 fn is_in_place(s: &[u8]) -> bool
     ensures { λ r. ⌜ Tells (Utf8.utf8 (now (s .entry))) r ⌝ }
 {
@@ -187,6 +182,7 @@ fn is_in_place(s: &[u8]) -> bool
     !(starts | (is_any_out_of_place(s, n) | ends))
 }
 
+// Whether s is well formed: by the quick tests where one passes, otherwise from character to character.
 pub fn utf8(s: &[u8]) -> bool
     ensures { λ r. ⌜ r ≡ Utf8.utf8 (now (s .entry)) ⌝ }
 {

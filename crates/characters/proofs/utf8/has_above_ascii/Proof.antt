@@ -4,7 +4,7 @@ use lib.Dec.{leb}
 use Rattle.characters.specs.Shortcuts.{RulesOut}
 use Rattle.characters.specs.Walk.{any}
 use Rattle.characters.specs.Whitespace.{byte}
-use Rattle.characters.proofs.InPlace.{looking-for-out-of-place}
+use Rattle.characters.proofs.Runs.{looking-for-ascii}
 use Rattle.characters.proofs.utf8.has_above_ascii.Statement.{statement}
 use Rattle.characters.proofs.utf8.has_above_ascii.Tie as tie
 
@@ -20,10 +20,10 @@ has-above-ascii-spec =
     (tie.spec
     Inv-loop
     μ-loop
-    (λ c. search looking-for-out-of-place)
-    (λ c. search looking-for-out-of-place)
-    (λ c. search looking-for-out-of-place)
-    (λ c. search looking-for-out-of-place)
-    (λ c. search looking-for-out-of-place)
-    (λ c. search looking-for-out-of-place)
-    (λ c. search looking-for-out-of-place))
+    (λ c. search looking-for-ascii)
+    (λ c. search looking-for-ascii)
+    (λ c. search looking-for-ascii)
+    (λ c. search looking-for-ascii)
+    (λ c. search looking-for-ascii)
+    (λ c. search looking-for-ascii)
+    (λ c. search looking-for-ascii))
