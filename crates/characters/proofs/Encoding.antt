@@ -23,39 +23,39 @@ use Rattle.characters.proofs.Codes.{encode-1, encode-2, encode-3, encod
 continues : (b : ℕ) → 0x80 ≤ b → b < 0xc0 → isContinuation b ≡ true
 continues b l h = in-range 0x80 0xbf b l (omega arith)
 
-row-c2 : (a b : ℕ) → 0xc2 ≤ a → a ≤ 0xdf → isContinuation b ≡ true → twoBytes a b ≡ true
+pub row-c2 : (a b : ℕ) → 0xc2 ≤ a → a ≤ 0xdf → isContinuation b ≡ true → twoBytes a b ≡ true
 row-c2 a b l h e = rw (in-range 0xc2 0xdf a l h) e
 
 module _ (a b d : ℕ) (g : isContinuation d ≡ true) where
-  row-e0 : a ≡ 0xe0 → 0xa0 ≤ b → b ≤ 0xbf → threeBytes a b d ≡ true
+  pub row-e0 : a ≡ 0xe0 → 0xa0 ≤ b → b ≤ 0xbf → threeBytes a b d ≡ true
   row-e0 e l h = simp (eq-eqb a 0xe0 e, in-range 0xa0 0xbf b l h, g)
 
-  row-e1 : 0xe1 ≤ a → a ≤ 0xec → isContinuation b ≡ true → threeBytes a b d ≡ true
+  pub row-e1 : 0xe1 ≤ a → a ≤ 0xec → isContinuation b ≡ true → threeBytes a b d ≡ true
   row-e1 l h f = simp (ne-eqb a 0xe0 (omega arith), in-range 0xe1 0xec a l h, f, g)
 
-  row-ed : a ≡ 0xed → 0x80 ≤ b → b ≤ 0x9f → threeBytes a b d ≡ true
+  pub row-ed : a ≡ 0xed → 0x80 ≤ b → b ≤ 0x9f → threeBytes a b d ≡ true
   row-ed e l h =
       simp (ne-eqb a 0xe0 (omega arith), above-range 0xe1 0xec a (omega arith), eq-eqb a 0xed e, in-range 0x80 0x9f b l h, g)
 
-  row-ee : 0xee ≤ a → a ≤ 0xef → isContinuation b ≡ true → threeBytes a b d ≡ true
+  pub row-ee : 0xee ≤ a → a ≤ 0xef → isContinuation b ≡ true → threeBytes a b d ≡ true
   row-ee l h f =
       simp (ne-eqb a 0xe0 (omega arith), above-range 0xe1 0xec a (omega arith), ne-eqb a 0xed (omega arith), in-range 0xee 0xef a l h, f, g)
 
 module _ (a b d f : ℕ) (g : isContinuation d ≡ true) (h : isContinuation f ≡ true) where
-  row-f0 : a ≡ 0xf0 → 0x90 ≤ b → b ≤ 0xbf → fourBytes a b d f ≡ true
+  pub row-f0 : a ≡ 0xf0 → 0x90 ≤ b → b ≤ 0xbf → fourBytes a b d f ≡ true
   row-f0 e l k = simp (eq-eqb a 0xf0 e, in-range 0x90 0xbf b l k, g, h)
 
-  row-f1 : 0xf1 ≤ a → a ≤ 0xf3 → isContinuation b ≡ true → fourBytes a b d f ≡ true
+  pub row-f1 : 0xf1 ≤ a → a ≤ 0xf3 → isContinuation b ≡ true → fourBytes a b d f ≡ true
   row-f1 l k e = simp (ne-eqb a 0xf0 (omega arith), in-range 0xf1 0xf3 a l k, e, g, h)
 
-  row-f4 : a ≡ 0xf4 → 0x80 ≤ b → b ≤ 0x8f → fourBytes a b d f ≡ true
+  pub row-f4 : a ≡ 0xf4 → 0x80 ≤ b → b ≤ 0x8f → fourBytes a b d f ≡ true
   row-f4 e l k =
       simp (ne-eqb a 0xf0 (omega arith), above-range 0xf1 0xf3 a (omega arith), eq-eqb a 0xf4 e, in-range 0x80 0x8f b l k, g, h)
 
-not-two : (a b : ℕ) → 0xe0 ≤ a → twoBytes a b ≡ false
+pub not-two : (a b : ℕ) → 0xe0 ≤ a → twoBytes a b ≡ false
 not-two a b l = simp (above-range 0xc2 0xdf a (omega arith))
 
-not-three : (a b d : ℕ) → 0xf0 ≤ a → threeBytes a b d ≡ false
+pub not-three : (a b d : ℕ) → 0xf0 ≤ a → threeBytes a b d ≡ false
 not-three a b d l =
     simp (ne-eqb a 0xe0 (omega arith), above-range 0xe1 0xec a (omega arith), ne-eqb a 0xed (omega arith), above-range 0xee 0xef a (omega arith))
 

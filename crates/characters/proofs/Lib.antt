@@ -10,6 +10,7 @@ pub mod Codes
 pub mod Uax31
 pub mod Ascii
 pub mod Encoding
+pub mod InPlace
 pub mod Decoding
 pub mod Edges
 pub mod Counts

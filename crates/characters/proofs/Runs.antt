@@ -1,10 +1,10 @@
 -- Positions that are looked at together: what a test rules out of all of them. So a text of ASCII bytes is well formed.
 use mathlib.Core.Path.{_≡_, refl, sym, ap, _∙_}
-use mathlib.Core.Bool.{Bool, true, false, not, _||_}
+use mathlib.Core.Bool.{Bool, true, false, not, _||_, true≢false, false≢true}
 use mathlib.Core.List.{List}
 use mathlib.Core.Logic.{⊎-elim}
-use Prim.Native.Nat.{ℕ, zero, suc, _+_, _≤_, _<_}
-use native.Mathlib.Nat.{eq-or-lt-of-le, le-of-suc-le-suc, eq-zero-or-pos}
+use Prim.Native.Nat.{ℕ, zero, suc, _+_, _-_, _≤_, _<_}
+use native.Mathlib.Nat.{zero-add, eq-or-lt-of-le, le-of-suc-le-suc, eq-zero-or-pos}
 use native.Mathlib.Numerals.{add-one}
 use native.Mathlib.Omega.{arith}
 use borrow.Author.Needs.{needs}
@@ -15,7 +15,7 @@ use Rattle.characters.specs.Walk.{any}
 use Rattle.characters.specs.Whitespace.{byte}
 use Rattle.characters.specs.Utf8.{charLen, skipChars, utf8}
 use Rattle.characters.specs.Shortcuts.{RulesOut, Tells}
-use Rattle.characters.proofs.Tests.{or-none, not-true}
+use Rattle.characters.proofs.Tests.{or-none, not-true, le-or-lt}
 use Rattle.characters.proofs.Shortcuts.{told}
 use Rattle.characters.proofs.Walks.{skip-stays, skip-goes}
 use Rattle.characters.proofs.Chars.{char-one, char-fits, char-inside, walking}
@@ -29,6 +29,11 @@ module _ (test : ℕ → Bool) where
   none-passes (suc n) m e h =
       let p = or-none (any test n) (test n) e in
       ⊎-elim (λ q. ap test q ∙ p .1) (λ l. none-passes n m (p .0) l) (eq-or-lt-of-le (le-of-suc-le-suc h))
+
+  pub none-of : (n : ℕ) → ((m : ℕ) → m < n → test m ≡ false) → any test n ≡ false
+  unfolding any
+  none-of zero f = refl
+  none-of (suc n) f = rw (none-of n (λ m h. f m (omega arith)), f n (omega arith)) refl
 
   pub none-ruled-out : RulesOut (any test 0) false
   unfolding any
@@ -44,11 +49,35 @@ module _ (test : ℕ → Bool) where
       let q : k ≡ n = omega arith in
       rw (← q) f
 
+-- ---- all of the first n positions, a block after the other
+
+module _ (test : ℕ → Bool) where
+  pub none-yet : any test 0 ≡ false
+  unfolding any
+  none-yet = refl
+
+  module _ (k : ℕ) (before : any test k ≡ false) where
+    none-behind : (n : ℕ) → any (λ j. test (k + j)) n ≡ false → any test (k + n) ≡ false
+    none-behind n e = none-of test (k + n) (λ m h. ⊎-elim (λ l. here m l h) (none-passes test k m before) (le-or-lt k m))
+      where
+        here : (m : ℕ) → k ≤ m → m < k + n → test m ≡ false
+        here m l h =
+            let q : m ≡ k + (m - k) = omega arith in
+            ap test q ∙ none-passes (λ j. test (k + j)) n (m - k) e (omega arith)
+
+    pub block-passed : (n : ℕ) (r : Bool) → RulesOut (any (λ j. test (k + j)) n) r → r ≡ false → any test (k + n) ≡ false
+    block-passed n r f e = none-behind n (f .none e)
+
+    pub rest-rules-out : (n : ℕ) (r : Bool) → RulesOut (any (λ j. test (k + j)) (n - k)) r → k ≤ n → RulesOut (any test n) r
+    rest-rules-out n r f h =
+        let q : k + (n - k) ≡ n = omega arith in
+        record { none = λ e. rw (← q) (none-behind (n - k) (f .none e)) }
+
 -- ---- a text of ASCII bytes is well formed
 
-module _ (s : List ℕ) (ascii : any (λ k. leb 0x80 (byte s k)) (length s) ≡ false) where
+module _ (s : List ℕ) (ascii : any (λ k. leb 0x80 (byte s (0 + k))) (length s) ≡ false) where
   below : (k : ℕ) → k < length s → byte s k < 0x80
-  below k h = leb-false 0x80 (byte s k) (none-passes (λ j. leb 0x80 (byte s j)) (length s) k ascii h)
+  below k h = rw zero-add at (leb-false 0x80 (byte s (0 + k)) (none-passes (λ j. leb 0x80 (byte s (0 + j))) (length s) k ascii h))
 
   one : (k : ℕ) → k < length s → 1 ≡ charLen s k
   one k h =
@@ -68,13 +97,22 @@ module _ (s : List ℕ) (ascii : any (λ k. leb 0x80 (byte s k)) (length s) ≡ 
   unfolding utf8
   ascii-well-formed = eq-eqb (skipChars s 0) (length s) (to-the-end (length s) 0 (omega arith))
 
-pub ascii-tells : (s : List ℕ) (above : Bool) (k : ℕ) → RulesOut (any (λ m. leb 0x80 (byte s m)) k) above → length s ≤ k → k ≤ length s → Tells (utf8 s) (not above)
-ascii-tells s above k f a b =
-    record { holds = λ t. ascii-well-formed s (rules-out-ended (λ m. leb 0x80 (byte s m)) above k (length s) f a b .none (not-true above t)) }
+pub ascii-tells : (s : List ℕ) (above : Bool) → RulesOut (any (λ m. leb 0x80 (byte s (0 + m))) (length s)) above → Tells (utf8 s) (not above)
+ascii-tells s above f = record { holds = λ t. ascii-well-formed s (f .none (not-true above t)) }
 
 pub rules-itself-out : (p : Bool) → RulesOut p p
 rules-itself-out p = record { none = λ e. e }
 
-pub ruleset looking-for-ascii = (needs, none-ruled-out, rules-out-again, rules-itself-out, ascii-tells)
+pub answer-rules-out : (p r : Bool) → r ≡ p → RulesOut p r
+answer-rules-out p r e = record { none = λ f. sym e ∙ f }
+
+-- a test that passes rules nothing out, and one that does not tells nothing
+pub rules-out-nothing : (p : Bool) → RulesOut p true
+rules-out-nothing p = record { none = λ e. absurd (true≢false e) }
+
+pub tells-nothing : (p : Bool) → Tells p false
+tells-nothing p = record { holds = λ e. absurd (false≢true e) }
+
+pub ruleset looking-for-ascii = (needs, none-ruled-out, rules-out-again, rules-out-ended, rules-itself-out, ascii-tells)
 
 pub ruleset walking-by-characters = (walking, told)

@@ -1,9 +1,11 @@
 // Well-formed UTF-8: the rows of the Unicode standard's table 3-7, and a walk from character to character.
 ghost use mathlib.Core.Path.{_≡_};
-ghost use Prim.Native.Nat.{_≤_};
+ghost use Prim.Native.Nat.{_+_, _≤_};
+ghost use lib.Dec.{leb};
 ghost use lib.ListN.{length};
-ghost use Rattle.characters.specs.Shortcuts.{Tells};
-ghost use Rattle.characters.specs.Whitespace.{Width};
+ghost use Rattle.characters.specs.Walk.{any};
+ghost use Rattle.characters.specs.Shortcuts.{RulesOut, Tells, outOfPlace, outOfPlaceBehind, startsOutOfPlace, endsOutOfPlace};
+ghost use Rattle.characters.specs.Whitespace.{Width, byte};
 ghost use Rattle.characters.specs.Utf8;
 ghost use Rattle.characters.specs.Utf8.{isContinuation, twoBytes, threeBytes, fourBytes, charOf, charLen};
 use crate::whitespace::byte_at;
@@ -77,23 +79,117 @@ pub fn char_len(s: &[u8], k: usize) -> usize
     0
 }
 
-// Whether every byte is ASCII, and so a character by itself. It looks at all of them whatever it finds, so that the compiler can take many at once.
+// Whether one of the n bytes from k on is not ASCII. It looks at all of them whatever it finds, so that the compiler can take many at once.
+fn has_above_ascii(s: &[u8], k: usize, n: usize) -> bool
+    requires { ⌜ k + n ≤ length (now s) ⌝ }
+    ensures { λ r. ⌜ RulesOut (any (λ j. leb 0x80 (byte (now (s .entry)) (k + j))) n) r ⌝ }
+{
+    let mut found = false;
+    let mut j = 0;
+    while j < n {
+        found = found | (0x80 <= s[k + j]);
+        j += 1;
+    }
+    found
+}
+
+// Whether every byte is ASCII, and so a character by itself.
 fn is_ascii(s: &[u8]) -> bool
     ensures { λ r. ⌜ Tells (Utf8.utf8 (now (s .entry))) r ⌝ }
 {
-    let mut above = false;
-    let mut k = 0;
-    while k < s.len() {
-        above = above | (0x80 <= s[k]);
-        k += 1;
-    }
-    !above
+    !has_above_ascii(s, 0, s.len())
 }
 
+// Whether no well-formed text has d behind the bytes a b c.
+fn is_out_of_place(a: u8, b: u8, c: u8, d: u8) -> bool
+    ensures { λ r. ⌜ r ≡ outOfPlace a b c d ⌝ }
+{
+    let goes_on = (0xc0 <= c) | ((0xe0 <= b) | (0xf0 <= a));
+    let inside = (0x80 <= d) & (d <= 0xbf);
+    let below_a0 = (0x80 <= d) & (d <= 0x9f);
+    let below_90 = (0x80 <= d) & (d <= 0x8f);
+    ((goes_on & !inside) | (!goes_on & inside))
+        | ((((0xc0 <= d) & (d <= 0xc1)) | (0xf5 <= d))
+            | ((((c == 0xe0) & below_a0) | ((c == 0xed) & !below_a0))
+                | (((c == 0xf0) & below_90) | ((c == 0xf4) & !below_90))))
+}
+
+// Whether one of the first three bytes a b c of a text is out of place.
+fn starts_out_of_place(a: u8, b: u8, c: u8) -> bool
+    ensures { λ r. ⌜ r ≡ startsOutOfPlace a b c ⌝ }
+{
+    is_out_of_place(0, 0, 0, a) | (is_out_of_place(0, 0, a, b) | is_out_of_place(0, a, b, c))
+}
+
+// Whether a text whose last three bytes are a b c ends inside a character.
+fn ends_out_of_place(a: u8, b: u8, c: u8) -> bool
+    ensures { λ r. ⌜ r ≡ endsOutOfPlace a b c ⌝ }
+{
+    is_out_of_place(a, b, c, 0) | (is_out_of_place(b, c, 0, 0) | is_out_of_place(c, 0, 0, 0))
+}
+
+// Whether one of the n bytes behind the three from k on is out of place. It looks at all of them too.
+fn has_out_of_place(s: &[u8], k: usize, n: usize) -> bool
+    requires { ⌜ k + n + 3 ≤ length (now s) ⌝ }
+    ensures { λ r. ⌜ RulesOut (any (λ j. outOfPlaceBehind (now (s .entry)) (k + j)) n) r ⌝ }
+{
+    let mut found = false;
+    let mut j = 0;
+    while j < n {
+        let i = k + j;
+        found = found | is_out_of_place(s[i], s[i + 1], s[i + 2], s[i + 3]);
+        j += 1;
+    }
+    found
+}
+
+// The same of a block of 64, which is settled where the bytes that it looks at are ASCII: 67, and up to 80, so that they are whole groups of 16.
+fn block_out_of_place(s: &[u8], k: usize) -> bool
+    requires { ⌜ k + 80 ≤ length (now s) ⌝ }
+    ensures { λ r. ⌜ RulesOut (any (λ j. outOfPlaceBehind (now (s .entry)) (k + j)) 64) r ⌝ }
+{
+    if !has_above_ascii(s, k, 80) {
+        return false;
+    }
+    has_out_of_place(s, k, 64)
+}
+
+// Whether one of the n bytes from position 3 on is out of place, with a way out at the first block that has one.
+fn is_any_out_of_place(s: &[u8], n: usize) -> bool
+    requires { ⌜ n + 3 ≤ length (now s) ⌝ }
+    ensures { λ r. ⌜ RulesOut (any (outOfPlaceBehind (now (s .entry))) n) r ⌝ }
+{
+    let mut k = 0;
+    while 80 <= n - k {
+        if block_out_of_place(s, k) {
+            return true;
+        }
+        k += 64;
+    }
+    has_out_of_place(s, k, n - k)
+}
+
+// Whether every byte is in place. Of a text of fewer than three bytes nothing is said.
+fn is_in_place(s: &[u8]) -> bool
+    ensures { λ r. ⌜ Tells (Utf8.utf8 (now (s .entry))) r ⌝ }
+{
+    if s.len() < 3 {
+        return false;
+    }
+    let n = s.len() - 3;
+    let starts = starts_out_of_place(s[0], s[1], s[2]);
+    let ends = ends_out_of_place(s[n], s[n + 1], s[n + 2]);
+    !(starts | (is_any_out_of_place(s, n) | ends))
+}
+
+// Whether s is well formed: by the quick tests where one passes, otherwise from character to character.
 pub fn utf8(s: &[u8]) -> bool
     ensures { λ r. ⌜ r ≡ Utf8.utf8 (now (s .entry)) ⌝ }
 {
     if is_ascii(s) {
+        return true;
+    }
+    if is_in_place(s) {
         return true;
     }
     let mut k = 0;

@@ -1,4 +1,5 @@
--- `characters::utf8::utf8` meets its contract: ASCII alone is well formed; otherwise from where the loop stands the walk ends where it would from the start.
+-- `characters::utf8::utf8` meets its contract: ASCII alone is well formed, and so are bytes in place; otherwise from where the loop stands the
+-- walk ends where it would from the start.
 use mathlib.Core.Path.{_≡_}
 use Prim.Native.Nat.{_≤_, _-_}
 use lib.ListN.{length}
@@ -19,6 +20,8 @@ utf8-spec =
     (tie.spec
     Inv-loop
     μ-loop
+    (λ c κs. search walking-by-characters)
+    (λ c. search walking-by-characters)
     (λ c κs. search walking-by-characters)
     (λ c. search walking-by-characters)
     (λ c. search walking-by-characters)
