@@ -51,6 +51,12 @@ module _ (test : ℕ → Bool) where
 
 -- ---- all of the first n positions, a block after the other
 
+-- none of the n positions from k on passes
+pub block-fails : (test : ℕ → Bool) (k n m : ℕ) → any (λ j. test (k + j)) n ≡ false → k ≤ m → m < k + n → test m ≡ false
+block-fails test k n m e a b =
+    let q : m ≡ k + (m - k) = omega arith in
+    ap test q ∙ none-passes (λ j. test (k + j)) n (m - k) e (omega arith)
+
 module _ (test : ℕ → Bool) where
   pub none-yet : any test 0 ≡ false
   unfolding any
@@ -58,12 +64,7 @@ module _ (test : ℕ → Bool) where
 
   module _ (k : ℕ) (before : any test k ≡ false) where
     none-behind : (n : ℕ) → any (λ j. test (k + j)) n ≡ false → any test (k + n) ≡ false
-    none-behind n e = none-of test (k + n) (λ m h. ⊎-elim (λ l. here m l h) (none-passes test k m before) (le-or-lt k m))
-      where
-        here : (m : ℕ) → k ≤ m → m < k + n → test m ≡ false
-        here m l h =
-            let q : m ≡ k + (m - k) = omega arith in
-            ap test q ∙ none-passes (λ j. test (k + j)) n (m - k) e (omega arith)
+    none-behind n e = none-of test (k + n) (λ m h. ⊎-elim (λ l. block-fails test k n m e l h) (none-passes test k m before) (le-or-lt k m))
 
     pub block-passed : (n : ℕ) (r : Bool) → RulesOut (any (λ j. test (k + j)) n) r → r ≡ false → any test (k + n) ≡ false
     block-passed n r f e = none-behind n (f .none e)

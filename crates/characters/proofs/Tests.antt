@@ -31,10 +31,6 @@ pub not-true : (b : Bool) → not b ≡ true → b ≡ false
 not-true true e = absurd (false≢true e)
 not-true false e = refl
 
-pub not-false : (b : Bool) → not b ≡ false → b ≡ true
-not-false true e = refl
-not-false false e = absurd (true≢false e)
-
 pub or-cases : {A : Type 0} (p q : Bool) → p || q ≡ true → (p ≡ true → A) → (q ≡ true → A) → A
 or-cases true q e f g = f refl
 or-cases false q e f g = g e

@@ -7,13 +7,13 @@ use mathlib.Core.Logic.{_⊎_, inl, inr, ⊎-elim}
 use Prim.Native.Nat.{ℕ, _+_, _≤_, _<_}
 use native.Mathlib.Nat.{eq-zero-or-pos}
 use native.Mathlib.Omega.{arith}
-use borrow.Author.Tests.{ltb-true, ltb-false, lt-ltb, le-ltb, eqb-true, eqb-false, eq-eqb, ne-eqb}
+use borrow.Author.Tests.{ltb-true, lt-ltb, eqb-true, eq-eqb, ne-eqb, not-false}
 use lib.Dec.{eqb, leb, ltb}
 use lib.ListN.{length}
 use Rattle.characters.specs.Utf8.{isContinuation, atEdge}
 use Rattle.characters.specs.Walk.{count}
 use Rattle.characters.specs.Whitespace.{byte}
-use Rattle.characters.proofs.Tests.{and-left, and-right, or-true, not-false, range-of, le-or-lt}
+use Rattle.characters.proofs.Tests.{and-left, and-right, or-true, range-of, le-or-lt}
 use Rattle.characters.proofs.Counts.{count-some, count-failing}
 use Rattle.lines.specs.declared.Place.{Place}
 use Rattle.lines.specs.Lines.{lineFeed, endsLine, lineNum, colNum, place, isAllowed, stands, lineOf, columnOf}

@@ -4,11 +4,10 @@ use mathlib.Core.Bool.{Bool, true, false, not}
 use mathlib.Core.List.{List}
 use Prim.Native.Nat.{ℕ, _≤_, _<_}
 use borrow.Author.Needs.{needs}
-use borrow.Author.Tests.{lt-ltb, le-ltb}
+use borrow.Author.Tests.{lt-ltb, le-ltb, not-true, not-false}
 use lib.ListN.{length}
 use Rattle.answers.specs.Numbers.{mostSource}
 use Rattle.characters.specs.Utf8.{utf8}
-use Rattle.characters.proofs.Tests.{not-true, not-false}
 use Rattle.lines.specs.Lines.{tested}
 
 module _ {A : Type 0} (s : List ℕ) (long invalid answer : A) where

@@ -20,13 +20,7 @@ use Rattle.characters.proofs.Tests.{answer, le-or-lt}
 use Rattle.characters.proofs.Spaces.{end-may-start}
 use Rattle.characters.proofs.Walks.{first-here, first-over, first-from, last-none, last-over, last-found, last-again, last-ended}
 use Rattle.characters.proofs.Firsts.{first-passes, first-before}
-use Rattle.characters.proofs.Runs.{none-passes, none-ruled-out, rules-out-again, rules-out-ended}
-
--- none of the n positions from k on passes
-block-fails : (test : ℕ → Bool) (k n m : ℕ) → any (λ j. test (k + j)) n ≡ false → k ≤ m → m < k + n → test m ≡ false
-block-fails test k n m e a b =
-    let q : m ≡ k + (m - k) = omega arith in
-    ap test q ∙ none-passes (λ j. test (k + j)) n (m - k) e (omega arith)
+use Rattle.characters.proofs.Runs.{block-fails, none-ruled-out, rules-out-again, rules-out-ended}
 
 -- ---- the first that passes
 
