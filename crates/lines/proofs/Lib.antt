@@ -8,3 +8,4 @@ pub mod Writing
 pub mod CodePoints
 pub mod ThereAndBack
 pub mod Limits
+pub mod Example

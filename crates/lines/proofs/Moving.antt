@@ -9,12 +9,14 @@ use mir.Syntax.{w64}
 use native.Mathlib.Omega.{arith}
 use borrow.Author.Needs.{needs}
 use lib.ListN.{length}
+use Rattle.answers.specs.Numbers.{mostSource}
 use Rattle.characters.specs.Utf8.{atEdge}
 use Rattle.characters.specs.Walk.{last, count}
 use Rattle.characters.specs.declared.Found.{Found}
 use Rattle.characters.specs.declared.Found.the-variants.{At, Nothing}
 use Rattle.characters.proofs.Counts.{count-none, count-most, count-split, count-some, count-failing}
 use Rattle.characters.proofs.Lasts.{LastAt, LastNone, orElse, last-is, last-split}
+use Rattle.lines.specs.declared.ColNum.{ColNum}
 use Rattle.lines.specs.declared.Place.{Place}
 use Rattle.lines.specs.Lines.{endsLine, lineNum, behindEnd, lineByte, colNum, place, lineOf, columnOf}
 use Rattle.lines.specs.Places.{ShortRange, placeAt}
@@ -109,7 +111,7 @@ module _ (s : List ℕ) (i e : ℕ) (range : ShortRange s i e) (p : Place) (is :
   unfolding placeAt
   column-is = ap columnOf is
 
-  pub line-fits : length s ≤ 65535 → Fits w64 (lineOf p + n)
+  pub line-fits : length s ≤ mostSource → Fits w64 (lineOf p + n)
   line-fits l = record { fits = omega (arith, line-is, line-on s i e (range .ordered), ended, line-to s e, range .inside) }
 
   pub place-on : (m : ℕ) → n ≡ 0 → m ≡ count (atEdge s) i e → place (lineOf p) (columnOf p + m) ≡ placeAt s e
@@ -120,7 +122,7 @@ module _ (s : List ℕ) (i e : ℕ) (range : ShortRange s i e) (p : Place) (is :
       let c : columnOf p + m ≡ colNum s e = omega (arith, column-is, column-on s i e (range .ordered) none, q) in
       λ j. place (l j) (c j)
 
-  pub column-fits : (m : ℕ) → n ≡ 0 → m ≡ count (atEdge s) i e → length s ≤ 65535 → Fits w64 (columnOf p + m)
+  pub column-fits : (m : ℕ) → n ≡ 0 → m ≡ count (atEdge s) i e → length s ≤ mostSource → Fits w64 (columnOf p + m)
   column-fits m z q l =
       record { fits = omega (arith, column-is, column-on s i e (range .ordered) (sym ended ∙ z), q, column-to s e, range .inside) }
 
@@ -133,12 +135,12 @@ module _ (s : List ℕ) (i e : ℕ) (range : ShortRange s i e) (p : Place) (is :
         let inside = start-inside s i e (range .ordered) some in
         record { ordered = omega (arith, start, inside .1); inside = range .inside; short = omega (arith, start, inside .0, range .short) }
 
-    pub place-anew : (m : ℕ) → m ≡ count (atEdge s) b e → place (lineOf p + n) (1 + m) ≡ placeAt s e
+    pub place-anew : (m : ColNum) → m .0 ≡ 1 + count (atEdge s) b e → record { «line_num» = record { 0 = lineOf p + n }; «col_num» = m } ≡ placeAt s e
     unfolding placeAt
     place-anew m q =
         let l : lineOf p + n ≡ lineNum s e = omega (arith, line-is, line-on s i e (range .ordered), ended) in
         let r : count (atEdge s) b e ≡ count (atEdge s) (behindEnd (last (endsLine s) i e)) e = ap (λ (x : ℕ). count (atEdge s) x e) start in
-        let c : 1 + m ≡ colNum s e = omega (arith, column-anew s i e (range .ordered) some, q, r) in
+        let c : m .0 ≡ colNum s e = omega (arith, column-anew s i e (range .ordered) some, q, r) in
         λ j. place (l j) (c j)
 
 pub ruleset placing = (needs, line-fits, place-on, column-fits, start-range, place-anew)

@@ -24,11 +24,11 @@ use Rattle.lines.specs.declared.OffsetAt.the-variants as O
 abbrev pub lineFeed : ℕ
 lineFeed = 0x0a
 
--- a line ends at it only
+-- a line ends at it only (02, 1/13)
 abbrev pub endsLine : List ℕ → ℕ → Bool
 endsLine s k = eqb (byte s k) lineFeed
 
--- the line of the offset b, from 1: the line ends before it are counted
+-- the line of the offset b, from 1: the line ends before it are counted (02, 1/13)
 unfoldable pub lineNum : List ℕ → ℕ → ℕ
 lineNum s b = 1 + count (endsLine s) 0 b
 
@@ -41,7 +41,7 @@ behindEnd (At k) = k + 1
 unfoldable pub lineByte : List ℕ → ℕ → ℕ
 lineByte s b = behindEnd (last (endsLine s) 0 b)
 
--- the column of b, from 1: the characters from the line's start to b are counted, each by its first byte
+-- the column of b, from 1: the characters from the line's start to b are counted, each by its first byte (02, 1/13)
 unfoldable pub colNum : List ℕ → ℕ → ℕ
 colNum s b = 1 + count (atEdge s) (lineByte s b) b
 
@@ -57,21 +57,21 @@ lineOf p = p .«line_num» .0
 abbrev pub columnOf : Place → ℕ
 columnOf p = p .«col_num» .0
 
--- the offset is allowed: it is not above the length and not inside a character
+-- the offset is allowed: it is not above the length and not inside a character (02, 1/13)
 abbrev pub isAllowed : List ℕ → ℕ → Bool
 isAllowed s b = leb b (length s) && atEdge s b
 
 -- ---- the calls
 
--- what a call answers by the tests 1 and 3, and otherwise of the text
+-- what a call answers by the tests 1 and 3, and otherwise of the text (02, 1/13)
 unfoldable pub tested : {A : Type 0} → List ℕ → A → A → A → A
 tested s long invalid answer = cond (ltb mostSource (length s)) long (cond (utf8 s) answer invalid)
 
--- what stands at an offset of a text, number 11 where the offset is not allowed
+-- the place of an offset of a text, number 11 where the offset is not allowed (02, 1/13)
 unfoldable pub placeIn : List ℕ → ℕ → LineColumn
 placeIn s b = cond (isAllowed s b) (L.Known (place (lineNum s b) (colNum s b))) L.NoSuchPlace
 
--- the line and column of an offset: 1, 3, then 11
+-- the line and column of an offset: 1, 3, then 11 (02, 1/13)
 unfoldable pub lineColumn : List ℕ → ℕ → LineColumn
 lineColumn s b = tested s L.LongFile L.InvalidUtf8 (placeIn s b)
 
@@ -79,15 +79,15 @@ lineColumn s b = tested s L.LongFile L.InvalidUtf8 (placeIn s b)
 abbrev pub stands : List ℕ → ℕ → ℕ → ℕ → Bool
 stands s l c b = isAllowed s b && (eqb (lineNum s b) l && eqb (colNum s b) c)
 
--- the offset that is allowed and stands there; behind the text where there is none
+-- the offset that is allowed and stands there, the first of them; behind the text where there is none
 abbrev pub offsetOf : List ℕ → ℕ → ℕ → ℕ
 offsetOf s l c = first (stands s l c) 0 (length s + 1)
 
--- the same, number 11 where there is none
+-- the same, number 11 where there is none (02, 1/13)
 unfoldable pub offsetIn : List ℕ → ℕ → ℕ → OffsetAt
 offsetIn s l c = cond (leb (offsetOf s l c) (length s)) (O.Known (record { 0 = offsetOf s l c })) O.NoSuchPlace
 
--- the offset of a line and column: 1, 3, then 11
+-- the offset of a line and column: 1, 3, then 11 (02, 1/13)
 unfoldable pub offsetAt : List ℕ → ℕ → ℕ → OffsetAt
 offsetAt s l c = tested s O.LongFile O.InvalidUtf8 (offsetIn s l c)
 

@@ -1,6 +1,7 @@
 // What is counted in a range of bytes, each in one loop that looks at every byte, so that the compiler can take many at once.
 ghost use mathlib.Core.Path.{_≡_};
 ghost use mathlib.Core.Bool.{not};
+ghost use Prim.Native.Nat.{_+_};
 ghost use lib.Dec.{eqb};
 ghost use Rattle.area.specs.Contracts.{before};
 ghost use Rattle.characters.specs.Utf8.{isContinuation, atEdge};
@@ -8,6 +9,7 @@ ghost use Rattle.characters.specs.Walk.{oneIf, last, count};
 ghost use Rattle.lines.specs.Lines.{lineFeed, endsLine, behindEnd};
 ghost use Rattle.lines.specs.Places.{ShortRange};
 use crate::Byte;
+use crate::ColNum;
 use crate::LineByte;
 use characters::utf8::is_continuation;
 
@@ -56,6 +58,14 @@ pub fn characters(s: &[u8], from: Byte, to: Byte) -> u8
         k += 1;
     }
     n
+}
+
+// The column of an offset, where its line starts.
+pub fn col_num(s: &[u8], start: LineByte, byte: Byte) -> ColNum
+    requires { ⌜ ShortRange (now s) (start .0) (byte .0) ⌝ }
+    ensures { λ r. ⌜ r .0 ≡ 1 + count (atEdge (before s)) (start .0) (byte .0) ⌝ }
+{
+    ColNum(1 + characters(s, Byte(start.0), byte) as u64)
 }
 
 // Where the line starts behind the last line end of a range; 0 where none is there.

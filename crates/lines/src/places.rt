@@ -2,6 +2,7 @@
 ghost use mathlib.Core.Path.{_≡_};
 ghost use Prim.Native.Nat.{_≤_};
 ghost use lib.ListN.{length};
+ghost use Rattle.answers.specs.Numbers.{mostSource};
 ghost use Rattle.area.specs.Contracts.{before};
 ghost use Rattle.lines.specs.Lines.{place, placeIn};
 ghost use Rattle.lines.specs.Places.{ShortRange, placeAt};
@@ -11,6 +12,7 @@ use crate::LineColumn;
 use crate::LineNum;
 use crate::Place;
 use crate::counts::characters;
+use crate::counts::col_num;
 use crate::counts::line_byte;
 use crate::counts::line_ends;
 use characters::utf8::is_continuation;
@@ -32,31 +34,30 @@ pub fn first_place() -> Place
 // The place of `to`, where that of `from` is `here`.
 pub fn place_behind(s: &[u8], here: Place, from: Byte, to: Byte) -> Place
     requires { ⌜ ShortRange (now s) (from .0) (to .0) ⌝ }
-    requires { ⌜ length (now s) ≤ 65535 ⌝ }
+    requires { ⌜ length (now s) ≤ mostSource ⌝ }
     requires { ⌜ here ≡ placeAt (now s) (from .0) ⌝ }
     ensures { λ r. ⌜ r ≡ placeAt (before s) (to .0) ⌝ }
 {
     let ended = line_ends(s, from, to);
     let line_num = here.line_num;
-    let col_num = here.col_num;
     if ended == 0 {
+        let column = here.col_num;
         let passed = characters(s, from, to);
         return Place {
             line_num,
-            col_num: ColNum(col_num.0 + passed as u64),
+            col_num: ColNum(column.0 + passed as u64),
         };
     }
     let start = line_byte(s, from, to);
-    let passed = characters(s, Byte(start.0), to);
     Place {
         line_num: LineNum(line_num.0 + ended as u64),
-        col_num: ColNum(1 + passed as u64),
+        col_num: col_num(s, start, to),
     }
 }
 
 // The place of an offset.
 fn place_of(s: &[u8], byte: Byte) -> Place
-    requires { ⌜ length (now s) ≤ 65535 ⌝ }
+    requires { ⌜ length (now s) ≤ mostSource ⌝ }
     requires { ⌜ byte .0 ≤ length (now s) ⌝ }
     ensures { λ r. ⌜ r ≡ placeAt (before s) (byte .0) ⌝ }
 {
@@ -73,7 +74,7 @@ fn place_of(s: &[u8], byte: Byte) -> Place
 
 // What stands at an offset of a text; number 11 above its length and inside a character.
 pub fn place_in(s: &[u8], byte: Byte) -> LineColumn
-    requires { ⌜ length (now s) ≤ 65535 ⌝ }
+    requires { ⌜ length (now s) ≤ mostSource ⌝ }
     ensures { λ r. ⌜ r ≡ placeIn (before s) (byte .0) ⌝ }
 {
     let b = byte.0;

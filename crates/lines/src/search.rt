@@ -3,6 +3,7 @@
 ghost use mathlib.Core.Path.{_≡_};
 ghost use Prim.Native.Nat.{_≤_, _<_};
 ghost use lib.ListN.{length};
+ghost use Rattle.answers.specs.Numbers.{mostSource};
 ghost use Rattle.area.specs.Contracts.{before};
 ghost use Rattle.lines.specs.Lines.{offsetIn, lineOf, columnOf};
 ghost use Rattle.lines.specs.Places.{isPast, Reaches, Passes};
@@ -33,7 +34,7 @@ fn is_past(here: Place, other: Place) -> bool
 // From where it has come on, by so many bytes at a time, as far as no place is past what is sought.
 fn pass_by(s: &[u8], width: usize, reached: Reached, sought: Place) -> Reached
     requires { ⌜ (0 < width) × (width ≤ 64) ⌝ }
-    requires { ⌜ length (now s) ≤ 65535 ⌝ }
+    requires { ⌜ length (now s) ≤ mostSource ⌝ }
     requires { ⌜ Reaches (now s) sought reached ⌝ }
     ensures { λ r. ⌜ Passes (before s) sought width r ⌝ }
 {
@@ -60,7 +61,7 @@ fn pass_by(s: &[u8], width: usize, reached: Reached, sought: Place) -> Reached
 
 // The offset that stands at a place.
 pub fn offset_of(s: &[u8], sought: Place) -> OffsetAt
-    requires { ⌜ length (now s) ≤ 65535 ⌝ }
+    requires { ⌜ length (now s) ≤ mostSource ⌝ }
     ensures { λ r. ⌜ r ≡ offsetIn (before s) (lineOf sought) (columnOf sought) ⌝ }
 {
     let start = first_place();
