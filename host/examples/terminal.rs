@@ -20,6 +20,8 @@ mod options;
 mod output;
 #[path = "terminal/paint.rs"]
 mod paint;
+#[path = "terminal/places.rs"]
+mod places;
 #[path = "terminal/session.rs"]
 mod session;
 #[path = "terminal/show.rs"]

@@ -1,8 +1,8 @@
 //! What is wrong in a lex file.
 
+use crate::Place;
 use crate::numbers;
 use crate::records::records;
-use crate::Place;
 use std::fmt;
 use std::ops::Range;
 

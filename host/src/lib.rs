@@ -69,7 +69,7 @@ mod sheet;
 pub use fault::{Fault, FaultKind};
 pub use lex_file::{Flags, LexFile};
 pub use map::{Map, NamesTooLong};
-pub use place::{Place, Places};
+pub use place::Place;
 pub use refusal::Refusal;
 pub use run::{Row, Run, Step};
 pub use sheet::{Linked, Operation, Parts, Rule, Sheet, State};

@@ -1,7 +1,7 @@
 //! Lines and columns: there and back.
 #![allow(clippy::unwrap_used, clippy::expect_used)]
 
-use troymantle::{FaultKind, LexFile, Place, Places, Refusal};
+use troymantle::{FaultKind, LexFile, Place, Refusal};
 
 /// Every offset of a text with its place, as this counts them: by characters, one after the other.
 fn counted(text: &str) -> Vec<(usize, Place)> {
@@ -15,24 +15,22 @@ fn counted(text: &str) -> Vec<(usize, Place)> {
     places
 }
 
-/// All offsets of a text, there and back, by the library at once and part by part; all others are refused.
+/// All offsets of a text, there and back; all others are refused.
 fn check(text: &str) {
     let expected = counted(text);
-    let places = Places::new(text).unwrap();
-    assert_eq!(*places.text(), text);
     for (offset, place) in &expected {
-        assert_eq!((Place::of(text, *offset), places.place(*offset)), (Ok(*place), Ok(*place)), "{offset} of {text:?}");
-        assert_eq!((place.offset(text), places.offset(*place)), (Ok(*offset), Ok(*offset)), "{place} of {text:?}");
+        assert_eq!(Place::of(text, *offset), Ok(*place), "{offset} of {text:?}");
+        assert_eq!(place.offset(text), Ok(*offset), "{place} of {text:?}");
     }
     for offset in (0..text.len() + 5).filter(|offset| !text.is_char_boundary(*offset)) {
-        assert_eq!((Place::of(text, offset), places.place(offset)), (no_place(), no_place()), "{offset} of {text:?}");
+        assert_eq!(Place::of(text, offset), no_place(), "{offset} of {text:?}");
     }
     // the column behind the last one of each line, columns 0, and the line behind the last one
     let lasts = expected.chunk_by(|(_, one), (_, other)| one.line == other.line).filter_map(|line| line.last());
     let behind = lasts.map(|(_, last)| Place { column: last.column + 1, ..*last }).collect::<Vec<_>>();
     let zeros = behind.iter().map(|place| Place { column: 0, ..*place });
     for place in behind.iter().copied().chain(zeros).chain([Place { line: behind.len() as u32 + 1, column: 1 }]) {
-        assert_eq!((place.offset(text), places.offset(place)), (no_place(), no_place()), "{place} of {text:?}");
+        assert_eq!(place.offset(text), no_place(), "{place} of {text:?}");
     }
 }
 
@@ -52,9 +50,9 @@ fn there_and_back() {
     assert_eq!(Place::of("a\u{2028}b\r\nc", 6), Ok(Place { line: 1, column: 5 }));
 }
 
-/// Texts of many parts, with their edges at all places of characters and line ends.
+/// Texts of some length, in which characters and line ends stand at all places.
 #[test]
-fn there_and_back_by_parts() {
+fn there_and_back_in_longer_texts() {
     for shift in 0..5 {
         for piece in ["é", "€", "😀", "a\r\n", "\r\n", "\n", "€\n", "aé€😀\n", "a line of usual length ;\n", "x"]
         {
@@ -73,28 +71,6 @@ fn the_longest_texts() {
     assert_eq!(Place::of(&columns, 65_535), Ok(Place { line: 1, column: 65_536 }));
     assert_eq!(Place { line: 1, column: 65_536 }.offset(&columns), Ok(65_535));
     assert_eq!(Place { line: 1, column: 65_537 }.offset(&columns), no_place());
-    for text in [lines, columns] {
-        let places = Places::new(&text).unwrap();
-        for offset in (0..65_536).step_by(1_023).chain([65_535]) {
-            let place = Place::of(&text, offset).unwrap();
-            assert_eq!((places.place(offset), places.offset(place)), (Ok(place), Ok(offset)));
-        }
-    }
-}
-
-/// By parts there are places of texts that are too long for one call.
-#[test]
-fn longer_texts_by_parts() {
-    let text = "é\n".repeat(100_000) + &"€".repeat(100_000);
-    assert_eq!(Place::of(&text, 0), Err(Refusal::LongFile));
-    let places = Places::new(text.as_bytes()).unwrap();
-    for (offset, line, column) in [(0, 1, 1), (299_999, 100_000, 2), (300_000, 100_001, 1), (600_000, 100_001, 100_001)]
-    {
-        let place = Place { line, column };
-        assert_eq!((places.place(offset), places.offset(place)), (Ok(place), Ok(offset)));
-    }
-    assert_eq!((places.place(600_001), places.place(300_001)), (no_place(), no_place()));
-    assert_eq!(places.offset(Place { line: 100_001, column: 100_002 }), no_place());
 }
 
 #[test]
@@ -107,9 +83,9 @@ fn many_thousand_faults_have_their_places() {
     }
 }
 
-/// Random bytes: part by part as at once, whatever is asked, and nothing panics.
+/// Random texts, some of them with a random byte in it, by which most are not UTF-8.
 #[test]
-fn parts_agree_with_the_whole_on_any_bytes() {
+fn there_and_back_in_random_bytes() {
     let mut state = 1_u64;
     let mut below = |most: usize| {
         state = state.wrapping_mul(6_364_136_223_846_793_005).wrapping_add(1);
@@ -117,24 +93,21 @@ fn parts_agree_with_the_whole_on_any_bytes() {
     };
     let pieces = ["a", "\n", "\r\n", "é", "€", "😀"].map(str::as_bytes);
     let mut texts = 0;
-    for _ in 0..2_000 {
-        let mut text = vec![];
-        (0..below(600)).for_each(|_| text.extend(pieces[below(pieces.len())]));
-        if below(3) == 0 && !text.is_empty() {
-            let at = below(text.len());
-            text[at] = below(256) as u8;
+    for _ in 0..300 {
+        let mut bytes = vec![];
+        (0..below(200)).for_each(|_| bytes.extend(pieces[below(pieces.len())]));
+        if below(3) == 0 && !bytes.is_empty() {
+            let at = below(bytes.len());
+            bytes[at] = below(256) as u8;
         }
-        let Ok(places) = Places::new(&text) else {
-            assert_eq!(Place::of(&text, 0), Err(Refusal::InvalidUtf8));
+        let Ok(text) = str::from_utf8(&bytes) else {
+            let first = Place { line: 1, column: 1 };
+            assert_eq!(Place::of(&bytes, below(bytes.len())), Err(Refusal::InvalidUtf8));
+            assert_eq!(first.offset(&bytes), Err(Refusal::InvalidUtf8));
             continue;
         };
         texts += 1;
-        for _ in 0..20 {
-            let offset = below(text.len() + 3);
-            assert_eq!(places.place(offset), Place::of(&text, offset));
-            let place = Place { line: below(200) as u32, column: below(9) as u32 };
-            assert_eq!(places.offset(place), place.offset(&text));
-        }
+        check(text);
     }
-    assert!((1_300..1_900).contains(&texts), "{texts} texts were UTF-8");
+    assert!((200..280).contains(&texts), "{texts} texts were UTF-8");
 }

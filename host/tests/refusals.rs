@@ -3,7 +3,7 @@
 // a fault's spans are ranges
 #![allow(clippy::single_range_in_vec_init)]
 
-use troymantle::{Fault, FaultKind, Flags, LexFile, Map, Parts, Place, Places, Refusal, Row, Run, Sheet, Step};
+use troymantle::{Fault, FaultKind, Flags, LexFile, Map, Parts, Place, Refusal, Row, Run, Sheet, Step};
 
 const FILE: &str = "%x S\n%%\na 'A'\nb <+S>'B'\n<S>c ;\n";
 /// No text has it.
@@ -57,7 +57,6 @@ fn number_3_for_bytes_that_are_not_utf8() {
     for place in [Place { line: 1, column: 1 }, NOWHERE] {
         assert_eq!(place.offset(b"a\nb\xff"), Err(Refusal::InvalidUtf8));
     }
-    assert_eq!(Places::new(b"a\nb\xff").err(), Some(Refusal::InvalidUtf8));
 }
 
 #[test]
@@ -284,7 +283,6 @@ fn number_11_for_an_offset_that_is_not_there() {
     for offset in [2, 5, 6, 8, 9, 10, 12, 13, 65_536, usize::MAX] {
         let refusal = refused(Place::of(text, offset));
         assert_eq!((refusal.number(), refusal.words()), (11, "no such place"));
-        assert_eq!(Places::new(text).unwrap().place(offset), Err(refusal));
     }
     assert!([0, 1, 3, 4, 7, 11].iter().all(|offset| Place::of(text, *offset).is_ok()));
     assert_eq!(refused(Place::of("", 1)), Refusal::NoSuchPlace);
@@ -300,7 +298,6 @@ fn number_11_for_a_line_and_column_that_no_offset_has() {
     for (line, column) in [(0, 0), (0, 1), (1, 0), (2, 0), (1, 4), (2, 4), (3, 1), (1, u32::MAX), (u32::MAX, 1)] {
         let place = Place { line, column };
         assert_eq!(refused(place.offset(text)), Refusal::NoSuchPlace, "{place}");
-        assert_eq!(refused(Places::new(text).unwrap().offset(place)), Refusal::NoSuchPlace, "{place}");
     }
     assert_eq!(Place { line: 1, column: 2 }.offset(""), Err(Refusal::NoSuchPlace));
 }

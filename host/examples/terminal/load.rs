@@ -152,7 +152,8 @@ fn faulty(lex: &Source, fault: &Fault, engine: Option<&str>, options: &Options) 
 }
 
 fn is_in_comment(lex: &Source, place: &Range<usize>) -> bool {
-    lex.excerpt(place).is_some_and(|excerpt| excerpt.shown.trim_start().starts_with("//"))
+    let (left, right) = lex.line(place.start);
+    [left, right].concat().trim_start().starts_with("//")
 }
 
 /// Where a rule's name itself stands, of which grmtools has a span: behind a target it is as if there were none.
@@ -262,6 +263,8 @@ mod tests {
         let hint = "note: with --comments, // skips a line\n";
         assert_eq!(messages(text, 0), format!("f:1:1: error: unknown declaration\n    // bets\n    ^\n{hint}"));
         assert_eq!(messages(text, 1), "");
+        let long = format!("%%\n// {}bets\n", "long ".repeat(40));
+        assert!(messages(&long, 0).ends_with(&format!("    ^\n{hint}")));
     }
 
     #[test]

@@ -179,6 +179,13 @@ mod tests {
     }
 
     #[test]
+    fn far_behind_a_lines_start_the_file_alone_is_told() {
+        let told = "error: an id is a number from 0 to 65,535\n";
+        assert!(wrong(&format!("{} x", "n".repeat(65_534))).starts_with(&format!("m:1:65536: {told}")));
+        assert_eq!(wrong(&format!("{} x", "n".repeat(65_535))), format!("m: {told}"));
+    }
+
+    #[test]
     fn a_map_is_text_of_a_limited_length() {
         let messages = read(&Source::new("m", b"A 1\nB\xff 2".to_vec())).err().unwrap();
         let told = "m:2:2: error: the file is not UTF-8 from here on\n    B\u{fffd} 2\n     ^\n";

@@ -1,10 +1,11 @@
 //! Files, and parts of them with their lines and columns.
 
+use crate::places::Places;
 use std::fs::File;
 use std::io::{self, Read};
 use std::ops::Range;
 use std::path::Path;
-use troymantle::{Place, Places};
+use troymantle::Place;
 
 /// A line above so many characters is shown in part.
 const MOST_SHOWN: usize = 120;
@@ -19,8 +20,7 @@ pub struct Source {
     pub bytes: Vec<u8>,
     /// The same as text. Behind the first byte that is not UTF-8 places in it are not those of the bytes.
     pub text: String,
-    /// Lines and columns of the text. It is UTF-8, so the library has them.
-    places: Option<Places<String>>,
+    places: Places,
 }
 
 /// A part of a file, ready to be shown.
@@ -40,8 +40,7 @@ pub struct Excerpt {
 impl Source {
     pub fn new(name: &str, bytes: Vec<u8>) -> Source {
         let text = String::from_utf8_lossy(&bytes).into_owned();
-        let places = Places::new(text.clone()).ok();
-        Source { name: visible(name), bytes, text, places }
+        Source { name: visible(name), bytes, places: Places::new(&text), text }
     }
 
     /// Reads a file, but no more than one byte above `most`: whoever asks refuses a file that has as many.
@@ -57,18 +56,21 @@ impl Source {
         Some(error.valid_up_to()..error.valid_up_to())
     }
 
-    /// A part of the file; none where the library has no place for it.
+    /// A part of the file; none where its start has no line and column.
     pub fn excerpt(&self, span: &Range<usize>) -> Option<Excerpt> {
         let start = character_edge(&self.text, span.start);
         let end = character_edge(&self.text, span.end).max(start);
-        let places = self.places.as_ref()?;
-        let place = places.place(start).ok()?;
-        let line_start = places.offset(Place { column: 1, ..place }).ok()?;
-        let next_line = places.offset(Place { line: place.line + 1, column: 1 }).unwrap_or(self.text.len());
-        let left = self.text.get(line_start..start)?;
-        let right = self.text.get(start..next_line)?.trim_end_matches(['\r', '\n']);
+        let place = self.places.place(&self.text, start)?;
+        let (left, right) = self.line(start);
         let (shown, marks) = marked(left, right, end - start);
         Some(Excerpt { file: self.name.clone(), place, start: span.start, length: span.len(), shown, marks })
+    }
+
+    /// The line that a byte stands in: what is left of the byte, and the rest without the line's end.
+    pub fn line(&self, byte: usize) -> (&str, &str) {
+        let (before, behind) = self.text.split_at_checked(character_edge(&self.text, byte)).unwrap_or_default();
+        let (left, right) = (before.rsplit('\n').next(), behind.split('\n').next());
+        (left.unwrap_or_default(), right.unwrap_or_default().trim_end_matches('\r'))
     }
 }
 
