@@ -3,6 +3,8 @@
 use crate::answers::{ACCEPTED, AREA_FULL, FAULTY_FILE};
 use crate::case::{AREA_NAMES, AREAS, Answer, Case, RECORD_SIZES};
 use crate::oracle::{Difference, Finding};
+use std::collections::BTreeMap;
+use std::fmt::Debug;
 
 /// Longer sources are cut in the middle.
 const SHOWN_SOURCE: usize = 400;
@@ -124,6 +126,21 @@ fn fields(record: &[u8]) -> String {
         })
         .collect();
     fields.join(" ")
+}
+
+/// How often each number was given.
+pub fn tally(answers: &BTreeMap<u64, u64>) -> String {
+    let told: Vec<String> = answers.iter().map(|(answer, count)| format!("{answer}: {}", number(*count))).collect();
+    told.join(", ")
+}
+
+/// Tells that all misreadings of something were noticed, or which were not.
+pub fn all_noticed(what: &str, all: usize, unnoticed: &[impl Debug]) -> Result<(), String> {
+    match unnoticed {
+        [] => println!("All {all} misreadings of {what} were noticed."),
+        _ => return Err(format!("These misreadings of {what} were not noticed: {unnoticed:?}")),
+    }
+    Ok(())
 }
 
 /// 1234567 as 1,234,567.

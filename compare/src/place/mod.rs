@@ -44,12 +44,7 @@ pub fn run(seed: u64, first: u64, cases: u64) -> Result<(), String> {
         unnoticed.retain(|misreading| !notices(&source, &calls, &left, *misreading));
     }
     println!("{} ({:.1} seconds, seed {seed}).", tally.report(cases), start.elapsed().as_secs_f64());
-    if unnoticed.is_empty() {
-        println!("All {} misreadings of lines and columns were noticed.", misreadings::ALL.len());
-        Ok(())
-    } else {
-        Err(format!("These misreadings of lines and columns were not noticed: {unnoticed:?}"))
-    }
+    show::all_noticed("lines and columns", misreadings::ALL.len(), &unnoticed)
 }
 
 #[derive(Default)]
@@ -64,8 +59,6 @@ struct Tally {
 
 impl Tally {
     fn report(&self, cases: u64) -> String {
-        let answers: Vec<String> =
-            self.answers.iter().map(|(number, count)| format!("{number}: {}", show::number(*count))).collect();
         let whose = if cfg!(feature = "ours") { "Troymantle's" } else { "the model's" };
         format!(
             "{} sources, {} calls: {whose} lines, line starts and columns are those of the original at {} places, but for one \
@@ -76,7 +69,7 @@ impl Tally {
             show::number(self.places),
             show::number(self.other_columns),
             show::number(self.lines),
-            answers.join(", ")
+            show::tally(&self.answers)
         )
     }
 }

@@ -64,12 +64,7 @@ pub fn run(seed: u64, first: u64, cases: u64) -> Result<(), String> {
         unnoticed.retain(|misreading| !notices(&case, &trace, *misreading));
     }
     println!("{} ({:.1} seconds, seed {seed}).", tally.report(cases), start.elapsed().as_secs_f64());
-    if unnoticed.is_empty() {
-        println!("All {} misreadings of the run machine were noticed.", misreadings::ALL.len());
-        Ok(())
-    } else {
-        Err(format!("These misreadings of the run machine were not noticed: {unnoticed:?}"))
-    }
+    show::all_noticed("the run machine", misreadings::ALL.len(), &unnoticed)
 }
 
 #[derive(Default)]
@@ -84,8 +79,6 @@ struct Tally {
 
 impl Tally {
     fn report(&self, cases: u64) -> String {
-        let answers: Vec<String> =
-            self.answers.iter().map(|(number, count)| format!("{number}: {}", show::number(*count))).collect();
         let whose = if cfg!(feature = "ours") { "Troymantle's" } else { "the model's" };
         format!(
             "{} runs, {} step calls: {whose} tokens, skips and ends are those of the original's loop, which was asked for its position and state at {} places; every answer, number and stack byte is that of the run machine, or of 01's words where a call was damaged. At most {} moves and a depth of {}. Answers: {}",
@@ -94,7 +87,7 @@ impl Tally {
             show::number(self.stops),
             show::number(self.most_moves as u64),
             show::number(self.deepest as u64),
-            answers.join(", ")
+            show::tally(&self.answers)
         )
     }
 }
