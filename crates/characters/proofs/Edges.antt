@@ -3,16 +3,17 @@
 use mathlib.Core.Path.{_≡_, refl, sym, ap, subst, _∙_}
 use mathlib.Core.Bool.{true, false, not, true≢false}
 use mathlib.Core.List.{List, [], _∷_, _++_, append-assoc, append-nil}
-use mathlib.Core.Logic.{_⊎_, inl, inr, ⊎-elim}
+use mathlib.Core.Logic.{_⊎_, inl, inr}
 use Prim.Native.Nat.{ℕ, _+_, _-_, _/_, _≤_, _<_}
 use native.Mathlib.Nat.{le-refl, eq-or-lt-of-le}
 use native.Mathlib.Omega.{arith}
-use borrow.Author.Tests.{lt-leb}
+use borrow.Author.Tests.{le-leb, lt-leb, leb-true}
+use lib.Dec.{leb}
 use lib.ListN.{length, length-append, List·getD-eq-default}
 use Rattle.characters.specs.Whitespace.{byte}
 use Rattle.characters.specs.Unicode.{encode, encodeAll, Edge}
-use Rattle.characters.specs.Utf8.{isContinuation, atEdge}
-use Rattle.characters.proofs.Tests.{in-range, above-range, le-or-lt}
+use Rattle.characters.specs.Utf8.{isContinuation, atEdge, isEdge}
+use Rattle.characters.proofs.Tests.{and-left, and-right, in-range, above-range, le-or-lt}
 use Rattle.characters.proofs.Codes.{by-size, encode-1, encode-2, encode-3, encode-4, encodeAll-append}
 use Rattle.characters.proofs.Ascii.{first-at, inner-at}
 
@@ -83,6 +84,17 @@ edge-from xs (y ∷ ys) b l h t =
     by (inr q) (inl r) on = subst (λ (zs : List ℕ). Edge zs b) moved (on (omega (arith, edge-behind xs y)))
     by (inr q) (inr r) on = absurd (true≢false (sym t ∙ no-edge-inside xs y ys b (omega arith) r))
 
-pub edge-is : (cs : List ℕ) (b : ℕ) → b ≤ length (encodeAll cs) → atEdge (encodeAll cs) b ≡ true → Edge cs b
-unfolding encodeAll
-edge-is cs b h t = edge-from [] cs b (omega arith) h t
+-- ---- the test is exact
+
+module _ (cs : List ℕ) (b : ℕ) where
+  pub edge-passes : Edge cs b → isEdge (encodeAll cs) b ≡ true
+  edge-passes e = rw (le-leb b (length (encodeAll cs)) inside, e .all, e .bytes) (edge-at (e .before) (e .behind))
+    where
+      inside : b ≤ length (encodeAll cs)
+      inside = rw (e .all, encodeAll-append (e .before) (e .behind)) (omega (arith, e .bytes, length-append (encodeAll (e .before)) (encodeAll (e .behind))))
+
+  pub edge-is : isEdge (encodeAll cs) b ≡ true → Edge cs b
+  unfolding encodeAll
+  edge-is t =
+      let inside = leb-true b (length (encodeAll cs)) (and-left (leb b (length (encodeAll cs))) (atEdge (encodeAll cs) b) t) in
+      edge-from [] cs b (omega arith) inside (and-right (leb b (length (encodeAll cs))) (atEdge (encodeAll cs) b) t)

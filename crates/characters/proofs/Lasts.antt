@@ -2,15 +2,15 @@
 -- of the earlier one. By induction on the positions.
 use mathlib.Core.Path.{_≡_, refl, ap, subst, _∙_}
 use mathlib.Core.Bool.{Bool, true, false, cond}
-use mathlib.Core.Logic.{_⊎_, inl, inr, ⊎-elim}
+use mathlib.Core.Logic.{_⊎_, inl, inr}
 use Prim.Native.Nat.{ℕ, zero, suc, _+_, _-_, _≤_, _<_}
-use native.Mathlib.Nat.{add-zero, eq-or-lt-of-le, le-of-suc-le-suc}
+use native.Mathlib.Nat.{add-zero, eq-or-lt-of-le}
 use native.Mathlib.Omega.{arith}
 use Rattle.characters.specs.Walk.{lastOf, last}
 use Rattle.characters.specs.declared.Found.{Found}
 use Rattle.characters.specs.declared.Found.the-variants.{At, Nothing}
 
--- the last of the positions from i to before e that passes is p
+-- one of the positions from i to before e passes, and f is the last that does
 pub record LastAt (test : ℕ → Bool) (i e : ℕ) (f : Found) : Type 0 where
   pub place : ℕ
   pub is : f ≡ At place

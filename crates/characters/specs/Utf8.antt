@@ -16,6 +16,10 @@ isContinuation b = within 0x80 0xbf b
 abbrev pub atEdge : List ℕ → ℕ → Bool
 atEdge s k = not (isContinuation (byte s k))
 
+-- b is an edge of the text s: it is not above its length, and no character goes on there
+abbrev pub isEdge : List ℕ → ℕ → Bool
+isEdge s b = leb b (length s) && atEdge s b
+
 -- the table's row for one byte
 abbrev pub oneByte : ℕ → Bool
 oneByte a = ltb a 0x80

@@ -1,18 +1,16 @@
 -- An escape is a whole character in the sense of Unicode: in a text of code points the character that starts at an edge ends behind the bytes of its
 -- code point. The bytes up to there are inside it, from 80 to BF; at the next edge stands the first byte of another character, which is not, or the end.
 use mathlib.Core.Path.{_≡_, sym, ap, _∙_}
-use mathlib.Core.Bool.{true, false, not}
+use mathlib.Core.Bool.{true}
 use mathlib.Core.List.{List, [], _∷_, _++_, append-assoc}
-use Prim.Native.Nat.{ℕ, _+_, _-_, _/_, _≤_, _<_}
+use Prim.Native.Nat.{ℕ, _+_, _-_}
 use native.Mathlib.Omega.{arith}
-use borrow.Author.Tests.{lt-leb}
 use lib.ListN.{length, length-append}
 use Rattle.characters.specs.Walk.{first}
-use Rattle.characters.specs.Whitespace.{byte}
 use Rattle.characters.specs.Unicode.{encode, encodeAll}
 use Rattle.characters.specs.Utf8.{atEdge}
 use Rattle.characters.proofs.Walks.{first-here, first-none, first-over}
-use Rattle.characters.proofs.Codes.{encode-long, encodeAll-append}
+use Rattle.characters.proofs.Codes.{encode-long}
 use Rattle.characters.proofs.Ascii.{ascii-whole}
 use Rattle.characters.proofs.Edges.{length-all, edge-behind, no-edge-inside, edge-at}
 use Rattle.escape.specs.Escape.{nextBackslash, charEnd, nextEscape}

@@ -1,31 +1,29 @@
 -- The line and column are those of an editor: in a text of code points the place goes on by one character as `behindOne` says, so by induction it is
 -- `behindAll` of the characters before the offset. No offset but the edges is allowed.
-use mathlib.Core.Path.{_≡_, refl, sym, ap, subst, _∙_}
-use mathlib.Core.Bool.{Bool, true, false, cond, _&&_}
+use mathlib.Core.Path.{_≡_, refl, sym, ap, _∙_}
+use mathlib.Core.Bool.{Bool, true, false, cond}
 use mathlib.Core.List.{List, [], _∷_, _++_, append-assoc, append-nil}
-use mathlib.Core.Logic.{_⊎_, inl, inr, ⊎-elim}
+use mathlib.Core.Logic.{_⊎_, ⊎-elim}
 use Prim.Native.Nat.{ℕ, _+_, _-_, _≤_, _<_}
 use native.Mathlib.Nat.{eq-or-lt-of-le}
 use native.Mathlib.Omega.{arith}
-use borrow.Author.Tests.{eqb-true, eqb-false, le-leb, leb-true, le-ltb}
-use lib.Dec.{eqb, leb}
-use lib.ListN.{length, length-append}
+use borrow.Author.Tests.{eqb-true, le-ltb}
+use lib.Dec.{eqb}
+use lib.ListN.{length}
 use Rattle.answers.specs.Numbers.{mostSource}
 use Rattle.characters.specs.Utf8.{atEdge, utf8}
-use Rattle.characters.specs.Unicode.{encode, encodeAll, Scalars, Edge}
+use Rattle.characters.specs.Unicode.{encode, encodeAll, Edge}
 use Rattle.characters.specs.Walk.{oneIf, last, count}
-use Rattle.characters.proofs.Tests.{and-left, and-right}
 use Rattle.characters.proofs.Counts.{count-none, count-next, count-split, count-failing}
-use Rattle.characters.proofs.Codes.{encode-long, encodeAll-append}
+use Rattle.characters.proofs.Codes.{encode-long}
 use Rattle.characters.proofs.Ascii.{ascii-whole}
-use Rattle.characters.proofs.Edges.{edge-behind, no-edge-inside, edge-at, edge-is}
-use Rattle.characters.proofs.Encoding.{encoded-is-utf8}
+use Rattle.characters.proofs.Edges.{edge-behind, no-edge-inside, edge-at, edge-passes, edge-is}
+use Rattle.characters.proofs.Decoding.{utf8-judges}
 use Rattle.lines.specs.declared.Place.{Place}
-use Rattle.lines.specs.declared.LineColumn.{LineColumn}
 use Rattle.lines.specs.declared.LineColumn.the-variants.{Known, NoSuchPlace}
-use Rattle.lines.specs.Lines.{endsLine, lineNum, colNum, behindEnd, place, lineOf, columnOf, isAllowed, tested, placeIn, lineColumn}
+use Rattle.lines.specs.Lines.{endsLine, lineNum, colNum, behindEnd, place, isAllowed, tested, placeIn, lineColumn}
 use Rattle.lines.specs.Places.{placeAt}
-use Rattle.lines.specs.CodePoints.{behindOne, behindAll, ByCodePoints}
+use Rattle.lines.specs.CodePoints.{behindOne, behindAll, BY-CODE-POINTS}
 use Rattle.lines.proofs.Moving.{line-on, column-on, column-anew, start-inside}
 use Rattle.lines.proofs.Placing.{first-placed}
 
@@ -119,36 +117,36 @@ place-behind xs ys = behind-from [] xs ys ∙ ap (λ (p : Place). behindAll p xs
 
 -- ---- the call
 
-module _ (cs : List ℕ) (b : ℕ) (scalars : Scalars cs) (short : length (encodeAll cs) ≤ mostSource) where
-  of-text : lineColumn (encodeAll cs) b ≡ placeIn (encodeAll cs) b
+module _ (s : List ℕ) (short : length s ≤ mostSource) (formed : utf8 s ≡ true) where
+  of-text : (b : ℕ) → lineColumn s b ≡ placeIn s b
   unfolding lineColumn tested
-  of-text =
-      rw (le-ltb mostSource (length (encodeAll cs)) short, encoded-is-utf8 (encodeAll cs) (record { scalarValues = cs; scalars = scalars; bytes = refl }))
+  of-text b = rw (le-ltb mostSource (length s) short, formed)
 
+module _ (cs : List ℕ) (b : ℕ) where
   at-edge : (e : Edge cs b) → placeIn (encodeAll cs) b ≡ Known (behindAll (place 1 1) (e .before))
   unfolding placeIn placeAt
-  at-edge e = rw allowed (ap Known found)
-    where
-      inside : b ≤ length (encodeAll cs)
-      inside = rw (e .all, encodeAll-append (e .before) (e .behind)) (omega (arith, e .bytes, length-append (encodeAll (e .before)) (encodeAll (e .behind))))
-
-      edge : atEdge (encodeAll cs) b ≡ true
-      edge = rw (e .all, e .bytes) (edge-at (e .before) (e .behind))
-
-      allowed : isAllowed (encodeAll cs) b ≡ true
-      allowed = rw (le-leb b (length (encodeAll cs)) inside, edge)
-
-      found : placeAt (encodeAll cs) b ≡ behindAll (place 1 1) (e .before)
-      found = ap (λ (zs : List ℕ). placeAt (encodeAll zs) b) (e .all) ∙ ap (placeAt (encodeAll (e .before ++ e .behind))) (e .bytes) ∙ place-behind (e .before) (e .behind)
+  at-edge e =
+      let found : placeAt (encodeAll cs) b ≡ behindAll (place 1 1) (e .before) =
+      ap (λ (zs : List ℕ). placeAt (encodeAll zs) b) (e .all)
+      ∙ ap (placeAt (encodeAll (e .before ++ e .behind))) (e .bytes)
+      ∙ place-behind (e .before) (e .behind) in
+      rw (edge-passes cs b e) (ap Known found)
 
   off-edge : (Edge cs b → ⊥) → placeIn (encodeAll cs) b ≡ NoSuchPlace
   unfolding placeIn
   off-edge none = go (isAllowed (encodeAll cs) b) refl
     where
       go : (t : Bool) → isAllowed (encodeAll cs) b ≡ t → cond t (Known (place (lineNum (encodeAll cs) b) (colNum (encodeAll cs) b))) NoSuchPlace ≡ NoSuchPlace
-      go true e =
-          absurd (none (edge-is cs b (leb-true b (length (encodeAll cs)) (and-left (leb b (length (encodeAll cs))) (atEdge (encodeAll cs) b) e)) (and-right (leb b (length (encodeAll cs))) (atEdge (encodeAll cs) b) e)))
+      go true e = absurd (none (edge-is cs b e))
       go false e = refl
 
-  pub by-code-points : ByCodePoints cs b
-  by-code-points = record { edge = λ e. of-text ∙ at-edge e; elsewhere = λ none. of-text ∙ off-edge none }
+pub by-code-points : BY-CODE-POINTS
+by-code-points s short formed =
+    let text = utf8-judges s .sound formed in
+    let same : (b : ℕ) → lineColumn s b ≡ placeIn (encodeAll (text .scalarValues)) b =
+    λ b. of-text s short formed b ∙ ap (λ (x : List ℕ). placeIn x b) (sym (text .bytes)) in
+    record {
+      text = text;
+      edge = λ b e. same b ∙ at-edge (text .scalarValues) b e;
+      elsewhere = λ b none. same b ∙ off-edge (text .scalarValues) b none;
+    }

@@ -22,9 +22,9 @@ answers [] = []
 answers (b ∷ bs) = lineColumn text b ∷ answers bs
 
 pub places-right :
-    answers (0 ∷ 1 ∷ 2 ∷ 3 ∷ 4 ∷ 5 ∷ 6 ∷ 7 ∷ 8 ∷ 9 ∷ 10 ∷ 11 ∷ 12 ∷ 13 ∷ 14 ∷ 15 ∷ 65536 ∷ [])
+    answers (0 ∷ 1 ∷ 2 ∷ 3 ∷ 4 ∷ 5 ∷ 6 ∷ 7 ∷ 8 ∷ 9 ∷ 10 ∷ 11 ∷ 12 ∷ 13 ∷ 14 ∷ 15 ∷ 16 ∷ 65536 ∷ [])
     ≡ at 1 1 ∷ at 1 2 ∷ L.NoSuchPlace ∷ at 1 3 ∷ L.NoSuchPlace ∷ L.NoSuchPlace ∷ at 1 4 ∷ L.NoSuchPlace ∷ L.NoSuchPlace ∷ L.NoSuchPlace
-    ∷ at 1 5 ∷ at 1 6 ∷ at 2 1 ∷ at 2 2 ∷ at 3 1 ∷ L.NoSuchPlace ∷ L.NoSuchPlace ∷ []
+    ∷ at 1 5 ∷ at 1 6 ∷ at 2 1 ∷ at 2 2 ∷ at 3 1 ∷ L.NoSuchPlace ∷ L.NoSuchPlace ∷ L.NoSuchPlace ∷ []
 unfolding computing
 places-right = refl
 
@@ -33,8 +33,8 @@ offset b = O.Known (record { 0 = b })
 
 -- the ends of lines, columns behind them, lines behind the last, and 0
 pub offsets-right :
-    offsetAt text 1 1 ∷ offsetAt text 1 6 ∷ offsetAt text 1 7 ∷ offsetAt text 2 2 ∷ offsetAt text 2 3 ∷ offsetAt text 3 1 ∷ offsetAt text 3 2
-    ∷ offsetAt text 4 1 ∷ offsetAt text 0 1 ∷ offsetAt text 1 0 ∷ []
+    offsetAt text (place 1 1) ∷ offsetAt text (place 1 6) ∷ offsetAt text (place 1 7) ∷ offsetAt text (place 2 2) ∷ offsetAt text (place 2 3) ∷ offsetAt text (place 3 1) ∷ offsetAt text (place 3 2)
+    ∷ offsetAt text (place 4 1) ∷ offsetAt text (place 0 1) ∷ offsetAt text (place 1 0) ∷ []
     ≡ offset 0 ∷ offset 11 ∷ O.NoSuchPlace ∷ offset 13 ∷ O.NoSuchPlace ∷ offset 14 ∷ O.NoSuchPlace
     ∷ O.NoSuchPlace ∷ O.NoSuchPlace ∷ O.NoSuchPlace ∷ []
 unfolding computing

@@ -2,7 +2,7 @@
 use mathlib.Core.Path.{_≡_, refl, sym, ap, _∙_}
 use mathlib.Core.Bool.{cond}
 use mathlib.Core.List.{List}
-use Prim.Native.Nat.{ℕ, _+_, _≤_, _<_}
+use Prim.Native.Nat.{ℕ, _≤_}
 use native.Mathlib.Omega.{arith}
 use borrow.Author.Tests.{leb-true}
 use lib.Dec.{eqb, leb}
@@ -12,7 +12,6 @@ use Rattle.answers.specs.Words.{Fields, TwoBytes, TellsApart}
 use Rattle.answers.proofs.Words.{tells-by, two-bytes, no-values}
 use Rattle.characters.specs.Utf8.{atEdge}
 use Rattle.characters.proofs.Tests.{and-left}
-use Rattle.lines.specs.declared.Byte.{Byte}
 use Rattle.lines.specs.declared.Place.{Place}
 use Rattle.lines.specs.declared.LineColumn.{LineColumn}
 use Rattle.lines.specs.declared.LineColumn.the-variants as L
@@ -42,16 +41,16 @@ place-small s b x is =
       column = λ p e. omega (arith, placed-column s b p (known-placed s b p (sym is ∙ e)));
     }
 
-pub offset-small : (s : List ℕ) (l c : ℕ) (x : OffsetAt) → x ≡ offsetAt s l c → SmallOffset x
-offset-small s l c x is =
+pub offset-small : (s : List ℕ) (p : Place) (x : OffsetAt) → x ≡ offsetAt s p → SmallOffset x
+offset-small s p x is =
     record {
-      offset = λ b e. let h = known-placed s (b .0) (place l c) (there-and-back s .there l c b (sym is ∙ e)) in omega (arith, placed-to s (b .0) (place l c) h);
+      offset = λ b e. let h = known-placed s (b .0) p (there-and-back s .there p b (sym is ∙ e)) in omega (arith, placed-to s (b .0) p h);
     }
 
 -- the fields of what offset_at answers have two bytes
-pub offset-fields-small : (s : List ℕ) (l c : ℕ) → TwoBytes (offsetFields (offsetAt s l c))
+pub offset-fields-small : (s : List ℕ) (p : Place) → TwoBytes (offsetFields (offsetAt s p))
 unfolding offsetFields
-offset-fields-small s l c = go (offsetAt s l c) (offset-small s l c (offsetAt s l c) refl)
+offset-fields-small s p = go (offsetAt s p) (offset-small s p (offsetAt s p) refl)
   where
     go : (x : OffsetAt) → SmallOffset x → TwoBytes (offsetFields x)
     go (O.Known b) h = two-bytes acceptedNumber (b .0) 0 0 (omega arith) (h .offset b refl) (omega arith) (omega arith)

@@ -2,7 +2,7 @@
 -- does, the line ends add to the line, and the column begins anew behind the last of them.
 use mathlib.Core.Path.{_≡_, sym, ap, _∙_}
 use mathlib.Core.List.{List}
-use mathlib.Core.Logic.{_⊎_, inl, inr, ⊎-elim}
+use mathlib.Core.Logic.{_⊎_, inl, inr}
 use Prim.Native.Nat.{ℕ, _+_, _≤_, _<_}
 use mir.Val.{Fits}
 use mir.Syntax.{w64}
@@ -13,8 +13,8 @@ use Rattle.answers.specs.Numbers.{mostSource}
 use Rattle.characters.specs.Utf8.{atEdge}
 use Rattle.characters.specs.Walk.{last, count}
 use Rattle.characters.specs.declared.Found.{Found}
-use Rattle.characters.specs.declared.Found.the-variants.{At, Nothing}
-use Rattle.characters.proofs.Counts.{count-none, count-most, count-split, count-some, count-failing}
+use Rattle.characters.specs.declared.Found.the-variants.{Nothing}
+use Rattle.characters.proofs.Counts.{count-most, count-split, count-some, count-failing}
 use Rattle.characters.proofs.Lasts.{LastAt, LastNone, orElse, last-is, last-split}
 use Rattle.lines.specs.declared.ColNum.{ColNum}
 use Rattle.lines.specs.declared.Place.{Place}

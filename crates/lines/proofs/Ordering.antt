@@ -1,7 +1,7 @@
 -- The places of a text only go up, and at each edge by something: so at most one offset that is allowed stands at a place, none before an offset whose
 -- place is not past it, and none from an offset on whose place is.
 use mathlib.Core.Path.{_≡_, refl, sym, ap, subst, _∙_}
-use mathlib.Core.Bool.{Bool, true, false, not, _&&_, _||_, true≢false, false≢true}
+use mathlib.Core.Bool.{Bool, true, false, _&&_, _||_, true≢false}
 use mathlib.Core.List.{List}
 use mathlib.Core.Logic.{_⊎_, inl, inr, ⊎-elim}
 use Prim.Native.Nat.{ℕ, _+_, _≤_, _<_}
@@ -118,7 +118,7 @@ inside-stays s i e =
 
 -- ---- which offsets stand at a place
 
-module _ (s : List ℕ) (q : Place) (m : ℕ) (e : stands s (lineOf q) (columnOf q) m ≡ true) where
+module _ (s : List ℕ) (q : Place) (m : ℕ) (e : stands s q m ≡ true) where
   same-line-and-column : eqb (lineNum s m) (lineOf q) && eqb (colNum s m) (columnOf q) ≡ true
   same-line-and-column = and-right (isAllowed s m) (eqb (lineNum s m) (lineOf q) && eqb (colNum s m) (columnOf q)) e
 
@@ -132,27 +132,27 @@ module _ (s : List ℕ) (q : Place) (m : ℕ) (e : stands s (lineOf q) (columnOf
   pub stands-allowed : isAllowed s m ≡ true
   stands-allowed = and-left (isAllowed s m) (eqb (lineNum s m) (lineOf q) && eqb (colNum s m) (columnOf q)) e
 
-pub stands-where : (s : List ℕ) (q : Place) (m : ℕ) → isAllowed s m ≡ true → placeAt s m ≡ q → stands s (lineOf q) (columnOf q) m ≡ true
+pub stands-where : (s : List ℕ) (q : Place) (m : ℕ) → isAllowed s m ≡ true → placeAt s m ≡ q → stands s q m ≡ true
 unfolding placeAt
 stands-where s q m a p = rw (a, eq-eqb (lineNum s m) (lineOf q) (ap lineOf p), eq-eqb (colNum s m) (columnOf q) (ap columnOf p))
 
 module _ (s : List ℕ) (q : Place) (m k : ℕ) where
   -- none from an offset on whose place is past it
-  pub none-behind : isPast (placeAt s k) q ≡ true → k ≤ m → stands s (lineOf q) (columnOf q) m ≡ false
-  none-behind p h = go (stands s (lineOf q) (columnOf q) m) refl
+  pub none-behind : isPast (placeAt s k) q ≡ true → k ≤ m → stands s q m ≡ false
+  none-behind p h = go (stands s q m) refl
     where
-      go : (t : Bool) → stands s (lineOf q) (columnOf q) m ≡ t → t ≡ false
+      go : (t : Bool) → stands s q m ≡ t → t ≡ false
       go true e = absurd (itself-not-past q (subst (λ (x : Place). isPast x q ≡ true) (stands-at s q m e) (places-rise s k m q h p)))
       go false e = refl
 
   -- and none before one whose place is not
-  pub none-before : isPast (placeAt s k) q ≡ false → m < k → stands s (lineOf q) (columnOf q) m ≡ false
-  none-before p h = go (stands s (lineOf q) (columnOf q) m) refl
+  pub none-before : isPast (placeAt s k) q ≡ false → m < k → stands s q m ≡ false
+  none-before p h = go (stands s q m) refl
     where
-      edge : stands s (lineOf q) (columnOf q) m ≡ true → atEdge s m ≡ true
+      edge : stands s q m ≡ true → atEdge s m ≡ true
       edge e = and-right (leb m (length s)) (atEdge s m) (stands-allowed s q m e)
 
-      go : (t : Bool) → stands s (lineOf q) (columnOf q) m ≡ t → t ≡ false
+      go : (t : Bool) → stands s q m ≡ t → t ≡ false
       go true e =
           absurd (true≢false (sym (subst (λ (x : Place). isPast (placeAt s k) x ≡ true) (stands-at s q m e) (edges-rise s m k h (edge e))) ∙ p))
       go false e = refl

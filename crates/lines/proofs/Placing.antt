@@ -1,16 +1,14 @@
 -- The place of an offset: it begins at line 1 and column 1 and goes on block by block; number 11 where the offset is not allowed.
-use mathlib.Core.Path.{_≡_, refl, sym, ap, _∙_}
-use mathlib.Core.Bool.{Bool, true, false, not, cond}
+use mathlib.Core.Path.{_≡_, sym, ap, _∙_}
+use mathlib.Core.Bool.{Bool, true, false, not}
 use mathlib.Core.List.{List}
 use Prim.Native.Nat.{ℕ, _+_, _≤_, _<_}
 use native.Mathlib.Omega.{arith}
 use borrow.Author.Needs.{needs}
 use borrow.Author.Tests.{le-leb, lt-leb}
-use lib.Dec.{leb}
 use lib.ListN.{length}
 use Rattle.characters.specs.Utf8.{isContinuation, atEdge}
 use Rattle.characters.specs.Whitespace.{byte}
-use Rattle.characters.proofs.Tests.{answer-yes, answer-no, and-false}
 use Rattle.lines.specs.declared.Place.{Place}
 use Rattle.lines.specs.declared.LineColumn.the-variants.{Known, NoSuchPlace}
 use Rattle.lines.specs.Lines.{lineNum, colNum, place, placeIn}

@@ -1,6 +1,6 @@
 -- The search for the offset of a place: it comes to the last offset whose place is not past it. That offset stands there if any does.
 use mathlib.Core.Path.{_≡_, refl, sym, ap, subst, _∙_}
-use mathlib.Core.Bool.{Bool, true, false, _&&_, true≢false}
+use mathlib.Core.Bool.{Bool, true, false, true≢false}
 use mathlib.Core.List.{List}
 use mathlib.Core.Logic.{_⊎_, inl, inr, ⊎-elim}
 use Prim.Native.Nat.{ℕ, _+_, _≤_, _<_}
@@ -8,10 +8,8 @@ use native.Mathlib.Nat.{eq-or-lt-of-le}
 use native.Mathlib.Omega.{arith}
 use borrow.Author.Needs.{needs}
 use borrow.Author.Tests.{le-leb, lt-leb}
-use lib.Dec.{leb}
 use lib.ListN.{length}
 use Rattle.characters.specs.Utf8.{atEdge}
-use Rattle.characters.specs.Walk.{first}
 use Rattle.characters.proofs.Tests.{le-or-lt}
 use Rattle.characters.proofs.Walks.{first-none, first-over}
 use Rattle.characters.proofs.Firsts.{first-only}
@@ -19,9 +17,9 @@ use Rattle.characters.proofs.Edges.{end-edge}
 use Rattle.lines.specs.declared.Place.{Place}
 use Rattle.lines.specs.declared.search.Reached.{Reached}
 use Rattle.lines.specs.declared.OffsetAt.the-variants.{Known, NoSuchPlace}
-use Rattle.lines.specs.Lines.{place, isAllowed, stands, offsetOf, offsetIn, lineOf, columnOf}
+use Rattle.lines.specs.Lines.{place, isAllowed, stands, offsetOf, offsetIn}
 use Rattle.lines.specs.Places.{placeAt, isPast, Reaches, Passes}
-use Rattle.lines.proofs.Placing.{first-placed, place-begins, range-is}
+use Rattle.lines.proofs.Placing.{place-begins, range-is}
 use Rattle.lines.proofs.Ordering.{neither-past, inside-stays, stands-at, stands-where, none-behind, none-before}
 
 -- ---- one pass, by w bytes at a time
@@ -62,16 +60,16 @@ pub ruleset passing = (needs, range-is, reached-is, reached-near, reached-inside
 
 module _ (s : List ℕ) (q : Place) where
   -- no offset stands there
-  none-stands : ((m : ℕ) → m ≤ length s → stands s (lineOf q) (columnOf q) m ≡ false) → NoSuchPlace ≡ offsetIn s (lineOf q) (columnOf q)
+  none-stands : ((m : ℕ) → m ≤ length s → stands s q m ≡ false) → NoSuchPlace ≡ offsetIn s q
   unfolding offsetIn
   none-stands f =
-      let past : offsetOf s (lineOf q) (columnOf q) ≡ length s + 1 =
-      first-over (stands s (lineOf q) (columnOf q)) 0 (length s + 1) (length s + 1) (omega arith) (omega arith) (λ m h l. f m (omega arith))
-      ∙ sym (first-none (stands s (lineOf q) (columnOf q)) (length s + 1) (length s + 1) (omega arith)) in
-      rw (lt-leb (offsetOf s (lineOf q) (columnOf q)) (length s) (omega (arith, past)))
+      let past : offsetOf s q ≡ length s + 1 =
+      first-over (stands s q) 0 (length s + 1) (length s + 1) (omega arith) (omega arith) (λ m h l. f m (omega arith))
+      ∙ sym (first-none (stands s q) (length s + 1) (length s + 1) (omega arith)) in
+      rw (lt-leb (offsetOf s q) (length s) (omega (arith, past)))
 
   -- the text begins past what is sought
-  pub search-begins-past : (t : Bool) (p : Place) → p ≡ place 1 1 → t ≡ isPast p q → t ≡ true → NoSuchPlace ≡ offsetIn s (lineOf q) (columnOf q)
+  pub search-begins-past : (t : Bool) (p : Place) → p ≡ place 1 1 → t ≡ isPast p q → t ≡ true → NoSuchPlace ≡ offsetIn s q
   search-begins-past t p b a e =
       none-stands (λ m h. none-behind s q m 0 (ap (λ (x : Place). isPast x q) (sym (place-begins s p b)) ∙ sym a ∙ e) (omega arith))
 
@@ -88,31 +86,31 @@ module _ (s : List ℕ) (q : Place) where
 
     module _ (t : Bool) (is : t ≡ isPast q (r .place)) where
       -- its place is before what is sought: no offset stands there
-      pub search-passes : t ≡ true → NoSuchPlace ≡ offsetIn s (lineOf q) (columnOf q)
+      pub search-passes : t ≡ true → NoSuchPlace ≡ offsetIn s q
       search-passes e = none-stands (λ m h. by m h (le-or-lt (r .byte .0 + 1) m))
         where
           at-most : (m : ℕ) → m < r .byte .0 + 1 → m ≤ r .byte .0
           at-most m l = omega arith
 
-          not-here : (m : ℕ) → m ≡ r .byte .0 → (u : Bool) → stands s (lineOf q) (columnOf q) m ≡ u → u ≡ false
+          not-here : (m : ℕ) → m ≡ r .byte .0 → (u : Bool) → stands s q m ≡ u → u ≡ false
           not-here m g true f =
               let same : r .place ≡ q = here ∙ ap (placeAt s) (sym g) ∙ stands-at s q m f in
               absurd (true≢false (sym (sym is ∙ e) ∙ ap (λ (x : Place). isPast q x) same ∙ ap (λ (x : Place). isPast x q) (sym same) ∙ passes .reaches .near))
           not-here m g false f = refl
 
-          by : (m : ℕ) → m ≤ length s → (r .byte .0 + 1 ≤ m) ⊎ (m < r .byte .0 + 1) → stands s (lineOf q) (columnOf q) m ≡ false
+          by : (m : ℕ) → m ≤ length s → (r .byte .0 + 1 ≤ m) ⊎ (m < r .byte .0 + 1) → stands s q m ≡ false
           by m h (inl l) = none-behind s q m (r .byte .0 + 1) (passes .next (omega arith)) l
           by m h (inr l) =
-              ⊎-elim (λ g. not-here m g (stands s (lineOf q) (columnOf q) m) refl) (λ g. none-before s q m (r .byte .0) near g) (eq-or-lt-of-le (at-most m l))
+              ⊎-elim (λ g. not-here m g (stands s q m) refl) (λ g. none-before s q m (r .byte .0) near g) (eq-or-lt-of-le (at-most m l))
 
       -- its place is what is sought: it stands there, and no other does
-      pub search-finds : t ≡ false → Known (r .byte) ≡ offsetIn s (lineOf q) (columnOf q)
+      pub search-finds : t ≡ false → Known (r .byte) ≡ offsetIn s q
       unfolding offsetIn
       search-finds e =
           let same : placeAt s (r .byte .0) ≡ q = sym here ∙ neither-past (r .place) q (passes .reaches .near) (sym is ∙ e) in
           let at = stands-where s q (r .byte .0) (allowed same) same in
-          let found = first-only (stands s (lineOf q) (columnOf q)) 0 (r .byte .0) (length s + 1) (omega arith) (omega (arith, passes .reaches .inside)) at (λ m h l. none-before s q m (r .byte .0) near l) in
-          rw (le-leb (offsetOf s (lineOf q) (columnOf q)) (length s) (omega (arith, found, passes .reaches .inside))) (ap (λ (x : ℕ). Known (record { 0 = x })) (sym found))
+          let found = first-only (stands s q) 0 (r .byte .0) (length s + 1) (omega arith) (omega (arith, passes .reaches .inside)) at (λ m h l. none-before s q m (r .byte .0) near l) in
+          rw (le-leb (offsetOf s q) (length s) (omega (arith, found, passes .reaches .inside))) (ap (λ (x : ℕ). Known (record { 0 = x })) (sym found))
         where
           edge : placeAt s (r .byte .0) ≡ q → (u : Bool) → atEdge s (r .byte .0) ≡ u → (r .byte .0 ≡ length s) ⊎ (r .byte .0 < length s) → u ≡ true
           edge same true f g = refl

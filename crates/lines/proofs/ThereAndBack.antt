@@ -1,16 +1,16 @@
 -- There and back: an offset that is answered stands at its place, and no other offset does, since places rise from edge to edge. What a call answers
 -- of a text that passes the tests 1 and 3 is read off its definition.
-use mathlib.Core.Path.{_≡_, refl, sym, ap, subst, _∙_}
-use mathlib.Core.Bool.{Bool, true, false, cond, _&&_, false≢true}
+use mathlib.Core.Path.{_≡_, refl, sym, ap, _∙_}
+use mathlib.Core.Bool.{Bool, true, false, cond, false≢true}
 use mathlib.Core.List.{List}
-use Prim.Native.Nat.{ℕ, _+_, _≤_, _<_}
+use Prim.Native.Nat.{ℕ, _+_, _≤_}
 use native.Mathlib.Omega.{arith}
 use borrow.Author.Tests.{leb-true, ltb-false, le-ltb, le-leb}
-use lib.Dec.{eqb, leb, ltb}
+use lib.Dec.{leb, ltb}
 use lib.ListN.{length}
 use Rattle.answers.specs.Numbers.{mostSource}
 use Rattle.characters.specs.Utf8.{atEdge, utf8}
-use Rattle.characters.proofs.Tests.{and-left, and-right}
+use Rattle.characters.proofs.Tests.{and-left}
 use Rattle.characters.proofs.Firsts.{first-passes, first-only}
 use Rattle.lines.specs.declared.Byte.{Byte}
 use Rattle.lines.specs.declared.Place.{Place}
@@ -18,7 +18,7 @@ use Rattle.lines.specs.declared.LineColumn.{LineColumn}
 use Rattle.lines.specs.declared.LineColumn.the-variants as L
 use Rattle.lines.specs.declared.OffsetAt.{OffsetAt}
 use Rattle.lines.specs.declared.OffsetAt.the-variants as O
-use Rattle.lines.specs.Lines.{place, lineOf, columnOf, lineNum, colNum, isAllowed, tested, placeIn, lineColumn, stands, offsetOf, offsetIn, offsetAt}
+use Rattle.lines.specs.Lines.{place, lineNum, colNum, isAllowed, tested, placeIn, lineColumn, stands, offsetOf, offsetIn, offsetAt}
 use Rattle.lines.specs.Places.{placeAt, isPast}
 use Rattle.lines.specs.ThereAndBack.{Has, ThereAndBack}
 use Rattle.lines.proofs.Ordering.{not-past-itself, stands-at, stands-where, stands-allowed, none-before}
@@ -84,13 +84,13 @@ foundByte O.LongFile = 0
 foundByte O.InvalidUtf8 = 0
 foundByte O.NoSuchPlace = 0
 
-module _ (s : List ℕ) (l c : ℕ) where
-  of-text : Text s → offsetAt s l c ≡ offsetIn s l c
+module _ (s : List ℕ) (p : Place) where
+  of-text : Text s → offsetAt s p ≡ offsetIn s p
   unfolding offsetAt tested
   of-text h = rw (le-ltb mostSource (length s) (h .short), h .wellFormed)
 
   -- an answer that is no refusal by 1 or 3 is one of a text
-  by-tests : (P : OffsetAt → Bool) → P O.LongFile ≡ false → P O.InvalidUtf8 ≡ false → P (offsetAt s l c) ≡ true → Text s
+  by-tests : (P : OffsetAt → Bool) → P O.LongFile ≡ false → P O.InvalidUtf8 ≡ false → P (offsetAt s p) ≡ true → Text s
   unfolding offsetAt tested
   by-tests P long invalid e = go (ltb mostSource (length s)) (utf8 s) refl refl e
     where
@@ -98,61 +98,61 @@ module _ (s : List ℕ) (l c : ℕ) where
           (t u : Bool)
           → ltb mostSource (length s) ≡ t
           → utf8 s ≡ u
-          → P (cond t O.LongFile (cond u (offsetIn s l c) O.InvalidUtf8)) ≡ true
+          → P (cond t O.LongFile (cond u (offsetIn s p) O.InvalidUtf8)) ≡ true
           → Text s
       go true u x y e = absurd (false≢true (sym long ∙ e))
       go false false x y e = absurd (false≢true (sym invalid ∙ e))
       go false true x y e = record { short = ltb-false mostSource (length s) x; wellFormed = y }
 
   -- the first offset that stands there is within the text, or none does
-  in-cases : (t : Bool) → leb (offsetOf s l c) (length s) ≡ t → offsetIn s l c ≡ cond t (O.Known (record { 0 = offsetOf s l c })) O.NoSuchPlace
+  in-cases : (t : Bool) → leb (offsetOf s p) (length s) ≡ t → offsetIn s p ≡ cond t (O.Known (record { 0 = offsetOf s p })) O.NoSuchPlace
   unfolding offsetIn
-  in-cases t e = ap (λ (u : Bool). cond u (O.Known (record { 0 = offsetOf s l c })) O.NoSuchPlace) e
+  in-cases t e = ap (λ (u : Bool). cond u (O.Known (record { 0 = offsetOf s p })) O.NoSuchPlace) e
 
-  found-stands : (b : Byte) → offsetIn s l c ≡ O.Known b → stands s l c (b .0) ≡ true
-  found-stands b e = go (leb (offsetOf s l c) (length s)) refl
+  found-stands : (b : Byte) → offsetIn s p ≡ O.Known b → stands s p (b .0) ≡ true
+  found-stands b e = go (leb (offsetOf s p) (length s)) refl
     where
-      go : (t : Bool) → leb (offsetOf s l c) (length s) ≡ t → stands s l c (b .0) ≡ true
+      go : (t : Bool) → leb (offsetOf s p) (length s) ≡ t → stands s p (b .0) ≡ true
       go false x = absurd (false≢true (ap isFound (sym (in-cases false x) ∙ e)))
       go true x =
-          let within = leb-true (offsetOf s l c) (length s) x in
-          let is : offsetOf s l c ≡ b .0 = ap foundByte (sym (in-cases true x) ∙ e) in
-          ap (stands s l c) (sym is) ∙ first-passes (stands s l c) 0 (length s + 1) (omega arith) (omega arith)
+          let within = leb-true (offsetOf s p) (length s) x in
+          let is : offsetOf s p ≡ b .0 = ap foundByte (sym (in-cases true x) ∙ e) in
+          ap (stands s p) (sym is) ∙ first-passes (stands s p) 0 (length s + 1) (omega arith) (omega arith)
 
   -- the offset that stands there is the one that is found
-  stands-found : (b : ℕ) → stands s l c b ≡ true → offsetIn s l c ≡ O.Known (record { 0 = b })
+  stands-found : (b : ℕ) → stands s p b ≡ true → offsetIn s p ≡ O.Known (record { 0 = b })
   stands-found b e =
-      let inside = leb-true b (length s) (and-left (leb b (length s)) (atEdge s b) (stands-allowed s (place l c) b e)) in
-      let near : isPast (placeAt s b) (place l c) ≡ false = ap (λ (p : Place). isPast p (place l c)) (stands-at s (place l c) b e) ∙ not-past-itself (place l c) in
-      let found = first-only (stands s l c) 0 b (length s + 1) (omega arith) (omega arith) e (λ m h g. none-before s (place l c) m b near g) in
-      in-cases true (le-leb (offsetOf s l c) (length s) (omega (arith, found, inside))) ∙ ap (λ (x : ℕ). O.Known (record { 0 = x })) found
+      let inside = leb-true b (length s) (and-left (leb b (length s)) (atEdge s b) (stands-allowed s p b e)) in
+      let near : isPast (placeAt s b) p ≡ false = ap (λ (x : Place). isPast x p) (stands-at s p b e) ∙ not-past-itself p in
+      let found = first-only (stands s p) 0 b (length s + 1) (omega arith) (omega arith) e (λ m h g. none-before s p m b near g) in
+      in-cases true (le-leb (offsetOf s p) (length s) (omega (arith, found, inside))) ∙ ap (λ (x : ℕ). O.Known (record { 0 = x })) found
 
 -- ---- the two together
 
 module _ (s : List ℕ) where
-  has-stands : (b l c : ℕ) → Has s b l c → stands s l c b ≡ true
-  has-stands b l c e =
-      let h = known-placed s b (place l c) e in
-      stands-where s (place l c) b (h .allowed) (h .is)
+  has-stands : (b : ℕ) (p : Place) → Has s b p → stands s p b ≡ true
+  has-stands b p e =
+      let h = known-placed s b p e in
+      stands-where s p b (h .allowed) (h .is)
 
-  goes-back : (b l c : ℕ) → Has s b l c → offsetAt s l c ≡ O.Known (record { 0 = b })
-  goes-back b l c e = of-text s l c (known-placed s b (place l c) e .text) ∙ stands-found s l c b (has-stands b l c e)
+  goes-back : (b : ℕ) (p : Place) → Has s b p → offsetAt s p ≡ O.Known (record { 0 = b })
+  goes-back b p e = of-text s p (known-placed s b p e .text) ∙ stands-found s p b (has-stands b p e)
 
-  goes-there : (l c : ℕ) (b : Byte) → offsetAt s l c ≡ O.Known b → Has s (b .0) l c
-  goes-there l c b e =
-      let text = by-tests s l c isFound refl refl (ap isFound e) in
-      let at = found-stands s l c b (sym (of-text s l c text) ∙ e) in
-      placed-known s (b .0) (place l c) (record { text = text; allowed = stands-allowed s (place l c) (b .0) at; is = stands-at s (place l c) (b .0) at })
+  goes-there : (p : Place) (b : Byte) → offsetAt s p ≡ O.Known b → Has s (b .0) p
+  goes-there p b e =
+      let text = by-tests s p isFound refl refl (ap isFound e) in
+      let at = found-stands s p b (sym (of-text s p text) ∙ e) in
+      placed-known s (b .0) p (record { text = text; allowed = stands-allowed s p (b .0) at; is = stands-at s p (b .0) at })
 
-  refused-nowhere : (l c : ℕ) → offsetAt s l c ≡ O.NoSuchPlace → (b : ℕ) → Has s b l c → ⊥
-  refused-nowhere l c e b h = false≢true (ap isFound (sym e ∙ goes-back b l c h))
+  refused-nowhere : (p : Place) → offsetAt s p ≡ O.NoSuchPlace → (b : ℕ) → Has s b p → ⊥
+  refused-nowhere p e b h = false≢true (ap isFound (sym e ∙ goes-back b p h))
 
-  nowhere-refused : Text s → (l c : ℕ) → ((b : ℕ) → Has s b l c → ⊥) → offsetAt s l c ≡ O.NoSuchPlace
-  nowhere-refused text l c none = of-text s l c text ∙ go (leb (offsetOf s l c) (length s)) refl
+  nowhere-refused : Text s → (p : Place) → ((b : ℕ) → Has s b p → ⊥) → offsetAt s p ≡ O.NoSuchPlace
+  nowhere-refused text p none = of-text s p text ∙ go (leb (offsetOf s p) (length s)) refl
     where
-      go : (t : Bool) → leb (offsetOf s l c) (length s) ≡ t → offsetIn s l c ≡ O.NoSuchPlace
-      go true x = absurd (none (offsetOf s l c) (goes-there l c (record { 0 = offsetOf s l c }) (of-text s l c text ∙ in-cases s l c true x)))
-      go false x = in-cases s l c false x
+      go : (t : Bool) → leb (offsetOf s p) (length s) ≡ t → offsetIn s p ≡ O.NoSuchPlace
+      go true x = absurd (none (offsetOf s p) (goes-there p (record { 0 = offsetOf s p }) (of-text s p text ∙ in-cases s p true x)))
+      go false x = in-cases s p false x
 
   pub there-and-back : ThereAndBack s
   there-and-back =
@@ -160,5 +160,5 @@ module _ (s : List ℕ) where
         back = goes-back;
         there = goes-there;
         refused = refused-nowhere;
-        only = λ h u l c none. nowhere-refused (record { short = h; wellFormed = u }) l c none;
+        only = λ h u p none. nowhere-refused (record { short = h; wellFormed = u }) p none;
       }

@@ -1,15 +1,11 @@
 -- What is written and answered: where a place is known its line and column are written, and they fit; a refusal leaves what was there. Words tell the
 -- answers apart.
-use mathlib.Core.Path.{_≡_, refl, sym, ap, _∙_}
-use mathlib.Core.Bool.{Bool, true, false, cond, _&&_}
+use mathlib.Core.Path.{_≡_, sym, ap}
 use mathlib.Core.List.{List, [], _∷_}
-use Prim.Native.Nat.{ℕ, _+_, _≤_, _<_}
+use Prim.Native.Nat.{ℕ}
 use mir.Val.{Fits}
-use mir.Syntax.{w16, w32}
-use native.Mathlib.Omega.{arith}
+use mir.Syntax.{w32}
 use borrow.Author.Needs.{needs}
-use lib.ListN.{length}
-use Rattle.lines.specs.declared.Byte.{Byte}
 use Rattle.lines.specs.declared.Place.{Place}
 use Rattle.lines.specs.declared.LineColumn.{LineColumn}
 use Rattle.lines.specs.declared.LineColumn.the-variants.{Known, LongFile, InvalidUtf8, NoSuchPlace}

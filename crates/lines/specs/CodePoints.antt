@@ -1,10 +1,13 @@
 -- The line and column of an offset by the code points before it alone, as an editor shows them (02, 1/13).
-use Prim.Native.Nat.{ℕ, _+_}
+use Prim.Native.Nat.{ℕ, _+_, _≤_}
 use mathlib.Core.Path.{_≡_}
-use mathlib.Core.Bool.{cond}
+use mathlib.Core.Bool.{true, cond}
 use mathlib.Core.List.{List, [], _∷_}
 use lib.Dec.{eqb}
-use Rattle.characters.specs.Unicode.{encodeAll, Edge}
+use lib.ListN.{length}
+use Rattle.answers.specs.Numbers.{mostSource}
+use Rattle.characters.specs.Utf8.{utf8}
+use Rattle.characters.specs.Unicode.{Encoded, Edge}
 use Rattle.lines.specs.declared.Place.{Place}
 use Rattle.lines.specs.declared.LineColumn.the-variants.{Known, NoSuchPlace}
 use Rattle.lines.specs.Lines.{place, lineOf, columnOf, lineColumn}
@@ -18,7 +21,13 @@ unfoldable pub behindAll : Place → List ℕ → Place
 behindAll p [] = p
 behindAll p (x ∷ xs) = behindAll (behindOne p x) xs
 
--- of the text of the code points cs: an offset at an edge has the line and column behind the characters before it, any other is refused by 11
-pub record ByCodePoints (cs : List ℕ) (b : ℕ) : Type 0 where
-  pub edge : (e : Edge cs b) → lineColumn (encodeAll cs) b ≡ Known (behindAll (place 1 1) (e .before))
-  pub elsewhere : (Edge cs b → ⊥) → lineColumn (encodeAll cs) b ≡ NoSuchPlace
+-- of a source that is the text of some code points: an offset at an edge has the line and column behind the characters before it, and any other is
+-- refused by 11 (02, 1/13)
+pub record ByCodePoints (s : List ℕ) : Type 0 where
+  pub text : Encoded s
+  pub edge : (b : ℕ) (e : Edge (text .scalarValues) b) → lineColumn s b ≡ Known (behindAll (place 1 1) (e .before))
+  pub elsewhere : (b : ℕ) → (Edge (text .scalarValues) b → ⊥) → lineColumn s b ≡ NoSuchPlace
+
+-- so it is with every source that the tests 1 and 3 pass
+abbrev pub BY-CODE-POINTS : Type 0
+BY-CODE-POINTS = (s : List ℕ) → length s ≤ mostSource → utf8 s ≡ true → ByCodePoints s

@@ -6,12 +6,11 @@ use lib.Dec.{eqb, leb, ltb}
 use lib.ListN.{length}
 use Rattle.answers.specs.Numbers.{acceptedNumber, longFileNumber, invalidUtf8Number, noSuchPlaceNumber, mostSource}
 use Rattle.answers.specs.Words.{Fields, fields, word}
-use Rattle.characters.specs.Utf8.{atEdge, utf8}
+use Rattle.characters.specs.Utf8.{atEdge, isEdge, utf8}
 use Rattle.characters.specs.Walk.{first, last, count}
 use Rattle.characters.specs.Whitespace.{byte}
 use Rattle.characters.specs.declared.Found.{Found}
 use Rattle.characters.specs.declared.Found.the-variants.{At, Nothing}
-use Rattle.lines.specs.declared.Byte.{Byte}
 use Rattle.lines.specs.declared.Place.{Place}
 use Rattle.lines.specs.declared.LineColumn.{LineColumn}
 use Rattle.lines.specs.declared.LineColumn.the-variants as L
@@ -59,7 +58,7 @@ columnOf p = p .«col_num» .0
 
 -- the offset is allowed: it is not above the length and not inside a character (02, 1/13)
 abbrev pub isAllowed : List ℕ → ℕ → Bool
-isAllowed s b = leb b (length s) && atEdge s b
+isAllowed s b = isEdge s b
 
 -- ---- the calls
 
@@ -75,21 +74,21 @@ placeIn s b = cond (isAllowed s b) (L.Known (place (lineNum s b) (colNum s b))) 
 unfoldable pub lineColumn : List ℕ → ℕ → LineColumn
 lineColumn s b = tested s L.LongFile L.InvalidUtf8 (placeIn s b)
 
--- the offset b is allowed, and is on line l at column c
-abbrev pub stands : List ℕ → ℕ → ℕ → ℕ → Bool
-stands s l c b = isAllowed s b && (eqb (lineNum s b) l && eqb (colNum s b) c)
+-- the offset b is allowed, and has the line and column of p
+abbrev pub stands : List ℕ → Place → ℕ → Bool
+stands s p b = isAllowed s b && (eqb (lineNum s b) (lineOf p) && eqb (colNum s b) (columnOf p))
 
--- the offset that is allowed and stands there, the first of them; behind the text where there is none
-abbrev pub offsetOf : List ℕ → ℕ → ℕ → ℕ
-offsetOf s l c = first (stands s l c) 0 (length s + 1)
+-- the offset that is allowed and stands at p, the first of them; behind the text where there is none
+abbrev pub offsetOf : List ℕ → Place → ℕ
+offsetOf s p = first (stands s p) 0 (length s + 1)
 
 -- the same, number 11 where there is none (02, 1/13)
-unfoldable pub offsetIn : List ℕ → ℕ → ℕ → OffsetAt
-offsetIn s l c = cond (leb (offsetOf s l c) (length s)) (O.Known (record { 0 = offsetOf s l c })) O.NoSuchPlace
+unfoldable pub offsetIn : List ℕ → Place → OffsetAt
+offsetIn s p = cond (leb (offsetOf s p) (length s)) (O.Known (record { 0 = offsetOf s p })) O.NoSuchPlace
 
 -- the offset of a line and column: 1, 3, then 11 (02, 1/13)
-unfoldable pub offsetAt : List ℕ → ℕ → ℕ → OffsetAt
-offsetAt s l c = tested s O.LongFile O.InvalidUtf8 (offsetIn s l c)
+unfoldable pub offsetAt : List ℕ → Place → OffsetAt
+offsetAt s p = tested s O.LongFile O.InvalidUtf8 (offsetIn s p)
 
 -- ---- the answers as words, and what is left
 

@@ -1,7 +1,7 @@
 // The calls: numbers 1, 3 and 11, in that order (02, 1/13).
 ghost use mathlib.Core.Path.{_≡_};
 ghost use Rattle.area.specs.Contracts.{before, after};
-ghost use Rattle.lines.specs.Lines.{lineColumn, offsetAt, lineOf, columnOf, placeLeft};
+ghost use Rattle.lines.specs.Lines.{lineColumn, offsetAt, placeLeft};
 ghost use Rattle.lines.specs.Places.{SmallPlace};
 use crate::Byte;
 use crate::LineColumn;
@@ -27,7 +27,7 @@ pub fn line_column(src: &[u8], byte: Byte) -> LineColumn
 
 // The offset of a line and column.
 pub fn offset_at(src: &[u8], place: Place) -> OffsetAt
-    ensures { λ r. ⌜ r ≡ offsetAt (before src) (lineOf place) (columnOf place) ⌝ }
+    ensures { λ r. ⌜ r ≡ offsetAt (before src) place ⌝ }
 {
     if src.len() > MOST_SOURCE {
         return OffsetAt::LongFile;

@@ -1,10 +1,9 @@
-// What is counted in a range of bytes, each in one loop that looks at every byte, so that the compiler can take many at once.
+// What is counted in a range of at most 64 bytes. The counts look at every byte, so that the compiler can take many at once, and are one byte wide.
 ghost use mathlib.Core.Path.{_≡_};
-ghost use mathlib.Core.Bool.{not};
 ghost use Prim.Native.Nat.{_+_};
 ghost use lib.Dec.{eqb};
 ghost use Rattle.area.specs.Contracts.{before};
-ghost use Rattle.characters.specs.Utf8.{isContinuation, atEdge};
+ghost use Rattle.characters.specs.Utf8.{atEdge};
 ghost use Rattle.characters.specs.Walk.{oneIf, last, count};
 ghost use Rattle.lines.specs.Lines.{lineFeed, endsLine, behindEnd};
 ghost use Rattle.lines.specs.Places.{ShortRange};
@@ -16,21 +15,19 @@ use characters::utf8::is_continuation;
 // A line ends at it only.
 const LINE_FEED: u8 = 0x0a;
 
-// 1 for a byte that ends a line.
-fn ends_line(b: u8) -> u8
-    ensures { λ r. ⌜ r ≡ oneIf (eqb b lineFeed) ⌝ }
+fn ends_line(b: u8) -> bool
+    ensures { λ r. ⌜ r ≡ eqb b lineFeed ⌝ }
 {
-    if b == LINE_FEED { 1 } else { 0 }
+    b == LINE_FEED
 }
 
-// 1 for the first byte of a character.
-fn starts_character(b: u8) -> u8
-    ensures { λ r. ⌜ r ≡ oneIf (not (isContinuation b)) ⌝ }
+fn one_if(t: bool) -> u8
+    ensures { λ r. ⌜ r ≡ oneIf t ⌝ }
 {
-    if is_continuation(b) { 0 } else { 1 }
+    if t { 1 } else { 0 }
 }
 
-// How many lines end in a range of at most 64 bytes.
+// How many lines end there.
 pub fn line_ends(s: &[u8], from: Byte, to: Byte) -> u8
     requires { ⌜ ShortRange (now s) (from .0) (to .0) ⌝ }
     ensures { λ r. ⌜ r ≡ count (endsLine (before s)) (from .0) (to .0) ⌝ }
@@ -39,7 +36,7 @@ pub fn line_ends(s: &[u8], from: Byte, to: Byte) -> u8
     let mut k = from.0;
     let mut n = 0;
     while k < e {
-        n += ends_line(s[k]);
+        n += one_if(ends_line(s[k]));
         k += 1;
     }
     n
@@ -54,13 +51,13 @@ pub fn characters(s: &[u8], from: Byte, to: Byte) -> u8
     let mut k = from.0;
     let mut n = 0;
     while k < e {
-        n += starts_character(s[k]);
+        n += one_if(!is_continuation(s[k]));
         k += 1;
     }
     n
 }
 
-// The column of an offset, where its line starts.
+// The column of an offset whose line starts there.
 pub fn col_num(s: &[u8], start: LineByte, byte: Byte) -> ColNum
     requires { ⌜ ShortRange (now s) (start .0) (byte .0) ⌝ }
     ensures { λ r. ⌜ r .0 ≡ 1 + count (atEdge (before s)) (start .0) (byte .0) ⌝ }
@@ -68,7 +65,7 @@ pub fn col_num(s: &[u8], start: LineByte, byte: Byte) -> ColNum
     ColNum(1 + characters(s, Byte(start.0), byte) as u64)
 }
 
-// Where the line starts behind the last line end of a range; 0 where none is there.
+// Where the line starts that follows the last line end there; 0 where no line ends there.
 pub fn line_byte(s: &[u8], from: Byte, to: Byte) -> LineByte
     requires { ⌜ ShortRange (now s) (from .0) (to .0) ⌝ }
     ensures { λ r. ⌜ r .0 ≡ behindEnd (last (endsLine (before s)) (from .0) (to .0)) ⌝ }
@@ -76,7 +73,7 @@ pub fn line_byte(s: &[u8], from: Byte, to: Byte) -> LineByte
     let i = from.0;
     let mut k = to.0;
     while i < k {
-        if s[k - 1] == LINE_FEED {
+        if ends_line(s[k - 1]) {
             return LineByte(k);
         }
         k -= 1;

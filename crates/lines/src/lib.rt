@@ -17,6 +17,7 @@ pub struct LineNum(pub u64);
 // A column's number, from 1, in characters.
 pub struct ColNum(pub u64);
 
+// A line and a column.
 pub struct Place {
     pub line_num: LineNum,
     pub col_num: ColNum,

@@ -1,4 +1,4 @@
-// From an offset to its place: one pass over the bytes before it, in blocks.
+// From an offset to its place: the bytes before it are passed once, in blocks.
 ghost use mathlib.Core.Path.{_≡_};
 ghost use Prim.Native.Nat.{_≤_};
 ghost use lib.ListN.{length};
@@ -72,7 +72,7 @@ fn place_of(s: &[u8], byte: Byte) -> Place
     place_behind(s, here, Byte(k), byte)
 }
 
-// What stands at an offset of a text; number 11 above its length and inside a character.
+// The place of an offset of a text; number 11 above its length and inside a character.
 pub fn place_in(s: &[u8], byte: Byte) -> LineColumn
     requires { ⌜ length (now s) ≤ mostSource ⌝ }
     ensures { λ r. ⌜ r ≡ placeIn (before s) (byte .0) ⌝ }

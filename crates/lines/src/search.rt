@@ -5,7 +5,7 @@ ghost use Prim.Native.Nat.{_≤_, _<_};
 ghost use lib.ListN.{length};
 ghost use Rattle.answers.specs.Numbers.{mostSource};
 ghost use Rattle.area.specs.Contracts.{before};
-ghost use Rattle.lines.specs.Lines.{offsetIn, lineOf, columnOf};
+ghost use Rattle.lines.specs.Lines.{offsetIn};
 ghost use Rattle.lines.specs.Places.{isPast, Reaches, Passes};
 use crate::Byte;
 use crate::OffsetAt;
@@ -31,7 +31,7 @@ fn is_past(here: Place, other: Place) -> bool
     (other_line.0 < line_num.0) | ((other_line.0 == line_num.0) & (other_col.0 < col_num.0))
 }
 
-// From where it has come on, by so many bytes at a time, as far as no place is past what is sought.
+// Goes on from what is reached, by `width` bytes at a time, as long as the place is not past what is sought.
 fn pass_by(s: &[u8], width: usize, reached: Reached, sought: Place) -> Reached
     requires { ⌜ (0 < width) × (width ≤ 64) ⌝ }
     requires { ⌜ length (now s) ≤ mostSource ⌝ }
@@ -62,7 +62,7 @@ fn pass_by(s: &[u8], width: usize, reached: Reached, sought: Place) -> Reached
 // The offset that stands at a place.
 pub fn offset_of(s: &[u8], sought: Place) -> OffsetAt
     requires { ⌜ length (now s) ≤ mostSource ⌝ }
-    ensures { λ r. ⌜ r ≡ offsetIn (before s) (lineOf sought) (columnOf sought) ⌝ }
+    ensures { λ r. ⌜ r ≡ offsetIn (before s) sought ⌝ }
 {
     let start = first_place();
     if is_past(start, sought) {

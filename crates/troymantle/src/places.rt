@@ -1,7 +1,7 @@
 // The line and column of an offset, and back, as C functions (02, 1/13).
 ghost use mathlib.Core.Path.{_≡_};
 ghost use Rattle.area.specs.Contracts.{before, after};
-ghost use Rattle.lines.specs.Lines.{lineColumnLeft, lineColumnCall, offsetAt, offsetWord};
+ghost use Rattle.lines.specs.Lines.{place, lineColumnLeft, lineColumnCall, offsetAt, offsetWord};
 use lines::Byte;
 use lines::ColNum;
 use lines::LineNum;
@@ -25,7 +25,7 @@ pub extern "C" fn troymantle_line_column(src: &[u8], offset: u64, place: &mut [u
 // The offset that has a line and a column.
 #[no_mangle]
 pub extern "C" fn troymantle_offset_at(src: &[u8], line: u64, column: u64) -> u64
-    ensures { λ r. ⌜ r ≡ offsetWord (offsetAt (before src) line column) ⌝ }
+    ensures { λ r. ⌜ r ≡ offsetWord (offsetAt (before src) (place line column)) ⌝ }
 {
     let sought = Place {
         line_num: LineNum(line),

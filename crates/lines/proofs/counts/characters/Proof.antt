@@ -22,6 +22,7 @@ characters-spec =
     (λ c. search counting-bytes)
     (λ c. search counting-bytes)
     (λ c κs. search counting-bytes)
+    (λ c κs. search counting-bytes)
     (λ c. search counting-bytes)
     (λ c. search counting-bytes)
     (λ c. search counting-bytes)

@@ -22,6 +22,7 @@ line-byte-spec =
     (λ c. search seeking-line-start)
     (λ c. search seeking-line-start)
     (λ c. search seeking-line-start)
+    (λ c κs. search seeking-line-start)
     (λ c. search seeking-line-start)
     (λ c. search seeking-line-start)
     (λ c. search seeking-line-start)

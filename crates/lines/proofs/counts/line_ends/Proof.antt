@@ -22,6 +22,7 @@ line-ends-spec =
     (λ c. search counting-bytes)
     (λ c. search counting-bytes)
     (λ c κs. search counting-bytes)
+    (λ c κs. search counting-bytes)
     (λ c. search counting-bytes)
     (λ c. search counting-bytes)
     (λ c. search counting-bytes)
