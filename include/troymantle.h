@@ -171,9 +171,9 @@ uint64_t troymantle_step(
     uint8_t *stack, size_t stack_length,
     const uint8_t *row, size_t row_length);
 
-/* The line and the column of an offset, for people: place gets both, the line first. They count from 1, and the column in characters. A
- * line ends at U+000A, which is its last character. An offset equal to the file's length has a place too. Refuses by 1, 3, 11, and then
- * changes nothing. */
+/* The line and the column of an offset, as an editor shows them: place gets the line, then the column. Both count from 1, the column in
+ * characters. A line ends at U+000A, which is its last character. An offset equal to the file's length has a place too. Refuses by 1, 3,
+ * 11, and then changes nothing. */
 uint64_t troymantle_line_column(
     const uint8_t *source, size_t source_length,
     uint64_t offset,

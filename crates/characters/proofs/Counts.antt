@@ -57,8 +57,8 @@ module _ (test : ℕ → Bool) where
     pub counted-next : r ≡ oneIf (test k) → i ≤ k → n + r ≡ count test i (k + 1)
     counted-next is h = ap (λ (m : ℕ). n + m) is ∙ ap (λ (m : ℕ). m + oneIf (test k)) before ∙ sym (count-next i k h)
 
-    pub counted-most : r ≡ oneIf (test k) → n + r ≤ k - i + 1
-    counted-most is = omega (arith, is, before, count-most i k, one-most (test k))
+    pub counted-most : (t : Bool) → r ≡ oneIf t → n + r ≤ k - i + 1
+    counted-most t is = omega (arith, is, before, count-most i k, one-most t)
 
     pub counted-ended : (e : ℕ) → e ≤ k → k ≤ e → n ≡ count test i e
     counted-ended e g h =

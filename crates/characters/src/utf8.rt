@@ -1,4 +1,4 @@
-// Well-formed UTF-8: the rows of the Unicode standard's table 3-7, and a walk from character to character.
+// Well-formed UTF-8: the rows of the Unicode standard's table 3-7, a walk from character to character, and two quick tests in front of it.
 ghost use mathlib.Core.Path.{_≡_};
 ghost use Prim.Native.Nat.{_+_, _≤_};
 ghost use lib.Dec.{leb};
@@ -9,6 +9,12 @@ ghost use Rattle.characters.specs.Whitespace.{Width, byte};
 ghost use Rattle.characters.specs.Utf8;
 ghost use Rattle.characters.specs.Utf8.{isContinuation, twoBytes, threeBytes, fourBytes, charOf, charLen};
 use crate::whitespace::byte_at;
+
+// How many positions are settled together.
+const BLOCK: usize = 64;
+
+// The bytes that a block goes by, 67, and up to whole groups of 16.
+const BLOCK_BYTES: usize = 80;
 
 pub fn is_continuation(b: u8) -> bool
     ensures { λ r. ⌜ r ≡ isContinuation b ⌝ }
@@ -143,15 +149,15 @@ fn has_out_of_place(s: &[u8], k: usize, n: usize) -> bool
     found
 }
 
-// The same of a block of 64, which is settled where the bytes that it looks at are ASCII: 67, and up to 80, so that they are whole groups of 16.
+// The same of a block, which is settled where the bytes that it goes by are ASCII.
 fn block_out_of_place(s: &[u8], k: usize) -> bool
     requires { ⌜ k + 80 ≤ length (now s) ⌝ }
     ensures { λ r. ⌜ RulesOut (any (λ j. outOfPlaceBehind (now (s .entry)) (k + j)) 64) r ⌝ }
 {
-    if !has_above_ascii(s, k, 80) {
+    if !has_above_ascii(s, k, BLOCK_BYTES) {
         return false;
     }
-    has_out_of_place(s, k, 64)
+    has_out_of_place(s, k, BLOCK)
 }
 
 // Whether one of the n bytes from position 3 on is out of place, with a way out at the first block that has one.
@@ -160,11 +166,11 @@ fn is_any_out_of_place(s: &[u8], n: usize) -> bool
     ensures { λ r. ⌜ RulesOut (any (outOfPlaceBehind (now (s .entry))) n) r ⌝ }
 {
     let mut k = 0;
-    while 80 <= n - k {
+    while BLOCK_BYTES <= n - k {
         if block_out_of_place(s, k) {
             return true;
         }
-        k += 64;
+        k += BLOCK;
     }
     has_out_of_place(s, k, n - k)
 }

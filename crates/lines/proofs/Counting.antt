@@ -29,8 +29,8 @@ count-begins test i = sym (count-none test i i (omega arith))
 -- ---- the loop has counted n from i to before k, in a range up to e
 
 module _ (test : ℕ → Bool) (s : List ℕ) (i e k n : ℕ) (range : ShortRange s i e) (before : n ≡ count test i k) where
-  pub count-fits : (r : ℕ) → r ≡ oneIf (test k) → i ≤ k → k < e → Fits w8 (n + r)
-  count-fits r is h l = record { fits = omega (arith, counted-most test i k n r before is, range .short) }
+  pub count-fits : (r : ℕ) (t : Bool) → r ≡ oneIf t → i ≤ k → k < e → Fits w8 (n + r)
+  count-fits r t is h l = record { fits = omega (arith, counted-most test i k n r before t is, range .short) }
 
 pub range-inside : (s : List ℕ) (i e : ℕ) → ShortRange s i e → e ≤ length s
 range-inside s i e h = h .inside

@@ -3,20 +3,17 @@
 //! Those of a lex file are the library's own. A map may be longer than the library's calls take, and very many messages may be
 //! about it: there the lines are counted here, and the library is asked for the column in one line.
 
+use std::cell::OnceCell;
 use troymantle::{Place, Refusal};
 
 /// The places of one text.
+#[derive(Default)]
 pub struct Places {
-    /// Where each line starts.
-    starts: Vec<usize>,
+    /// Where each line of a long text starts, once it is asked for.
+    starts: OnceCell<Vec<usize>>,
 }
 
 impl Places {
-    pub fn new(text: &str) -> Places {
-        let behind = text.match_indices('\n').map(|(at, end)| at + end.len());
-        Places { starts: [0].into_iter().chain(behind).collect() }
-    }
-
     /// The place of an offset of that text. None where the offset is above its length or inside a character; none either in a
     /// long text where the offset is more than 65,535 bytes behind the start of its line.
     pub fn place(&self, text: &str, offset: usize) -> Option<Place> {
@@ -27,12 +24,17 @@ impl Places {
     }
 
     fn place_in_line(&self, text: &str, offset: usize) -> Option<Place> {
-        let line = self.starts.partition_point(|start| *start <= offset);
-        let start = self.starts.get(..line)?.last()?;
+        let starts = self.starts.get_or_init(|| starts(text));
+        let line = starts.partition_point(|start| *start <= offset);
+        let start = starts.get(..line)?.last()?;
         let left = text.get(*start..offset)?;
         let Place { column, .. } = Place::of(left, left.len()).ok()?;
         Some(Place { line: u32::try_from(line).ok()?, column })
     }
+}
+
+fn starts(text: &str) -> Vec<usize> {
+    [0].into_iter().chain(text.match_indices('\n').map(|(at, end)| at + end.len())).collect()
 }
 
 #[cfg(test)]
@@ -41,7 +43,7 @@ mod tests {
 
     /// Every offset of a text that the calls take, and some above its length: by lines as by one call.
     fn check(text: &str) {
-        let places = Places::new(text);
+        let places = Places::default();
         for offset in (0..text.len() + 5).chain([usize::MAX]) {
             let expected = Place::of(text, offset).ok();
             let found = (places.place(text, offset), places.place_in_line(text, offset));
@@ -84,7 +86,7 @@ mod tests {
         assert_eq!(text.len(), 65_535);
         let longer = text.clone() + "\n";
         assert_eq!(Place::of(&longer, 0), Err(Refusal::LongFile));
-        let (places, longer_places) = (Places::new(&text), Places::new(&longer));
+        let (places, longer_places) = (Places::default(), Places::default());
         for offset in (0..65_536).step_by(53).chain([65_533, 65_534, 65_535]) {
             let expected = Place::of(&text, offset).ok();
             assert_eq!((places.place(&text, offset), longer_places.place(&longer, offset)), (expected, expected));
@@ -96,7 +98,7 @@ mod tests {
     #[test]
     fn long_texts_have_places_where_their_lines_are_short() {
         let text = "é\n".repeat(100_000) + &"a".repeat(65_536) + "\nb";
-        let places = Places::new(&text);
+        let places = Places::default();
         let told = [(0, 1, 1), (2, 1, 2), (299_999, 100_000, 2), (300_000, 100_001, 1), (365_535, 100_001, 65_536)];
         for (offset, line, column) in told {
             assert_eq!(places.place(&text, offset), Some(Place { line, column }));

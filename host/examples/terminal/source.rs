@@ -40,7 +40,7 @@ pub struct Excerpt {
 impl Source {
     pub fn new(name: &str, bytes: Vec<u8>) -> Source {
         let text = String::from_utf8_lossy(&bytes).into_owned();
-        Source { name: visible(name), bytes, places: Places::new(&text), text }
+        Source { name: visible(name), bytes, places: Places::default(), text }
     }
 
     /// Reads a file, but no more than one byte above `most`: whoever asks refuses a file that has as many.
