@@ -7,11 +7,10 @@ use mathlib.Core.Logic.{_⊎_, ⊎-elim}
 use Prim.Native.Nat.{ℕ, _+_, _-_, _≤_, _<_}
 use native.Mathlib.Nat.{eq-or-lt-of-le}
 use native.Mathlib.Omega.{arith}
-use borrow.Author.Tests.{eqb-true, le-ltb}
+use borrow.Author.Tests.{eqb-true}
 use lib.Dec.{eqb}
 use lib.ListN.{length}
-use Rattle.answers.specs.Numbers.{mostSource}
-use Rattle.characters.specs.Utf8.{atEdge, utf8}
+use Rattle.characters.specs.Utf8.{atEdge}
 use Rattle.characters.specs.Unicode.{encode, encodeAll, Edge}
 use Rattle.characters.specs.Walk.{oneIf, last, count}
 use Rattle.characters.proofs.Counts.{count-none, count-next, count-split, count-failing}
@@ -20,10 +19,11 @@ use Rattle.characters.proofs.Ascii.{ascii-whole}
 use Rattle.characters.proofs.Edges.{edge-behind, no-edge-inside, edge-at, edge-passes, edge-is}
 use Rattle.characters.proofs.Decoding.{utf8-judges}
 use Rattle.lines.specs.declared.Place.{Place}
-use Rattle.lines.specs.declared.LineColumn.the-variants.{Known, NoSuchPlace}
-use Rattle.lines.specs.Lines.{endsLine, lineNum, colNum, behindEnd, place, isAllowed, tested, placeIn, lineColumn}
+use Rattle.lines.specs.declared.LineColumn.the-variants.{Known, LongFile, InvalidUtf8, NoSuchPlace}
+use Rattle.lines.specs.Lines.{endsLine, lineNum, colNum, behindEnd, place, isAllowed, placeIn, lineColumn}
 use Rattle.lines.specs.Places.{placeAt}
 use Rattle.lines.specs.CodePoints.{behindOne, behindAll, BY-CODE-POINTS}
+use Rattle.lines.proofs.Testing.{text-tested}
 use Rattle.lines.proofs.Moving.{line-on, column-on, column-anew, start-inside}
 use Rattle.lines.proofs.Placing.{first-placed}
 
@@ -117,11 +117,6 @@ place-behind xs ys = behind-from [] xs ys ∙ ap (λ (p : Place). behindAll p xs
 
 -- ---- the call
 
-module _ (s : List ℕ) (short : length s ≤ mostSource) (formed : utf8 s ≡ true) where
-  of-text : (b : ℕ) → lineColumn s b ≡ placeIn s b
-  unfolding lineColumn tested
-  of-text b = rw (le-ltb mostSource (length s) short, formed)
-
 module _ (cs : List ℕ) (b : ℕ) where
   at-edge : (e : Edge cs b) → placeIn (encodeAll cs) b ≡ Known (behindAll (place 1 1) (e .before))
   unfolding placeIn placeAt
@@ -141,10 +136,11 @@ module _ (cs : List ℕ) (b : ℕ) where
       go false e = refl
 
 pub by-code-points : BY-CODE-POINTS
+unfolding lineColumn
 by-code-points s short formed =
     let text = utf8-judges s .sound formed in
     let same : (b : ℕ) → lineColumn s b ≡ placeIn (encodeAll (text .scalarValues)) b =
-    λ b. of-text s short formed b ∙ ap (λ (x : List ℕ). placeIn x b) (sym (text .bytes)) in
+    λ b. text-tested s LongFile InvalidUtf8 (placeIn s b) (record { short = short; wellFormed = formed }) ∙ ap (λ (x : List ℕ). placeIn x b) (sym (text .bytes)) in
     record {
       text = text;
       edge = λ b e. same b ∙ at-edge (text .scalarValues) b e;

@@ -38,15 +38,15 @@ module _ (s : List ℕ) (b : ℕ) where
   place-above h = rw (lt-leb b (length s) h)
 
   module _ (h : b ≤ length s) (x : ℕ) (q : x ≡ byte s b) (r : Bool) (inside : r ≡ isContinuation x) where
-    edge-is : atEdge s b ≡ not r
-    edge-is = ap (λ (y : ℕ). not (isContinuation y)) (sym q) ∙ ap not (sym inside)
+    edge-answer : atEdge s b ≡ not r
+    edge-answer = ap (λ (y : ℕ). not (isContinuation y)) (sym q) ∙ ap not (sym inside)
 
     pub place-inside : r ≡ true → NoSuchPlace ≡ placeIn s b
     unfolding placeIn
-    place-inside t = rw (le-leb b (length s) h, edge-is, t)
+    place-inside t = rw (le-leb b (length s) h, edge-answer, t)
 
     pub place-known : (p : Place) → r ≡ false → p ≡ placeAt s b → Known p ≡ placeIn s b
     unfolding placeIn placeAt
-    place-known p t is = rw (le-leb b (length s) h, edge-is, t) (ap Known is)
+    place-known p t is = rw (le-leb b (length s) h, edge-answer, t) (ap Known is)
 
 pub ruleset judging-offset = (needs, place-above, place-inside, place-known)

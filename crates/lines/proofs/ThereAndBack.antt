@@ -3,13 +3,12 @@
 use mathlib.Core.Path.{_≡_, refl, sym, ap, _∙_}
 use mathlib.Core.Bool.{Bool, true, false, cond, false≢true}
 use mathlib.Core.List.{List}
-use Prim.Native.Nat.{ℕ, _+_, _≤_}
+use Prim.Native.Nat.{ℕ, _+_}
 use native.Mathlib.Omega.{arith}
-use borrow.Author.Tests.{leb-true, ltb-false, le-ltb, le-leb}
-use lib.Dec.{leb, ltb}
+use borrow.Author.Tests.{leb-true, le-leb}
+use lib.Dec.{leb}
 use lib.ListN.{length}
-use Rattle.answers.specs.Numbers.{mostSource}
-use Rattle.characters.specs.Utf8.{atEdge, utf8}
+use Rattle.characters.specs.Utf8.{atEdge}
 use Rattle.characters.proofs.Tests.{and-left}
 use Rattle.characters.proofs.Firsts.{first-passes, first-only}
 use Rattle.lines.specs.declared.Byte.{Byte}
@@ -18,9 +17,10 @@ use Rattle.lines.specs.declared.LineColumn.{LineColumn}
 use Rattle.lines.specs.declared.LineColumn.the-variants as L
 use Rattle.lines.specs.declared.OffsetAt.{OffsetAt}
 use Rattle.lines.specs.declared.OffsetAt.the-variants as O
-use Rattle.lines.specs.Lines.{place, lineNum, colNum, isAllowed, tested, placeIn, lineColumn, stands, offsetOf, offsetIn, offsetAt}
+use Rattle.lines.specs.Lines.{place, lineNum, colNum, isAllowed, placeIn, lineColumn, stands, offsetOf, offsetIn, offsetAt}
 use Rattle.lines.specs.Places.{placeAt, isPast}
 use Rattle.lines.specs.ThereAndBack.{Has, ThereAndBack}
+use Rattle.lines.proofs.Testing.{Text, text-tested, tested-of-text}
 use Rattle.lines.proofs.Ordering.{not-past-itself, stands-at, stands-where, stands-allowed, none-before}
 
 -- ---- what line_column says
@@ -37,11 +37,6 @@ knownPlace L.LongFile = place 0 0
 knownPlace L.InvalidUtf8 = place 0 0
 knownPlace L.NoSuchPlace = place 0 0
 
--- the source passes the tests 1 and 3
-pub record Text (s : List ℕ) : Type 0 where
-  pub short : length s ≤ mostSource
-  pub wellFormed : utf8 s ≡ true
-
 -- the offset b of a text is allowed, and its place is p
 pub record Placed (s : List ℕ) (b : ℕ) (p : Place) : Type 0 where
   pub text : Text s
@@ -49,26 +44,23 @@ pub record Placed (s : List ℕ) (b : ℕ) (p : Place) : Type 0 where
   pub is : placeAt s b ≡ p
 
 module _ (s : List ℕ) (b : ℕ) (p : Place) where
+  of-source : Text s → lineColumn s b ≡ placeIn s b
+  unfolding lineColumn
+  of-source h = text-tested s L.LongFile L.InvalidUtf8 (placeIn s b) h
+
   pub known-placed : lineColumn s b ≡ L.Known p → Placed s b p
-  unfolding lineColumn tested placeIn placeAt
-  known-placed e = go (ltb mostSource (length s)) (utf8 s) (isAllowed s b) refl refl refl e
+  unfolding lineColumn placeIn placeAt
+  known-placed e =
+      let text = tested-of-text s L.LongFile L.InvalidUtf8 (placeIn s b) isKnown refl refl (ap isKnown e) in
+      go (isAllowed s b) text refl (sym (of-source text) ∙ e)
     where
-      go :
-          (t u v : Bool)
-          → ltb mostSource (length s) ≡ t
-          → utf8 s ≡ u
-          → isAllowed s b ≡ v
-          → cond t L.LongFile (cond u (cond v (L.Known (place (lineNum s b) (colNum s b))) L.NoSuchPlace) L.InvalidUtf8) ≡ L.Known p
-          → Placed s b p
-      go true u v x y z e = absurd (false≢true (ap isKnown e))
-      go false false v x y z e = absurd (false≢true (ap isKnown e))
-      go false true false x y z e = absurd (false≢true (ap isKnown e))
-      go false true true x y z e =
-          record { text = record { short = ltb-false mostSource (length s) x; wellFormed = y }; allowed = z; is = ap knownPlace e }
+      go : (v : Bool) → Text s → isAllowed s b ≡ v → cond v (L.Known (place (lineNum s b) (colNum s b))) L.NoSuchPlace ≡ L.Known p → Placed s b p
+      go true text z e = record { text = text; allowed = z; is = ap knownPlace e }
+      go false text z e = absurd (false≢true (ap isKnown e))
 
   pub placed-known : Placed s b p → lineColumn s b ≡ L.Known p
-  unfolding lineColumn tested placeIn placeAt
-  placed-known h = rw (le-ltb mostSource (length s) (h .text .short), h .text .wellFormed, h .allowed) (ap L.Known (h .is))
+  unfolding placeIn placeAt
+  placed-known h = of-source (h .text) ∙ rw (h .allowed) (ap L.Known (h .is))
 
 -- ---- what offset_at says
 
@@ -86,23 +78,12 @@ foundByte O.NoSuchPlace = 0
 
 module _ (s : List ℕ) (p : Place) where
   of-text : Text s → offsetAt s p ≡ offsetIn s p
-  unfolding offsetAt tested
-  of-text h = rw (le-ltb mostSource (length s) (h .short), h .wellFormed)
+  unfolding offsetAt
+  of-text h = text-tested s O.LongFile O.InvalidUtf8 (offsetIn s p) h
 
-  -- an answer that is no refusal by 1 or 3 is one of a text
-  by-tests : (P : OffsetAt → Bool) → P O.LongFile ≡ false → P O.InvalidUtf8 ≡ false → P (offsetAt s p) ≡ true → Text s
-  unfolding offsetAt tested
-  by-tests P long invalid e = go (ltb mostSource (length s)) (utf8 s) refl refl e
-    where
-      go :
-          (t u : Bool)
-          → ltb mostSource (length s) ≡ t
-          → utf8 s ≡ u
-          → P (cond t O.LongFile (cond u (offsetIn s p) O.InvalidUtf8)) ≡ true
-          → Text s
-      go true u x y e = absurd (false≢true (sym long ∙ e))
-      go false false x y e = absurd (false≢true (sym invalid ∙ e))
-      go false true x y e = record { short = ltb-false mostSource (length s) x; wellFormed = y }
+  found-of-text : isFound (offsetAt s p) ≡ true → Text s
+  unfolding offsetAt
+  found-of-text e = tested-of-text s O.LongFile O.InvalidUtf8 (offsetIn s p) isFound refl refl e
 
   -- the first offset that stands there is within the text, or none does
   in-cases : (t : Bool) → leb (offsetOf s p) (length s) ≡ t → offsetIn s p ≡ cond t (O.Known (record { 0 = offsetOf s p })) O.NoSuchPlace
@@ -140,7 +121,7 @@ module _ (s : List ℕ) where
 
   goes-there : (p : Place) (b : Byte) → offsetAt s p ≡ O.Known b → Has s (b .0) p
   goes-there p b e =
-      let text = by-tests s p isFound refl refl (ap isFound e) in
+      let text = found-of-text s p (ap isFound e) in
       let at = found-stands s p b (sym (of-text s p text) ∙ e) in
       placed-known s (b .0) p (record { text = text; allowed = stands-allowed s p (b .0) at; is = stands-at s p (b .0) at })
 
