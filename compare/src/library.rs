@@ -30,32 +30,14 @@ macro_rules! on_sheet {
     }};
 }
 
-/// How many of 02's requests the declarations have. A build from before one of them may take other arguments.
-pub const REQUESTS: u64 = 2;
-/// From this request on the start and the step take the entry's text.
-const TEXT: u64 = 2;
-
-type StartWithoutText = unsafe extern "C" fn(u64, *mut [u16; 4], *mut u8, usize) -> u64;
-#[rustfmt::skip]
-type StepWithoutText = unsafe extern "C" fn(
-    *const u8, usize, *const u8, usize, *const u8, usize, *const u8, usize, *const u8, usize, *const u8, usize, *const [u16; 6],
-    *mut [u16; 4], *mut u8, usize, *const u8, usize,
-) -> u64;
-
-/// The start and the step.
-#[derive(Clone, Copy)]
-enum Running {
-    WithText(Start, Step),
-    WithoutText(StartWithoutText, StepWithoutText),
-}
-
 /// The calls of one build of our library.
 #[derive(Clone, Copy)]
 pub struct Library {
     parse: Parse,
     pattern_test: PatternTest,
     link: Link,
-    running: Running,
+    start: Start,
+    step: Step,
     /// None in a build from before these calls.
     line_column: Option<LineColumn>,
     offset_at: Option<OffsetAt>,
@@ -67,14 +49,15 @@ pub const LINKED: Library = Library {
     parse: troymantle_sys::troymantle_parse,
     pattern_test: troymantle_sys::troymantle_pattern_test,
     link: troymantle_sys::troymantle_link,
-    running: Running::WithText(troymantle_sys::troymantle_start, troymantle_sys::troymantle_step),
+    start: troymantle_sys::troymantle_start,
+    step: troymantle_sys::troymantle_step,
     line_column: Some(troymantle_sys::troymantle_line_column),
     offset_at: Some(troymantle_sys::troymantle_offset_at),
 };
 
 impl Library {
-    /// The library in a shared object, which stays loaded, and has so many of 02's requests.
-    pub fn load(path: &Path, requests: u64) -> Result<Library, String> {
+    /// The library in a shared object, which stays loaded.
+    pub fn load(path: &Path) -> Result<Library, String> {
         let file = CString::new(path.as_os_str().as_bytes()).map_err(|_| "A path has no zero byte.".to_string())?;
         // SAFETY: the file's name ends with a zero byte.
         let object = unsafe { dlopen(file.as_ptr(), RTLD_NOW) };
@@ -86,23 +69,14 @@ impl Library {
             let function = unsafe { dlsym(object, name.as_ptr()) };
             if function.is_null() { Err(format!("{}: {}", path.display(), said())) } else { Ok(function) }
         };
-        let (start, step) = (find(c"troymantle_start")?, find(c"troymantle_step")?);
-        // SAFETY: a function of this name has the type that is declared here, as of that request.
+        // SAFETY: a function of this name has the type that is declared here.
         unsafe {
-            let running = match requests {
-                TEXT.. => {
-                    Running::WithText(transmute::<*mut c_void, Start>(start), transmute::<*mut c_void, Step>(step))
-                }
-                _ => Running::WithoutText(
-                    transmute::<*mut c_void, StartWithoutText>(start),
-                    transmute::<*mut c_void, StepWithoutText>(step),
-                ),
-            };
             Ok(Library {
                 parse: transmute::<*mut c_void, Parse>(find(c"troymantle_parse")?),
                 pattern_test: transmute::<*mut c_void, PatternTest>(find(c"troymantle_pattern_test")?),
                 link: transmute::<*mut c_void, Link>(find(c"troymantle_link")?),
-                running,
+                start: transmute::<*mut c_void, Start>(find(c"troymantle_start")?),
+                step: transmute::<*mut c_void, Step>(find(c"troymantle_step")?),
                 line_column: find(c"troymantle_line_column").ok().map(|it| transmute::<*mut c_void, LineColumn>(it)),
                 offset_at: find(c"troymantle_offset_at").ok().map(|it| transmute::<*mut c_void, OffsetAt>(it)),
             })
@@ -120,10 +94,7 @@ impl Library {
 
     /// Where the code lies, by one of its functions.
     pub fn address(&self) -> usize {
-        match self.running {
-            Running::WithText(_, step) => step as usize,
-            Running::WithoutText(_, step) => step as usize,
-        }
+        self.step as usize
     }
 
     pub fn parse(
@@ -187,43 +158,16 @@ impl Library {
         }
     }
 
-    /// A build from before the text was a part of the call does not see it.
-    pub fn start(&self, n: u64, text: &[u8], numbers: &mut [u16; 4], stack: &mut [u8]) -> u64 {
-        let (stack, stack_length) = (stack.as_mut_ptr(), stack.len());
-        // SAFETY: every slice is lent whole; the numbers are four.
-        unsafe {
-            match self.running {
-                Running::WithText(start, _) => start(n, text.as_ptr(), text.len(), numbers, stack, stack_length),
-                Running::WithoutText(start, _) => start(n, numbers, stack, stack_length),
-            }
-        }
+    pub fn start(&self, n: u64, numbers: &mut [u16; 4], stack: &mut [u8]) -> u64 {
+        // SAFETY: the stack's pointer goes with its length; the numbers are four.
+        unsafe { (self.start)(n, numbers, stack.as_mut_ptr(), stack.len()) }
     }
 
-    /// A build from before the text was a part of the call does not see it.
-    pub fn step(&self, sheet: &Sheet, text: &[u8], numbers: &mut [u16; 4], stack: &mut [u8], row: &[u8]) -> u64 {
+    pub fn step(&self, sheet: &Sheet, numbers: &mut [u16; 4], stack: &mut [u8], row: &[u8]) -> u64 {
         let (stack, stack_length) = (stack.as_mut_ptr(), stack.len());
-        let (text, text_length) = (text.as_ptr(), text.len());
-        let (row, row_length) = (row.as_ptr(), row.len());
         // SAFETY: every slice is lent whole; the call writes the four numbers and the stack alone.
         unsafe {
-            match self.running {
-                Running::WithText(_, step) => on_sheet!(
-                    step,
-                    sheet,
-                    sheet.areas[1],
-                    as_ptr,
-                    text,
-                    text_length,
-                    numbers,
-                    stack,
-                    stack_length,
-                    row,
-                    row_length
-                ),
-                Running::WithoutText(_, step) => {
-                    on_sheet!(step, sheet, sheet.areas[1], as_ptr, numbers, stack, stack_length, row, row_length)
-                }
-            }
+            on_sheet!((self.step), sheet, sheet.areas[1], as_ptr, numbers, stack, stack_length, row.as_ptr(), row.len())
         }
     }
 

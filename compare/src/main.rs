@@ -26,7 +26,6 @@ mod show;
 mod shrink;
 mod side;
 mod step;
-mod utf8;
 
 use options::Options;
 use side::Side;
@@ -63,8 +62,8 @@ compare link        compares the answers of many link calls, and hand-made broke
     --cases N       how many files and maps (20000)
     --seed S        (1)
     --first I       the number of the first case (0)
-compare step        compares runs with the original's lexer loop and with the run machine of 01 and 02, call by call, and
-                    broken sheets, runs, rows and texts with their words
+compare step        compares runs with the original's lexer loop and with the run machine of 01, call by call, and
+                    hand-made broken runs and sheets
     --cases N       how many runs (20000)
     --seed S        (1)
     --first I       the number of the first run (0)
@@ -88,18 +87,14 @@ compare bench [WORDS]
     --layouts N     our code lies at so many places in turn, 16 bytes apart (8)
     --library FILE  another static library in the place of ours (target/staticlib/libtroymantle.a)
     --before FILE   a static library to compare it with in the same run
-    --before-requests N
-                    how many of 02's requests that library has; before 2/13 its start and step take no text ({requests})
     --plot FILE     where the plot of the growth is written, if all of it is timed (target/bench/growth.svg)
 compare count [WORDS]
-                    prints the instructions a call of the same shapes, counted by valgrind's callgrind; --library, --before and
-                    --before-requests as for bench
-compare once SHAPE  does a shape once, by the original or by the shared object --library FILE, which has --requests N of 02's
-                    requests: what count runs under valgrind
+                    prints the instructions a call of the same shapes, counted by valgrind's callgrind; --library and --before
+                    as for bench
+compare once SHAPE  does a shape once, by the original or by the shared object --library FILE: what count runs under valgrind
 tools/compare test  runs the unit tests of this program and looks for warnings
 compare --help      prints this",
-        generators.join("\n"),
-        requests = library::REQUESTS
+        generators.join("\n")
     )
 }
 
@@ -150,19 +145,16 @@ fn dispatch(arguments: &[String]) -> Result<(), String> {
             record::check_record(&options.answers("--input"), our_side().as_deref())
         }
         "bench" => {
-            let options =
-                Options::read_with_words(rest, &["--layouts", "--library", "--before", "--before-requests", "--plot"])?;
+            let options = Options::read_with_words(rest, &["--layouts", "--library", "--before", "--plot"])?;
             bench::bench(&wanted(options)?)
         }
         "count" => {
-            let options = Options::read_with_words(rest, &["--library", "--before", "--before-requests"])?;
+            let options = Options::read_with_words(rest, &["--library", "--before"])?;
             bench::count(&wanted(options)?)
         }
         "once" => {
-            let options = Options::read_with_words(rest, &["--library", "--requests"])?;
-            let requests = options.number("--requests", library::REQUESTS)?;
-            let object = options.path("--library").map(|file| bench::Object { file, requests });
-            bench::once(&options.words.join(" "), object.as_ref())
+            let options = Options::read_with_words(rest, &["--library"])?;
+            bench::once(&options.words.join(" "), options.path("--library").as_deref())
         }
         "--help" | "-h" | "help" => {
             println!("{}", help());
@@ -176,7 +168,6 @@ fn wanted(options: Options) -> Result<bench::Wanted, String> {
     Ok(bench::Wanted {
         library: options.path("--library"),
         before: options.path("--before"),
-        before_requests: options.number("--before-requests", library::REQUESTS)?,
         layouts: options.number("--layouts", 8)?,
         plot: options.path("--plot"),
         words: options.words,

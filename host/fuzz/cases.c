@@ -64,65 +64,37 @@ static void try_map(struct sheet *sheet)
              one_in(3) ? other_length(below(length8 + 1)) : length8);
 }
 
-/* The text of a run: of as many bytes, but where these are very many mostly of few. */
-static void make_text_of_run(struct bytes *text, const struct run *run)
-{
-    size_t n = run->numbers[0];
-    make_entry_text(text, n <= 5000 || one_in(8) ? n : below(100));
-}
-
-/* With the row of a text and a run. */
-static void try_one_step(const struct sheet *sheet, const struct bytes *text, struct run *run)
+static void try_steps(const struct sheet *sheet, struct run *run)
 {
     static struct bytes row;
-    make_row(&row, sheet, text, run);
-    try_step(sheet, text, run, &row);
-}
-
-/* With some changed runs beside it, and now and then with another text than that of the start. */
-static void try_steps(const struct sheet *sheet, const struct bytes *text, struct run *run)
-{
-    static struct bytes other;
     static struct run changed;
     for (size_t steps = below(8); steps > 0; steps--) {
-        copy_bytes(&other, text->data, text->length);
-        if (one_in(6)) {
+        make_row(&row, sheet, run);
+        if (one_in(8)) {
             copy_run(&changed, run);
             change_run(&changed);
-            if (one_in(2)) {
-                make_text_of_run(&other, &changed);
-            }
-            try_one_step(sheet, &other, &changed);
-        } else if (one_in(6)) {
-            change_entry_text(&other);
-            try_one_step(sheet, &other, run);
+            try_step(sheet, &changed, &row);
         }
-        try_one_step(sheet, text, run);
+        try_step(sheet, run, &row);
     }
 }
 
 static void try_run(const struct sheet *sheet)
 {
     static struct run run;
-    static struct bytes text;
     uint64_t n = one_in(12) ? ONE_OF(4095, 4096, 4096, 4097, 65535, 65536, 1ull << 32, 1ull << 63, UINT64_MAX - 1,
                                      UINT64_MAX, random_word())
-                            : below(one_in(4) ? 300 : 30);
+                            : below(30);
     size_t length = n <= 65535 ? 2 * (n + 1) : below(100);
     for (size_t k = 0; k < 4; k++) {
         run.numbers[k] = (uint16_t)random_word();
     }
     run.stack.length = 0;
     add_random(&run.stack, one_in(6) ? other_length(length) : length, 256);
-    make_entry_text(&text, n <= 65535 ? n : below(100));
-    if (one_in(6)) {
-        change_entry_text(&text);
-    }
-    if (try_start(n, &text, &run) != TROYMANTLE_ACCEPTED || one_in(10)) {
+    if (try_start(n, &run) != TROYMANTLE_ACCEPTED || one_in(10)) {
         make_random_run(&run);
-        make_text_of_run(&text, &run);
     }
-    try_steps(sheet, &text, &run);
+    try_steps(sheet, &run);
 }
 
 static void try_lines(void)

@@ -155,12 +155,7 @@ bool is_map(const struct map *map)
     return k >= count;
 }
 
-/* ---- 12, 9 and 10: the entry's text, the run and the row (01, The run; 02, 2/13) */
-
-bool is_entry_text(const struct bytes *text, uint64_t n)
-{
-    return is_utf8(text->data, text->length) && text->length == n;
-}
+/* ---- 9 and 10: the run and the row */
 
 bool is_run(const struct run *run, unsigned states)
 {
@@ -175,20 +170,13 @@ bool is_run(const struct run *run, unsigned states)
     return k == depth;
 }
 
-/* Whether an offset is at a character's edge: only there it has a place. */
-static bool is_edge(const struct bytes *text, size_t offset)
+bool is_row(const struct bytes *row, const struct run *run, unsigned rules)
 {
-    return place_up_to(text, offset).offset == offset;
-}
-
-/* A length for each rule, live or not; each, also one of 0, is at most what is left and ends at an edge. */
-bool is_row(const struct bytes *row, const struct bytes *text, const struct run *run, unsigned rules)
-{
-    unsigned position = run->numbers[1], left = run->numbers[0] - position, k = 0;
+    unsigned left = run->numbers[0] - run->numbers[1], k = 0;
     if (row->length != 2 * (size_t)rules) {
         return false;
     }
-    while (k < rules && field(row->data, k) <= left && is_edge(text, (size_t)position + field(row->data, k))) {
+    while (k < rules && field(row->data, k) <= left) {
         k++;
     }
     return k == rules;

@@ -97,17 +97,13 @@ void begin_call(enum call call);
 void end_call(uint64_t word);
 _Noreturn void fail(const char *format, ...) __attribute__((format(printf, 1, 2)));
 
-/* ---- texts.c: lex files, verdicts, texts for lines and columns, and texts of entries */
+/* ---- texts.c: lex files, verdicts, and texts for lines and columns */
 
 /* A file without faults, and one of any kind. */
 void make_good_text(struct bytes *text);
 void make_text(struct bytes *text);
 void make_verdicts(struct bytes *verdicts);
 void make_place_text(struct bytes *text);
-/* UTF-8 of just so many bytes, in characters of one to four. */
-void make_entry_text(struct bytes *text, size_t n);
-/* Another one of as many bytes, or one of another length, or one that is not UTF-8. */
-void change_entry_text(struct bytes *text);
 /* Names that the index of a link cannot tell apart, by a number below SAME_HOME. */
 enum { SAME_HOME_LENGTH = 99, SAME_HOME = 25 * 25 };
 void make_same_home_name(char name[SAME_HOME_LENGTH + 1], size_t number);
@@ -140,7 +136,7 @@ void copy_run(struct run *to, const struct run *run);
 /* One more, one less, none or any number. */
 size_t other_length(size_t length);
 void change_run(struct run *run);
-void make_row(struct bytes *row, const struct sheet *sheet, const struct bytes *text, const struct run *run);
+void make_row(struct bytes *row, const struct sheet *sheet, const struct run *run);
 uint64_t choose_rule(const struct sheet *sheet);
 uint64_t choose_offset(const struct bytes *text);
 /* A line and a column. */
@@ -151,9 +147,8 @@ void choose_pair(const struct bytes *text, bool is_text, uint64_t pair[2]);
 bool is_utf8(const uint8_t *data, size_t length);
 bool is_sound(const struct sheet *sheet);
 bool is_map(const struct map *map);
-bool is_entry_text(const struct bytes *text, uint64_t n);
 bool is_run(const struct run *run, unsigned states);
-bool is_row(const struct bytes *row, const struct bytes *text, const struct run *run, unsigned rules);
+bool is_row(const struct bytes *row, const struct run *run, unsigned rules);
 
 /* An offset at the edge of a character, with its line and column. */
 struct place {
@@ -180,8 +175,8 @@ void lend_sheet(struct loan *loan, const struct sheet *sheet, enum access area_2
 /* Accepted, the sheet is linked. */
 void try_link(struct sheet *sheet, const struct map *map, size_t length7, size_t length8);
 /* Run and stack are as the call left them. */
-uint64_t try_start(uint64_t n, const struct bytes *text, struct run *run);
-void try_step(const struct sheet *sheet, const struct bytes *text, struct run *run, const struct bytes *row);
+uint64_t try_start(uint64_t n, struct run *run);
+void try_step(const struct sheet *sheet, struct run *run, const struct bytes *row);
 /* Lines and columns of so many offsets, and offsets of so many lines and columns. */
 void try_places(const struct bytes *source, size_t tries);
 

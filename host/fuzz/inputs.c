@@ -199,28 +199,16 @@ void change_run(struct run *run)
     }
 }
 
-/* The first offset from this one on where no character is cut, or where one is; at last the text's end. */
-static size_t next_offset(const struct bytes *text, size_t offset, bool is_cut)
+/* Mostly two bytes for each rule, and lengths of at most what is left. */
+void make_row(struct bytes *row, const struct sheet *sheet, const struct run *run)
 {
-    while (offset < text->length && ((text->data[offset] & 0xc0) == 0x80) != is_cut) {
-        offset++;
-    }
-    return offset;
-}
-
-/* Mostly two bytes for each rule, and lengths of at most what is left, at which no character is cut. */
-void make_row(struct bytes *row, const struct sheet *sheet, const struct bytes *text, const struct run *run)
-{
-    size_t rules = sheet->counts[1], position = run->numbers[1], left = (uint16_t)(run->numbers[0] - position);
+    size_t rules = sheet->counts[1], left = (uint16_t)(run->numbers[0] - run->numbers[1]);
     size_t most = one_in(2) ? left : left < 3 ? left : 3, matching = ONE_OF(1, 2, 10, 100000);
     row->length = 0;
     for (size_t k = 0; k < rules && k < 4096; k++) {
-        add_field(row, one_in(matching) ? next_offset(text, position + below(most + 1), false) - position : 0);
+        add_field(row, one_in(matching) ? below(most + 1) : 0);
     }
-    if (one_in(6) && row->length > 0) {
-        set_field(row->data, below(row->length / 2), next_offset(text, position + below(left + 1), true) - position);
-    }
-    if (one_in(12) && row->length > 0) {
+    if (one_in(12) && rules > 0 && row->length > 0) {
         set_field(row->data, below(row->length / 2), ONE_OF(left, left + 1, 65535));
     }
     if (one_in(16)) {

@@ -1,5 +1,5 @@
 /* Lex files: without faults, broken at some places, of fragments, of random bytes, and long ones. Texts for lines and
- * columns, and of entries. */
+ * columns. */
 #include "fuzz.h"
 
 #include <stdio.h>
@@ -302,60 +302,5 @@ void make_place_text(struct bytes *text)
     }
     if (one_in(8)) {
         change_text(text);
-    }
-}
-
-/* ---- entries */
-
-/* Of each length the first and the last character, and some between. */
-static const char *const ENTRY_CHARACTERS[] = {
-    "a", "\x7f", "é", "\xc2\x80", "\xdf\xbf", "€", "\xe0\xa0\x80", "\xed\x9f\xbf", "\xee\x80\x80", "\xef\xbf\xbf",
-    "\U0001f600", "\xf0\x90\x80\x80", "\xf4\x8f\xbf\xbf",
-};
-/* Bytes that are no characters, some of them as near to one as can be. */
-static const char *const NO_CHARACTERS[] = {
-    "\x80", "\xbf", "\xc3", "\xc0\x80", "\xc1\xbf", "\xe2\x82", "\xe0\x9f\xbf", "\xed\xa0\x80", "\xf0\x9f\x98",
-    "\xf0\x8f\xbf\xbf", "\xf4\x90\x80\x80", "\xf5\x80\x80\x80", "\xff",
-};
-
-void make_entry_text(struct bytes *text, size_t n)
-{
-    bool is_plain = one_in(4);
-    text->length = 0;
-    while (text->length < n) {
-        const char *character = ENTRY_CHARACTERS[below(sizeof ENTRY_CHARACTERS / sizeof *ENTRY_CHARACTERS)];
-        if (is_plain || one_in(4) || strlen(character) > n - text->length) {
-            add_byte(text, (uint8_t)below(128));
-        } else {
-            add_text(text, character);
-        }
-    }
-}
-
-/* Puts bytes that are no character in the place of some, often of the last ones. */
-static void damage(struct bytes *text)
-{
-    const char *bytes = NO_CHARACTERS[below(sizeof NO_CHARACTERS / sizeof *NO_CHARACTERS)];
-    size_t length = strlen(bytes);
-    if (length <= text->length) {
-        size_t last = text->length - length;
-        memcpy(text->data + (one_in(2) ? last : below(last + 1)), bytes, length);
-    }
-}
-
-void change_entry_text(struct bytes *text)
-{
-    switch (below(4)) {
-    case 0:
-        make_entry_text(text, text->length);
-        break;
-    case 1:
-        make_entry_text(text, other_length(text->length));
-        break;
-    case 2: /* the last character may be cut; or the length has the same low bits */
-        resize(text, one_in(4) ? text->length + 65536 : other_length(text->length));
-        break;
-    default:
-        damage(text);
     }
 }

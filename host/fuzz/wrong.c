@@ -144,192 +144,17 @@ uint64_t wrong_link(BYTES(source), BYTES(area1), AREA(area2), SHEET_BEHIND_AREA_
     return is_chosen(link_takes_a_broken_map, true) ? instead(word, TROYMANTLE_BROKEN_MAP, 0) : word;
 }
 
-/* ---- texts of entries */
+/* ---- start and step */
 
-/* Of so many bytes, each of which is a character. */
-static const uint8_t *plain_text(size_t n)
+uint64_t wrong_start(uint64_t n, uint16_t run[4], AREA(stack))
 {
-    static uint8_t plain[TROYMANTLE_MOST_SOURCE];
-    memset(plain, 'a', n);
-    return plain;
-}
-
-static bool is_edge(BYTES(text), size_t offset)
-{
-    return offset == text_length || (offset < text_length && (text[offset] & 0xc0) != 0x80);
-}
-
-/* Whether the wrong library is one of these three, and takes a text that has nothing else wrong with it. */
-static bool takes_text(enum wrong_library of_other_length, enum wrong_library by_low_bits, enum wrong_library invalid,
-                       uint64_t n, BYTES(text))
-{
-    return is_chosen(of_other_length, text_length != n && is_utf8(GIVEN(text))) ||
-           is_chosen(by_low_bits, text_length != n && (uint16_t)text_length == n && is_utf8(GIVEN(text))) ||
-           is_chosen(invalid, text_length == n && !is_utf8(GIVEN(text)));
-}
-
-/* ---- start */
-
-static void touch_in_start(BYTES(text), uint16_t run[4], AREA(stack), uint64_t word)
-{
-    bool is_mismatch = word == TROYMANTLE_TEXT_MISMATCH;
-    if (is_chosen(start_writes_the_run_at_a_refusal, word != 0) ||
-        is_chosen(start_writes_the_run_at_a_text_mismatch, is_mismatch)) {
+    uint64_t word = troymantle_start(n, run, GIVEN(stack));
+    if (is_chosen(start_writes_the_run_at_a_refusal, word != 0)) {
         run[1]++;
-    } else if (is_chosen(start_writes_the_stack_at_a_text_mismatch, is_mismatch)) {
-        write_byte(stack);
     } else if (is_chosen(start_clears_the_stack, word == 0)) {
         memset(stack, 0, stack_length);
-    } else if (is_chosen(start_writes_the_text, text_length > 0)) {
-        write_byte(text);
-    } else if (is_chosen(start_reads_behind_the_text, true)) {
-        read_byte(text + text_length);
     }
-}
-
-uint64_t wrong_start(uint64_t n, BYTES(text), uint16_t run[4], AREA(stack))
-{
-    bool is_taken = n <= TROYMANTLE_MOST_ENTRY &&
-                    takes_text(start_takes_a_text_of_another_length, start_takes_the_length_of_the_text_by_its_low_bits,
-                               start_takes_invalid_text, n, GIVEN(text));
-    uint64_t word = is_taken ? troymantle_start(n, plain_text(n), n, run, GIVEN(stack))
-                             : troymantle_start(n, GIVEN(text), run, GIVEN(stack));
-    touch_in_start(GIVEN(text), run, GIVEN(stack), word);
-    if (is_chosen(start_tests_the_text_before_the_stack, text_length != n || !is_utf8(GIVEN(text)))) {
-        return TROYMANTLE_TEXT_MISMATCH;
-    }
-    return is_chosen(start_takes_a_short_stack, n <= 4096) ? instead(word, TROYMANTLE_START_REFUSED, 0) : word;
-}
-
-/* ---- step */
-
-#define STEP_PARAMETERS                                                                                                \
-    BYTES(source), BYTES(area1), BYTES(area2), SHEET_BEHIND_AREA_2, BYTES(text), uint16_t run[4], AREA(stack),         \
-        BYTES(row)
-#define GIVEN_STEP GIVEN_SHEET, GIVEN(text), run, GIVEN(stack), GIVEN(row)
-
-/* The number that the real call gives and the run that it leaves; nothing else is changed. */
-static unsigned step_number(STEP_PARAMETERS, uint16_t left[4])
-{
-    static struct bytes stack_left;
-    memcpy(left, run, 4 * sizeof *left);
-    copy_bytes(&stack_left, stack, stack_length);
-    return TROYMANTLE_NUMBER(
-        troymantle_step(GIVEN_SHEET, GIVEN(text), left, stack_left.data, stack_length, GIVEN(row)));
-}
-
-static bool is_greatest(BYTES(row), size_t k)
-{
-    size_t j = 0;
-    while (j < row_length / 2 && field(row, j) <= field(row, k)) {
-        j++;
-    }
-    return j == row_length / 2;
-}
-
-/* Whether the wrong library asks if the length of a rule ends at an edge. */
-static bool is_seen(BYTES(row), size_t k)
-{
-    switch (wrong) {
-    case step_takes_lengths_that_cut_characters:
-        return false;
-    case step_takes_length_0_inside_a_character:
-        return field(row, k) != 0;
-    case step_tests_the_greatest_length_alone:
-        return is_greatest(GIVEN(row), k);
-    default:
-        return true;
-    }
-}
-
-static bool are_edges(BYTES(text), size_t position, BYTES(row))
-{
-    size_t k = 0;
-    while (k < row_length / 2 && (!is_seen(GIVEN(row), k) || is_edge(GIVEN(text), position + field(row, k)))) {
-        k++;
-    }
-    return k == row_length / 2;
-}
-
-/* Whether the wrong library takes a row that the real one refuses; where each byte were a character, the run would be
- * moved to another position. */
-static bool takes_row(BYTES(text), size_t position, BYTES(row), size_t moved_to)
-{
-    switch (wrong) {
-    case step_takes_lengths_that_cut_characters:
-    case step_takes_length_0_inside_a_character:
-    case step_tests_the_greatest_length_alone:
-        return are_edges(GIVEN(text), position, GIVEN(row));
-    case step_tests_lengths_without_the_position:
-        return are_edges(GIVEN(text), 0, GIVEN(row));
-    case step_tests_the_length_of_the_winner_alone:
-        return is_edge(GIVEN(text), moved_to);
-    default:
-        return false;
-    }
-}
-
-/* Whether the lengths of the live rules end at edges. That of another rule counts as 0: one that stops the run where no
- * other rule matches. */
-static bool are_live_edges(STEP_PARAMETERS)
-{
-    static struct bytes live, alone;
-    uint16_t left[4];
-    copy_bytes(&live, row, row_length);
-    for (size_t k = 0; k < row_length / 2; k++) {
-        alone.length = 0;
-        resize(&alone, row_length);
-        set_field(alone.data, k, (uint16_t)(run[0] - run[1]));
-        if (step_number(GIVEN_SHEET, plain_text(run[0]), run[0], run, GIVEN(stack), alone.data, row_length, left) ==
-            TROYMANTLE_STOPPED) {
-            set_field(live.data, k, 0);
-        }
-    }
-    return are_edges(GIVEN(text), run[1], live.data, row_length);
-}
-
-/* Whether the wrong library steps as if each byte of the entry were a character; the real one has this number. */
-static bool overlooks(STEP_PARAMETERS, unsigned number)
-{
-    uint16_t left[4];
-    unsigned plain = step_number(GIVEN_SHEET, plain_text(run[0]), run[0], run, GIVEN(stack), GIVEN(row), left);
-    if (number == TROYMANTLE_TEXT_MISMATCH) {
-        return takes_text(step_takes_a_text_of_another_length, step_takes_the_length_of_the_text_by_its_low_bits,
-                          step_takes_invalid_text, run[0], GIVEN(text)) ||
-               is_chosen(step_tests_the_text_behind_the_run, plain == TROYMANTLE_BROKEN_RUN) ||
-               is_chosen(step_tests_the_text_behind_done, plain == TROYMANTLE_DONE);
-    }
-    if (number != TROYMANTLE_ROW_MISMATCH) {
-        return false;
-    }
-    return wrong == step_tests_the_lengths_of_live_rules_alone ? are_live_edges(GIVEN_STEP)
-                                                               : takes_row(GIVEN(text), run[1], GIVEN(row), left[1]);
-}
-
-static bool has_length(BYTES(row), unsigned length)
-{
-    size_t k = 0;
-    while (k < row_length / 2 && field(row, k) != length) {
-        k++;
-    }
-    return k < row_length / 2;
-}
-
-/* The number by which the wrong library refuses what the real one answers by another, or 0. */
-static unsigned wrong_step_refusal(BYTES(text), const uint16_t run[4], BYTES(row), unsigned number)
-{
-    bool is_text = text_length == run[0] && is_utf8(GIVEN(text)), is_row = number >= TROYMANTLE_STOPPED;
-    if (is_chosen(step_tests_the_text_before_the_sheet, number == TROYMANTLE_BROKEN_SHEET && !is_text)) {
-        return TROYMANTLE_TEXT_MISMATCH;
-    }
-    bool is_late = number == TROYMANTLE_DONE && !are_edges(GIVEN(text), run[1], GIVEN(row));
-    bool is_inside = is_row && !is_edge(GIVEN(text), run[1]);
-    bool has_end = is_row && has_length(GIVEN(row), (unsigned)run[0] - run[1]);
-    if (is_chosen(step_tests_characters_before_done, is_late) || is_chosen(step_tests_the_position, is_inside) ||
-        is_chosen(step_refuses_the_end_of_the_text, has_end)) {
-        return TROYMANTLE_ROW_MISMATCH;
-    }
-    return 0;
+    return is_chosen(start_takes_a_short_stack, n <= 4096) ? TROYMANTLE_ACCEPTED : word;
 }
 
 static uint64_t wrong_step_word(uint64_t word)
@@ -344,42 +169,25 @@ static uint64_t wrong_step_word(uint64_t word)
     return is_chosen(step_takes_a_broken_run, true) ? instead(word, TROYMANTLE_BROKEN_RUN, TROYMANTLE_STOPPED) : word;
 }
 
-static void touch_in_step(BYTES(text), uint16_t run[4], AREA(stack), BYTES(row), unsigned number)
+uint64_t wrong_step(BYTES(source), BYTES(area1), BYTES(area2), SHEET_BEHIND_AREA_2, uint16_t run[4], AREA(stack),
+                    BYTES(row))
 {
+    uint64_t word = troymantle_step(GIVEN_SHEET, run, GIVEN(stack), GIVEN(row));
+    unsigned number = TROYMANTLE_NUMBER(word);
     bool is_move = number == TROYMANTLE_TOKEN || number == TROYMANTLE_SKIP;
-    bool is_mismatch = number == TROYMANTLE_TEXT_MISMATCH;
-    if (is_chosen(step_moves_when_done, number == TROYMANTLE_DONE) || is_chosen(step_counts_a_move_twice, is_move) ||
-        is_chosen(step_writes_the_run_at_a_text_mismatch, is_mismatch)) {
+    if (is_chosen(step_moves_when_done, number == TROYMANTLE_DONE) || is_chosen(step_counts_a_move_twice, is_move)) {
         run[3]++;
     } else if (is_chosen(step_writes_the_stack_at_a_refusal, number == TROYMANTLE_ROW_MISMATCH) ||
-               is_chosen(step_writes_another_entry, is_move) ||
-               is_chosen(step_writes_the_stack_at_a_text_mismatch, is_mismatch && stack_length > 0)) {
+               is_chosen(step_writes_another_entry, is_move)) {
         write_byte(stack + stack_length - 1);
     } else if (is_chosen(step_writes_the_row, row_length > 0)) {
         write_byte(row);
-    } else if (is_chosen(step_writes_the_text, text_length > 0)) {
-        write_byte(text + text_length - 1);
     } else if (is_chosen(step_writes_behind_the_run, true)) {
         write_byte((uint8_t *)(run + 4));
     } else if (is_chosen(step_reads_behind_the_row, true)) {
         read_byte(row + row_length);
-    } else if (is_chosen(step_reads_behind_the_text, true)) {
-        read_byte(text + text_length);
     }
-}
-
-uint64_t wrong_step(STEP_PARAMETERS)
-{
-    uint16_t left[4];
-    unsigned number = step_number(GIVEN_STEP, left), refusal = wrong_step_refusal(GIVEN(text), run, GIVEN(row), number);
-    if (refusal != 0) {
-        return refusal;
-    }
-    uint64_t word = overlooks(GIVEN_STEP, number)
-                        ? troymantle_step(GIVEN_SHEET, plain_text(run[0]), run[0], run, GIVEN(stack), GIVEN(row))
-                        : troymantle_step(GIVEN_STEP);
-    touch_in_step(GIVEN(text), run, GIVEN(stack), GIVEN(row), TROYMANTLE_NUMBER(word));
-    while (is_chosen(step_does_not_end, TROYMANTLE_NUMBER(word) == TROYMANTLE_STOPPED)) {
+    while (is_chosen(step_does_not_end, number == TROYMANTLE_STOPPED)) {
         read_byte((const uint8_t *)&word);
     }
     return wrong_step_word(word);

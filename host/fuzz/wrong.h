@@ -1,4 +1,4 @@
-/* Wrong libraries for the self-test: each makes the real calls, and does one thing that it must not. */
+/* Wrong libraries for the self-test: each makes the real call, and then does one thing that it must not. */
 #ifndef WRONG_H
 #define WRONG_H
 
@@ -31,14 +31,6 @@
     X(start_writes_the_run_at_a_refusal)                                                                               \
     X(start_clears_the_stack)                                                                                          \
     X(start_takes_a_short_stack)                                                                                       \
-    X(start_tests_the_text_before_the_stack)                                                                           \
-    X(start_takes_a_text_of_another_length)                                                                            \
-    X(start_takes_the_length_of_the_text_by_its_low_bits)                                                              \
-    X(start_takes_invalid_text)                                                                                        \
-    X(start_writes_the_run_at_a_text_mismatch)                                                                         \
-    X(start_writes_the_stack_at_a_text_mismatch)                                                                       \
-    X(start_writes_the_text)                                                                                           \
-    X(start_reads_behind_the_text)                                                                                     \
     X(step_moves_when_done)                                                                                            \
     X(step_counts_a_move_twice)                                                                                        \
     X(step_writes_the_stack_at_a_refusal)                                                                              \
@@ -50,25 +42,6 @@
     X(step_takes_a_broken_run)                                                                                         \
     X(step_reads_behind_the_row)                                                                                       \
     X(step_does_not_end)                                                                                               \
-    X(step_tests_the_text_before_the_sheet)                                                                            \
-    X(step_tests_the_text_behind_the_run)                                                                              \
-    X(step_tests_the_text_behind_done)                                                                                 \
-    X(step_takes_a_text_of_another_length)                                                                             \
-    X(step_takes_the_length_of_the_text_by_its_low_bits)                                                               \
-    X(step_takes_invalid_text)                                                                                         \
-    X(step_takes_lengths_that_cut_characters)                                                                          \
-    X(step_tests_the_length_of_the_winner_alone)                                                                       \
-    X(step_tests_the_greatest_length_alone)                                                                            \
-    X(step_tests_the_lengths_of_live_rules_alone)                                                                      \
-    X(step_takes_length_0_inside_a_character)                                                                          \
-    X(step_tests_lengths_without_the_position)                                                                         \
-    X(step_tests_the_position)                                                                                         \
-    X(step_tests_characters_before_done)                                                                               \
-    X(step_refuses_the_end_of_the_text)                                                                                \
-    X(step_writes_the_run_at_a_text_mismatch)                                                                          \
-    X(step_writes_the_stack_at_a_text_mismatch)                                                                        \
-    X(step_writes_the_text)                                                                                            \
-    X(step_reads_behind_the_text)                                                                                      \
     X(line_column_counts_a_line_feed_to_the_next_line)                                                                 \
     X(line_column_ends_lines_at_carriage_returns)                                                                      \
     X(line_column_counts_bytes)                                                                                        \

@@ -9,8 +9,7 @@
 //!
 //! 1. parses a file ([`LexFile`]) and asks its engine which patterns it takes,
 //! 2. links the [`Sheet`] to a [`Map`] of names and token ids,
-//! 3. starts a [`Run`] over an entry, which is UTF-8, and at each place hands the step a [`Row`]: how many bytes each pattern
-//!    matches there. Each length ends at the edge of a character.
+//! 3. starts a [`Run`] over an entry, and at each place hands the step a [`Row`]: how many bytes each pattern matches there.
 //!
 //! ```
 //! use regex::Regex;
@@ -36,7 +35,7 @@
 //! // run
 //! let entry = "win 12";
 //! let mut tokens = vec![];
-//! let mut run = sheet.start(entry)?;
+//! let mut run = sheet.start(entry.len())?;
 //! loop {
 //!     let rest = &entry[run.position()..];
 //!     let at_start = |pattern: &Regex| pattern.find(rest).filter(|found| found.start() == 0);

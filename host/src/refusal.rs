@@ -28,14 +28,10 @@ pub enum Refusal {
     /// 9, broken run: its numbers, its stack and the sheet do not fit each other. A run that a start and steps left always
     /// fits.
     BrokenRun,
-    /// 10, ill-fitting row: not one length for each rule, or a length, of whichever rule, that is above the bytes that are
-    /// left or does not end at the edge of a character of the entry.
+    /// 10, ill-fitting row: not one length for each rule, or a length above the bytes that are left.
     RowMismatch,
     /// 11, no such place: the offset is above the text's length or inside a character, or no offset has the line and column.
     NoSuchPlace,
-    /// 12, text mismatch: the entry is not UTF-8, or has another length than the run. The second is only of a run that was made
-    /// by hand.
-    TextMismatch,
     /// A number of a library that is newer than this crate.
     Other(u16),
 }
@@ -55,7 +51,6 @@ impl Refusal {
             Refusal::BrokenRun => numbers::BROKEN_RUN,
             Refusal::RowMismatch => numbers::ROW_MISMATCH,
             Refusal::NoSuchPlace => numbers::NO_SUCH_PLACE,
-            Refusal::TextMismatch => numbers::TEXT_MISMATCH,
             Refusal::Other(number) => *number,
         }
     }
@@ -74,7 +69,6 @@ impl Refusal {
             Refusal::BrokenRun => "broken run",
             Refusal::RowMismatch => "ill-fitting row",
             Refusal::NoSuchPlace => "no such place",
-            Refusal::TextMismatch => "text mismatch",
             Refusal::Other(_) => "refused",
         }
     }
@@ -91,7 +85,6 @@ impl Refusal {
             numbers::BROKEN_RUN => Refusal::BrokenRun,
             numbers::ROW_MISMATCH => Refusal::RowMismatch,
             numbers::NO_SUCH_PLACE => Refusal::NoSuchPlace,
-            numbers::TEXT_MISMATCH => Refusal::TextMismatch,
             other => Refusal::Other(other),
         }
     }
@@ -109,13 +102,10 @@ impl Refusal {
             }
             Refusal::StartRefused => "the entry has more than 4,096 bytes".to_string(),
             Refusal::BrokenRun => "its numbers, its stack and the sheet do not fit each other".to_string(),
-            Refusal::RowMismatch => {
-                "not one length for each rule, or a length that ends past the entry or inside a character".to_string()
-            }
+            Refusal::RowMismatch => "not one length for each rule, or a length above the bytes left".to_string(),
             Refusal::NoSuchPlace => {
                 "the offset is past the end or inside a character, or no offset has the line and column".to_string()
             }
-            Refusal::TextMismatch => "the entry is not UTF-8, or has another length than the run".to_string(),
             Refusal::Other(number) => format!("by the number {number}, which this program does not know"),
         }
     }

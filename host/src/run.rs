@@ -6,14 +6,12 @@ use crate::records::{bytes, records};
 use crate::{Refusal, Sheet};
 use std::ops::Range;
 
-/// A run over an entry: how far it has come, and its stack of states. It borrows its sheet and the entry's text, so that nothing
-/// but its steps changes anything while it runs, and each step is given the text of the start. That is what the library's
-/// theorem about whole runs supposes, beside a sheet that was parsed and linked and a run that was started here. Tokens and skips
-/// then cover whole characters.
+/// A run over an entry: how far it has come, and its stack of states. It borrows its sheet, so that nothing but its steps changes
+/// anything while it runs. That is what the library's theorem about whole runs supposes, beside a sheet that was parsed and
+/// linked and a run that was started here.
 #[derive(Clone, Debug)]
 pub struct Run<'a> {
     sheet: &'a Sheet,
-    text: &'a [u8],
     numbers: [u16; 4],
     stack: Vec<u8>,
 }
@@ -41,8 +39,7 @@ pub enum Step {
     Unlinked,
 }
 
-/// For each rule how many bytes of the entry its pattern matches from the position on, 0 where it does not match. Each length ends
-/// at the edge of a character: the lengths of an engine that matches text do, those of one that matches bytes may not.
+/// For each rule how many bytes of the entry its pattern matches from the position on, 0 where it does not match.
 #[derive(Clone, Debug, Default, PartialEq, Eq)]
 pub struct Row {
     bytes: Vec<u8>,
@@ -79,27 +76,21 @@ impl FromIterator<usize> for Row {
 }
 
 impl<'a> Run<'a> {
-    pub(crate) fn start(sheet: &'a Sheet, text: &'a [u8]) -> Result<Run<'a>, Refusal> {
-        let n = text.len();
-        let mut run = Run { sheet, text, numbers: [0; 4], stack: vec![0; NUMBER_WIDTH * (n.min(MOST_ENTRY) + 1)] };
-        match calls::start(n as u64, text, &mut run.numbers, &mut run.stack).number() {
+    pub(crate) fn start(sheet: &'a Sheet, n: usize) -> Result<Run<'a>, Refusal> {
+        let mut run = Run { sheet, numbers: [0; 4], stack: vec![0; NUMBER_WIDTH * (n.min(MOST_ENTRY) + 1)] };
+        match calls::start(n as u64, &mut run.numbers, &mut run.stack).number() {
             ACCEPTED => Ok(run),
             number => Err(Refusal::of(number)),
         }
     }
 
-    /// A run by the entry's text, which is to be that of the start, and by its numbers (n, position, depth, moves) and its
-    /// stack's bytes, as [`Run::into_parts`] gave them. Each step judges all of them.
-    pub fn from_parts(
-        sheet: &'a Sheet,
-        text: &'a (impl AsRef<[u8]> + ?Sized),
-        numbers: [u16; 4],
-        stack: Vec<u8>,
-    ) -> Run<'a> {
-        Run { sheet, text: text.as_ref(), numbers, stack }
+    /// A run by its numbers (n, position, depth, moves) and its stack's bytes, as [`Run::into_parts`] gave them. Each step
+    /// judges them.
+    pub fn from_parts(sheet: &'a Sheet, numbers: [u16; 4], stack: Vec<u8>) -> Run<'a> {
+        Run { sheet, numbers, stack }
     }
 
-    /// The run's numbers (n, position, depth, moves) and its stack's bytes, to go on with later over the same text.
+    /// The run's numbers (n, position, depth, moves) and its stack's bytes, to go on with later.
     pub fn into_parts(self) -> ([u16; 4], Vec<u8>) {
         (self.numbers, self.stack)
     }
@@ -109,11 +100,10 @@ impl<'a> Run<'a> {
     ///
     /// # Errors
     ///
-    /// [`Refusal::RowMismatch`]; and of a run that was made by hand [`Refusal::TextMismatch`] and [`Refusal::BrokenRun`]. The
-    /// run is then as it was.
+    /// [`Refusal::RowMismatch`]; and of a run that was made by hand [`Refusal::BrokenRun`]. The run is then as it was.
     pub fn step(&mut self, row: &Row) -> Result<Step, Refusal> {
         let start = self.position();
-        let word = calls::step(self.sheet.bytes(), self.text, &mut self.numbers, &mut self.stack, &row.bytes);
+        let word = calls::step(self.sheet.bytes(), &mut self.numbers, &mut self.stack, &row.bytes);
         let range = start..self.position();
         match word.number() {
             TOKEN => {
@@ -131,11 +121,6 @@ impl<'a> Run<'a> {
     /// The sheet that it runs on.
     pub fn sheet(&self) -> &'a Sheet {
         self.sheet
-    }
-
-    /// The entry's text, which each step is given.
-    pub fn text(&self) -> &'a [u8] {
-        self.text
     }
 
     /// How many bytes the entry has.

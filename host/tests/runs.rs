@@ -1,8 +1,7 @@
 //! What a host sees of sheets, maps and runs.
 #![allow(clippy::unwrap_used, clippy::expect_used)]
 
-use regex::{Regex, bytes};
-use troymantle::{LexFile, Linked, Map, Operation, Parts, Refusal, Row, Run, Sheet, Step};
+use troymantle::{LexFile, Linked, Map, Operation, Parts, Row, Run, Sheet, Step};
 
 const FILE: &str = "%x S\n%s T\n%expect-missing \"C\" \"\"\n%%\na 'A'\n\\qb <+S>'B'\n<S, T>c <-S>'C'\nd <T>;\n";
 
@@ -61,12 +60,12 @@ fn a_link_gives_ids_and_tells_what_has_no_partner() {
 fn a_run_moves_by_every_operation() {
     let mut sheet = sheet();
     sheet.link(&Map::of([("A", 10), ("B", 11)]).unwrap()).unwrap();
-    let mut run = sheet.start("qbcddd").unwrap();
+    let mut run = sheet.start(6).unwrap();
     let mut steps = vec![];
     for lengths in [[1, 2, 9, 0], [1, 2, 1, 0], [1, 1, 1, 1], [1, 0, 0, 1], [0, 0, 0, 4]] {
         steps.push((run.step(&row(&lengths)), run.states()));
     }
-    let mismatch = Err(Refusal::RowMismatch);
+    let mismatch = Err(troymantle::Refusal::RowMismatch);
     let expected = [
         (mismatch, vec![0]),
         (Ok(Step::Token { id: 11, range: 0..2 }), vec![0, 1]),
@@ -78,101 +77,28 @@ fn a_run_moves_by_every_operation() {
     // linked to a map that has C too, the run goes on: pop, replace, done
     let (numbers, stack) = run.into_parts();
     sheet.link(&Map::of([("A", 10), ("B", 11), ("C", 12)]).unwrap()).unwrap();
-    let mut run = Run::from_parts(&sheet, "qbcddd", numbers, stack);
+    let mut run = Run::from_parts(&sheet, numbers, stack);
     assert_eq!(run.step(&row(&[0, 0, 1, 0])), Ok(Step::Token { id: 12, range: 2..3 }));
     assert_eq!((run.state(), run.states()), (Some(0), vec![0]));
     assert_eq!(run.step(&row(&[2, 0, 0, 3])), Ok(Step::Skip { range: 3..6 }));
     assert_eq!((run.state(), run.position(), run.moves(), run.n()), (Some(2), 6, 3, 6));
     assert_eq!(run.step(&Row::new()), Ok(Step::Done));
-    assert_eq!((run.sheet().rule_count(), run.text()), (4, &b"qbcddd"[..]));
-}
-
-/// Compiles the pattern of each rule.
-fn compiled<P>(sheet: &Sheet, compile: impl Fn(&str) -> P) -> Vec<P> {
-    (0..sheet.rule_count()).map(|rule| compile(&format!(r"\A(?:{})", sheet.pattern(rule).unwrap()))).collect()
-}
-
-#[test]
-fn tokens_are_whole_characters() {
-    let sheet = LexFile::new("%%\né 'TWO'\n€ 'THREE'\n😀 'FOUR'\n[a-z]+ 'ONE'\n").parse().unwrap();
-    let patterns = compiled(&sheet, |pattern| Regex::new(pattern).unwrap());
-    let entry = "😀ab€éé";
-    let mut run = sheet.start(entry).unwrap();
-    let mut tokens = vec![];
-    loop {
-        let rest = &entry[run.position()..];
-        let row = patterns.iter().map(|pattern| pattern.find(rest).map_or(0, |found| found.end())).collect();
-        match run.step(&row).unwrap() {
-            Step::Token { id, range } => tokens.push((id, &entry[range])),
-            step => break assert_eq!(step, Step::Done),
-        }
-    }
-    assert_eq!(tokens, [(2, "😀"), (3, "ab"), (1, "€"), (0, "é"), (0, "é")]);
-}
-
-/// An engine that matches text gives no length that is refused, whatever the patterns and the entry.
-#[test]
-fn an_engine_that_matches_text_cuts_no_character() {
-    let mut state = 1_u64;
-    let mut below = |most: usize| {
-        state = state.wrapping_mul(6_364_136_223_846_793_005).wrapping_add(1);
-        (state >> 33) as usize % most
-    };
-    let file = "%%\n. ;\n[^a] 'A'\né+€? 'B'\n\\w+ 'C'\n.{2,3} 'D'\na|é€ 'E'\n[^é€]* 'F'\n(é|.😀)*? 'G'\n";
-    let sheet = LexFile::new(file).parse().unwrap();
-    let patterns = compiled(&sheet, |pattern| Regex::new(pattern).unwrap());
-    let characters = ["a", "Z", "é", "€", "😀", "\n", "\u{301}"];
-    for _ in 0..500 {
-        let entry: String = (0..below(30)).map(|_| characters[below(characters.len())]).collect();
-        let mut run = sheet.start(&entry).unwrap();
-        loop {
-            let rest = &entry[run.position()..];
-            let row = patterns.iter().map(|pattern| pattern.find(rest).map_or(0, |found| found.end())).collect();
-            match run.step(&row) {
-                Ok(Step::Token { range, .. } | Step::Skip { range }) => {
-                    assert!(entry.get(range).is_some(), "{entry:?}")
-                }
-                end => break assert!(matches!(end, Ok(Step::Done | Step::Stopped)), "{entry:?}: {end:?}"),
-            }
-        }
-    }
-}
-
-#[test]
-fn a_length_of_an_engine_for_bytes_that_cuts_a_character_is_refused() {
-    let sheet = LexFile::new("%%\n(?-u:.) 'BYTE'\n").parse().unwrap();
-    let patterns = compiled(&sheet, |pattern| bytes::Regex::new(pattern).unwrap());
-    let entry = "aé";
-    let mut run = sheet.start(entry).unwrap();
-    let row_at = |position: usize| -> Row {
-        let rest = &entry.as_bytes()[position..];
-        patterns.iter().map(|pattern| pattern.find(rest).map_or(0, |found| found.end())).collect()
-    };
-    assert_eq!(run.step(&row_at(0)), Ok(Step::Token { id: 0, range: 0..1 }));
-    let before = run.clone().into_parts();
-    assert_eq!(row_at(1), row(&[1]));
-    assert_eq!(run.step(&row_at(1)), Err(Refusal::RowMismatch));
-    assert_eq!(run.clone().into_parts(), before);
-    // the same pattern in an engine for text is refused, and in one for bytes with whole characters it fits
-    assert!(Regex::new(&sheet.pattern(0).unwrap()).is_err());
-    let whole = bytes::Regex::new(r"\A(?:.)").unwrap().find(&entry.as_bytes()[1..]).unwrap().end();
-    assert_eq!(run.step(&row(&[whole])), Ok(Step::Token { id: 0, range: 1..3 }));
+    assert_eq!(run.sheet().rule_count(), 4);
 }
 
 #[test]
 fn a_sheet_is_shared_between_threads() {
     let sheet = sheet();
-    let step = |entry| sheet.start(entry).map(|mut run| run.step(&row(&[1, 0, 0, 0])));
-    let steps = std::thread::scope(|scope| {
-        ["a", "aa"].map(|entry| scope.spawn(move || step(entry))).map(|thread| thread.join().unwrap())
-    });
+    let step = |n: usize| sheet.start(n).map(|mut run| run.step(&row(&[1, 0, 0, 0])));
+    let steps =
+        std::thread::scope(|scope| [1, 2].map(|n| scope.spawn(move || step(n))).map(|thread| thread.join().unwrap()));
     assert_eq!(steps, [(); 2].map(|()| Ok(Ok(Step::Token { id: 0, range: 0..1 }))));
 }
 
 #[test]
 fn a_row_is_used_again() {
     let sheet = sheet();
-    let mut run = sheet.start("aa").unwrap();
+    let mut run = sheet.start(2).unwrap();
     let mut row = Row::new();
     for _ in 0..2 {
         row.clear();
@@ -190,7 +116,7 @@ fn a_sheet_made_by_hand_may_hold_texts_that_are_no_utf8() {
     assert_eq!(sheet.rule(0).unwrap().name.unwrap(), "\u{fffd}");
 }
 
-/// Broken sheets, texts, runs and rows of all kinds: a call may refuse, and nothing panics.
+/// Broken sheets, runs and rows of all kinds: a call may refuse, and nothing panics.
 #[test]
 fn nothing_panics() {
     let mut state = 1_u64;
@@ -221,9 +147,8 @@ fn nothing_panics() {
         let entries = (0..below(20)).map(|_| below(5) as u8).collect();
         let _ = sheet.link(&Map::from_parts(b"ABC".to_vec(), entries));
         let numbers = [0; 4].map(|_: u16| below(4) as u16);
-        let text: Vec<u8> = (0..below(4)).map(|_| b"a\xc3\xa9\xff"[below(4)]).collect();
-        let mut run = Run::from_parts(&sheet, &text, numbers, (0..below(12)).map(|_| below(3) as u8).collect());
-        let _ = (run.states(), run.step(&(0..below(6)).map(|_| below(3)).collect()), sheet.start(&text).is_ok());
+        let mut run = Run::from_parts(&sheet, numbers, (0..below(12)).map(|_| below(3) as u8).collect());
+        let _ = (run.states(), run.step(&(0..below(6)).map(|_| below(3)).collect()));
     }
     assert!(sound > 4_000, "only {sound} sheets were sound");
 }

@@ -5,7 +5,7 @@ use super::shape::{Shape, plainly};
 use super::{Wanted, callable, chosen, layouts, shapes};
 use crate::library::Library;
 use crate::{options, show};
-use std::path::PathBuf;
+use std::path::{Path, PathBuf};
 use std::process::Command;
 use std::{env, fs};
 
@@ -20,12 +20,12 @@ pub fn count(wanted: &Wanted) -> Result<(), String> {
     let shapes = chosen(&wanted.words)?;
     look_for_valgrind()?;
     let mut names = vec!["original"];
-    let mut objects: Vec<Option<Object>> = vec![None];
+    let mut objects: Vec<Option<PathBuf>> = vec![None];
     let mut libraries = vec![];
-    for archive in wanted.archives()? {
-        let object = Object { file: layouts::build(&archive, 0)?, requests: archive.requests };
-        libraries.push((archive.name, Library::load(&object.file, object.requests)?));
-        names.push(archive.name);
+    for (name, archive) in wanted.archives()? {
+        let object = layouts::build(&archive, name, 0)?;
+        libraries.push((name, Library::load(&object)?));
+        names.push(name);
         objects.push(Some(object));
     }
     println!("{}", title(&names));
@@ -34,7 +34,7 @@ pub fn count(wanted: &Wanted) -> Result<(), String> {
             println!("{}: left out, since counting takes minutes; name it to have it", shape.name);
             continue;
         }
-        let counts = objects.iter().map(|object| instructions(&shape, object.as_ref()));
+        let counts = objects.iter().map(|object| instructions(&shape, object.as_deref()));
         println!("{}", line(&shape.name, &counts.collect::<Result<Vec<u64>, String>>()?));
     }
     println!(
@@ -43,20 +43,13 @@ pub fn count(wanted: &Wanted) -> Result<(), String> {
     Ok(())
 }
 
-/// A library as a shared object.
-pub struct Object {
-    pub file: PathBuf,
-    /// How many of 02's requests it has.
-    pub requests: u64,
-}
-
 /// What `count` runs under valgrind: by the library of a shared object, or by the original.
-pub fn once(name: &str, object: Option<&Object>) -> Result<(), String> {
+pub fn once(name: &str, object: Option<&Path>) -> Result<(), String> {
     let shape = shapes().into_iter().find(|shape| shape.name == name);
     let work = shape.ok_or_else(|| format!("There is no shape `{name}`."))?.work();
     match object {
         Some(object) => {
-            (work.ours)(&Library::load(&object.file, object.requests)?);
+            (work.ours)(&Library::load(object)?);
         }
         None => {
             // what the original makes at its first use, such as its regexes, is not counted
@@ -72,7 +65,7 @@ fn look_for_valgrind() -> Result<(), String> {
     started.map(drop).map_err(|error| format!("Instructions are counted by valgrind, which does not start: {error}."))
 }
 
-fn instructions(shape: &Shape, object: Option<&Object>) -> Result<u64, String> {
+fn instructions(shape: &Shape, object: Option<&Path>) -> Result<u64, String> {
     let function = if object.is_some() { shape.function } else { "counted_of_original" };
     let report = options::repository().join("target/bench/callgrind.out");
     let program = env::current_exe().map_err(|error| format!("This program does not know where it is: {error}."))?;
@@ -80,9 +73,7 @@ fn instructions(shape: &Shape, object: Option<&Object>) -> Result<u64, String> {
     command.args(["--tool=callgrind", "--quiet", &format!("--toggle-collect={function}")]);
     command.arg(format!("--callgrind-out-file={}", report.display()));
     command.arg(program).args(["once", &shape.name]);
-    if let Some(Object { file, requests }) = object {
-        command.arg("--library").arg(file).args(["--requests", &requests.to_string()]);
-    }
+    command.args(object.iter().flat_map(|object| [Path::new("--library"), object]));
     let output = command.output().map_err(|error| format!("valgrind does not start: {error}."))?;
     if !output.status.success() {
         return Err(format!("`{}` failed under valgrind:\n{}", shape.name, String::from_utf8_lossy(&output.stderr)));

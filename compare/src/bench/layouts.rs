@@ -1,7 +1,6 @@
 //! Builds of our library that differ in where the code lies: the times depend on it. Each is a shared object, linked from the
 //! static library with more code in front.
 
-use super::Archive;
 use crate::library::Library;
 use crate::options;
 use std::fs;
@@ -15,23 +14,22 @@ const PAGE: usize = 4_096;
 pub const MOST: usize = PAGE / SHIFT;
 
 /// So many layouts of a static library; layout k has its code 16 · k bytes behind that of layout 0.
-pub fn load(archive: &Archive, layouts: usize) -> Result<Vec<Library>, String> {
-    let load = |number| Library::load(&build(archive, number)?, archive.requests);
+pub fn load(archive: &Path, name: &str, layouts: usize) -> Result<Vec<Library>, String> {
+    let load = |number| Library::load(&build(archive, name, number)?);
     let libraries = (0..layouts).map(load).collect::<Result<Vec<Library>, String>>()?;
     for (number, library) in libraries.iter().enumerate() {
         let shifted = library.address().wrapping_sub(libraries[0].address()) % PAGE;
         if shifted != number * SHIFT {
-            return Err(format!("Layout {number} of {} is shifted by {shifted} bytes.", archive.file.display()));
+            return Err(format!("Layout {number} of {} is shifted by {shifted} bytes.", archive.display()));
         }
     }
     Ok(libraries)
 }
 
 /// Writes a shared object to target/bench.
-pub fn build(archive: &Archive, number: usize) -> Result<PathBuf, String> {
-    let Archive { name, file, .. } = archive;
-    if !file.is_file() {
-        return Err(format!("There is no library {}.", file.display()));
+pub fn build(archive: &Path, name: &str, number: usize) -> Result<PathBuf, String> {
+    if !archive.is_file() {
+        return Err(format!("There is no library {}.", archive.display()));
     }
     let directory = options::repository().join("target/bench");
     let told = |error| format!("{} cannot be written: {error}.", directory.display());
@@ -39,7 +37,7 @@ pub fn build(archive: &Archive, number: usize) -> Result<PathBuf, String> {
     let padding = directory.join(format!("padding-{number}.s"));
     fs::write(&padding, assembly((number + 1) * SHIFT)).map_err(told)?;
     let object = directory.join(format!("{name}-{number}.so"));
-    linked(file, &padding, &object)?;
+    linked(archive, &padding, &object)?;
     Ok(object)
 }
 

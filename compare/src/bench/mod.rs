@@ -12,9 +12,9 @@ mod runs;
 mod shape;
 mod times;
 
-use crate::library::{self, Library};
+use crate::library::Library;
 use crate::options;
-pub use counts::{Object, count, once};
+pub use counts::{count, once};
 use shape::Shape;
 use std::path::PathBuf;
 
@@ -26,20 +26,9 @@ pub struct Wanted {
     /// Static libraries: one in the place of ours, and one to compare it with.
     pub library: Option<PathBuf>,
     pub before: Option<PathBuf>,
-    /// How many of 02's requests the one to compare it with has.
-    pub before_requests: u64,
     pub layouts: u64,
     /// Where to write the plot of the growth.
     pub plot: Option<PathBuf>,
-}
-
-/// A static library.
-#[derive(Debug, PartialEq, Eq)]
-struct Archive {
-    name: &'static str,
-    file: PathBuf,
-    /// How many of 02's requests it has.
-    requests: u64,
 }
 
 /// A library at its layouts.
@@ -91,26 +80,22 @@ impl Wanted {
 
     fn sides(&self) -> Result<Vec<Side>, String> {
         let layouts = self.layouts()?;
-        let side = |archive: Archive| Ok(Side { name: archive.name, layouts: layouts::load(&archive, layouts)? });
+        let side = |(name, archive): (&'static str, PathBuf)| {
+            Ok(Side { name, layouts: layouts::load(&archive, name, layouts)? })
+        };
         self.archives()?.into_iter().map(side).collect()
     }
 
-    /// The libraries, the one before first. Without options it is ours, if it is built.
-    fn archives(&self) -> Result<Vec<Archive>, String> {
-        if self.before_requests > library::REQUESTS {
-            return Err(format!("--before-requests wants a number from 0 to {}.", library::REQUESTS));
-        }
+    /// The names and files of the libraries, the one before first. Without options it is ours, if it is built.
+    fn archives(&self) -> Result<Vec<(&'static str, PathBuf)>, String> {
         let built = options::repository().join("target/staticlib/libtroymantle.a");
         let built = built.is_file().then_some(built);
-        let current = |name, file| Archive { name, file, requests: library::REQUESTS };
         match (self.library.clone().or(built), self.before.clone()) {
-            (Some(after), Some(file)) => {
-                Ok(vec![Archive { name: "before", file, requests: self.before_requests }, current("after", after)])
-            }
+            (Some(after), Some(before)) => Ok(vec![("before", before), ("after", after)]),
             (None, Some(_)) => {
                 Err("Our library is not built, so --before has nothing to be compared with.".to_string())
             }
-            (ours, None) => Ok(ours.map(|file| current("ours", file)).into_iter().collect()),
+            (ours, None) => Ok(ours.map(|archive| ("ours", archive)).into_iter().collect()),
         }
     }
 }
@@ -164,14 +149,13 @@ mod tests {
         assert_eq!(names(&["growth"]), Ok(all[all.len() - 19..].to_vec()));
         assert_eq!(names(&["growth: step"]).map(|names| names.len()), Ok(12));
         assert_eq!(names(&["parse", "link", "step", "place"]), Ok(all.clone()));
-        assert_eq!(names(&["small", "10 rules"]).map(|names| names.len()), Ok(9));
-        assert_eq!(names(&["step: 10 rules, entry", "entry of 16"]).map(|names| names.len()), Ok(6));
+        assert_eq!(names(&["small", "10 rules"]).map(|names| names.len()), Ok(5));
         assert!(names(&["step", "stop"]).is_err_and(|told| told.contains("`stop`")));
     }
 
     fn wanted(library: Option<&str>, before: Option<&str>, layouts: u64) -> Wanted {
         let [library, before] = [library, before].map(|file| file.map(PathBuf::from));
-        Wanted { words: vec![], library, before, before_requests: 1, layouts, plot: None }
+        Wanted { words: vec![], library, before, layouts, plot: None }
     }
 
     #[test]
@@ -186,17 +170,11 @@ mod tests {
         assert!(with.plot(false).is_err());
     }
 
-    fn archive(name: &'static str, file: &str, requests: u64) -> Archive {
-        Archive { name, file: PathBuf::from(file), requests }
-    }
-
     #[test]
     fn a_library_before_stands_first() {
-        let both = wanted(Some("b.a"), Some("a.a"), 1);
-        let all = library::REQUESTS;
-        assert_eq!(both.archives(), Ok(vec![archive("before", "a.a", 1), archive("after", "b.a", all)]));
-        assert_eq!(wanted(Some("b.a"), None, 1).archives(), Ok(vec![archive("ours", "b.a", all)]));
-        assert!(Wanted { before_requests: all + 1, ..both }.archives().is_err());
+        let archives = wanted(Some("b.a"), Some("a.a"), 1).archives();
+        assert_eq!(archives, Ok(vec![("before", PathBuf::from("a.a")), ("after", PathBuf::from("b.a"))]));
+        assert_eq!(wanted(Some("b.a"), None, 1).archives(), Ok(vec![("ours", PathBuf::from("b.a"))]));
     }
 
     #[test]
@@ -208,7 +186,7 @@ mod tests {
 
     #[test]
     fn a_library_that_is_not_there_is_told() {
-        let told = layouts::load(&archive("ours", "no such file.a", 0), 1).err();
+        let told = layouts::load(&PathBuf::from("no such file.a"), "ours", 1).err();
         assert_eq!(told.as_deref(), Some("There is no library no such file.a."));
     }
 
@@ -217,8 +195,7 @@ mod tests {
     #[cfg(feature = "ours")]
     fn a_loaded_library_answers_as_the_linked_one() {
         let ours = wanted(None, None, 2).archives().unwrap_or_default();
-        let tested = Archive { name: "tested", file: ours[0].file.clone(), requests: library::REQUESTS };
-        let libraries = layouts::load(&tested, 2).unwrap_or_else(|told| panic!("{told}"));
+        let libraries = layouts::load(&ours[0].1, "tested", 2).unwrap_or_else(|told| panic!("{told}"));
         for shape in chosen(&["small file", "10 rules", "place", "growth"].map(str::to_string)).unwrap_or_default() {
             let work = shape.work();
             for library in libraries.iter().chain([&crate::library::LINKED]) {

@@ -132,12 +132,12 @@ fn text(line: fn(usize) -> usize, character: fn(usize) -> char) -> String {
     text
 }
 
-pub fn letter(number: usize) -> char {
+fn letter(number: usize) -> char {
     char::from(b'a' + (number % 26) as u8)
 }
 
 /// Three characters in 16 have 2, 3 and 4 bytes.
-pub fn mixed(number: usize) -> char {
+fn mixed(number: usize) -> char {
     match number % 16 {
         4 => 'é',
         9 => '€',

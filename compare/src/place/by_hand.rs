@@ -2,7 +2,6 @@
 
 use super::{Call, Subject};
 use crate::answers::{ACCEPTED, INVALID_UTF8, LONG_FILE, NO_SUCH_PLACE, word};
-use crate::utf8::DAMAGED;
 
 const BEFORE: [u32; 2] = [0xa5a5_a5a5, 0x5a5a_5a5a];
 
@@ -113,6 +112,29 @@ const REFUSED: &[(&str, Call)] = &[
     ("ab", Call::OffsetAt(1 + (1 << 32), 1)),
     ("ab", Call::OffsetAt(1, 1 + (1 << 32))),
     ("ab", Call::OffsetAt(u64::MAX, u64::MAX)),
+];
+
+/// A lone continuation byte, cut characters, overlong ones, surrogates, characters above U+10FFFF and bytes of none.
+pub const DAMAGED: &[&[u8]] = &[
+    b"\x80",
+    b"a\xbf",
+    b"\xc3\xa9\x80",
+    b"\xc3",
+    b"a\xe2\x82",
+    b"a\xf0\x9f\x98",
+    b"\xc3a",
+    b"\xe2\x82a",
+    b"\xf0\x9f\x98\n",
+    b"\xc0\x80",
+    b"\xc1\xbf",
+    b"\xe0\x9f\xbf",
+    b"\xf0\x8f\xbf\xbf",
+    b"\xed\xa0\x80",
+    b"\xed\xbf\xbf",
+    b"\xf4\x90\x80\x80",
+    b"\xf5\x80\x80\x80",
+    b"\xf8",
+    b"\xff",
 ];
 
 /// 3 comes before 11.

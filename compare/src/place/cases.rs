@@ -1,11 +1,10 @@
 //! Sources, and the calls that are made on them, each a function of seed and index alone.
 
-use super::Call;
 use super::model::Place;
+use super::{Call, by_hand};
 use crate::case::SOURCE_LIMIT;
 use crate::generators::{EDGE_BYTES, damage, letters_of_index};
 use crate::random::Random;
-use crate::utf8::DAMAGED;
 
 /// Every offset and every pair of a source up to this length is asked for, and a sample of a longer one.
 const SHORT: usize = 300;
@@ -56,7 +55,7 @@ fn damaged(random: &mut Random) -> Vec<u8> {
     let text = short(random);
     if random.percent(40) {
         let (before, behind) = text.split_at(text.floor_char_boundary(random.below(text.len() + 1)));
-        return [before.as_bytes(), random.pick(DAMAGED), behind.as_bytes()].concat();
+        return [before.as_bytes(), random.pick(by_hand::DAMAGED), behind.as_bytes()].concat();
     }
     let mut source = text.into_bytes();
     for _ in 0..1 + random.below(2) {

@@ -84,7 +84,9 @@ struct Subject {
 impl Subject {
     /// Where the source lies, and what stands around it, go by the number.
     fn new(source: &[u8], number: u64) -> Subject {
-        let ours = ours::Source::new(source, number);
+        // a continuation byte, a first byte and the line feed: each would change an answer if it were read
+        let guard = [b'Z', 0x80, 0xc3, b'\n'][(number / 8 % 4) as usize];
+        let ours = ours::Source::new(source, (number % 8) as usize, guard);
         Subject { model: Model::new(source, None), ours, shown: show::source(source) }
     }
 
@@ -188,8 +190,8 @@ mod ours {
     pub struct Source(guarded::Source);
 
     impl Source {
-        pub fn new(source: &[u8], number: u64) -> Source {
-            Source(guarded::Source::new(source, number))
+        pub fn new(source: &[u8], shift: usize, guard: u8) -> Source {
+            Source(guarded::Source::new(source, shift, guard))
         }
 
         pub fn answer(&self, call: Call, before: [u32; 2]) -> Option<Left> {
@@ -212,7 +214,7 @@ mod ours {
     pub struct Source;
 
     impl Source {
-        pub fn new(_: &[u8], _: u64) -> Source {
+        pub fn new(_: &[u8], _: usize, _: u8) -> Source {
             Source
         }
 

@@ -4,7 +4,6 @@ use super::misreadings::Misreading as M;
 use super::{Call, Left};
 use crate::answers::{ACCEPTED, INVALID_UTF8, LONG_FILE, NO_SUCH_PLACE, word};
 use crate::case::SOURCE_LIMIT;
-use crate::utf8::{self, Damage};
 use std::borrow::Cow;
 
 /// An allowed offset with its line and column.
@@ -154,12 +153,26 @@ impl Reading {
         }
     }
 
+    /// A misreading takes the damaged sequences of one sort for a character of their length.
     fn text(self, source: &[u8]) -> Option<Cow<'_, str>> {
-        if self.has(M::TextIsJudgedUpToThePlace) {
-            let valid = source.utf8_chunks().next().map_or("", |chunk| chunk.valid());
-            return Some(Cow::Borrowed(valid));
+        if let Ok(text) = std::str::from_utf8(source) {
+            return Some(Cow::Borrowed(text));
         }
-        utf8::text(source, |damage| self.has(taken_by(damage)))
+        let mut mended = source.to_vec();
+        let mut from = 0;
+        while let Err(error) = std::str::from_utf8(&mended[from..]) {
+            from += error.valid_up_to();
+            if self.has(M::TextIsJudgedUpToThePlace) {
+                mended.truncate(from);
+                break;
+            }
+            let (sort, length) = damage(&mended[from..], error.error_len());
+            if !self.has(sort) {
+                return None;
+            }
+            mended[from..from + length].copy_from_slice(["a", "é", "€", "😀"][length - 1].as_bytes());
+        }
+        String::from_utf8(mended).ok().map(Cow::Owned)
     }
 
     /// Every character's offset and the length, with the line, which is 1 and one more for each line feed before it, and the
@@ -223,16 +236,20 @@ impl Reading {
     }
 }
 
-/// The misreading that takes the damage for text.
-fn taken_by(damage: Damage) -> M {
-    match damage {
-        Damage::Surrogate => M::SurrogatesAreText,
-        Damage::OverlongForm => M::OverlongFormsAreText,
-        Damage::PastTheLast => M::CharactersPastTheLastAreText,
-        Damage::ImpossibleByte => M::ImpossibleBytesAreText,
-        Damage::LoneContinuation => M::LoneContinuationIsText,
-        Damage::CutCharacter => M::CutCharacterIsText,
-        Damage::CutByTheEnd => M::CharacterCutByTheEndIsText,
+/// The sort of the damaged sequence that the bytes begin with, and how many bytes it has. The error's length is none where the
+/// source ends inside a character.
+fn damage(bytes: &[u8], error: Option<usize>) -> (M, usize) {
+    let Some(error) = error else { return (M::CharacterCutByTheEndIsText, bytes.len()) };
+    let is_whole = |length: usize| bytes.len() >= length && bytes[1..length].iter().all(|byte| byte & 0xc0 == 0x80);
+    match *bytes {
+        [0x80..=0xbf, ..] => (M::LoneContinuationIsText, 1),
+        [0xf8..=0xff, ..] => (M::ImpossibleBytesAreText, 1),
+        [0xc0 | 0xc1, ..] if is_whole(2) => (M::OverlongFormsAreText, 2),
+        [0xe0, 0x80..=0x9f, ..] if is_whole(3) => (M::OverlongFormsAreText, 3),
+        [0xed, 0xa0..=0xbf, ..] if is_whole(3) => (M::SurrogatesAreText, 3),
+        [0xf0, 0x80..=0x8f, ..] if is_whole(4) => (M::OverlongFormsAreText, 4),
+        [0xf4, 0x90..=0xbf, ..] | [0xf5..=0xf7, ..] if is_whole(4) => (M::CharactersPastTheLastAreText, 4),
+        _ => (M::CutCharacterIsText, error),
     }
 }
 
@@ -293,17 +310,24 @@ mod tests {
     }
 
     #[test]
-    fn damage_is_refused_and_ends_where_a_misreading_takes_it() {
-        let sorts: [(&[u8], M); 7] = [
-            (b"\xed\xa0\x80", M::SurrogatesAreText),
-            (b"\xf0\x8f\xbf\xbf", M::OverlongFormsAreText),
-            (b"\xf4\x90\x80\x80", M::CharactersPastTheLastAreText),
-            (b"\xff", M::ImpossibleBytesAreText),
-            (b"\x80", M::LoneContinuationIsText),
-            (b"\xe2\x82a", M::CutCharacterIsText),
-            (b"\xf0\x9f\x98", M::CharacterCutByTheEndIsText),
+    fn every_sort_of_damage_has_a_name() {
+        let sorts: [(&[u8], M, usize); 12] = [
+            (b"\x80", M::LoneContinuationIsText, 1),
+            (b"\xff", M::ImpossibleBytesAreText, 1),
+            (b"\xc1\xbf", M::OverlongFormsAreText, 2),
+            (b"\xe0\x9f\xbf", M::OverlongFormsAreText, 3),
+            (b"\xf0\x8f\xbf\xbf", M::OverlongFormsAreText, 4),
+            (b"\xed\xa0\x80", M::SurrogatesAreText, 3),
+            (b"\xf4\x90\x80\x80", M::CharactersPastTheLastAreText, 4),
+            (b"\xf5\x80\x80\x80", M::CharactersPastTheLastAreText, 4),
+            (b"\xc3a", M::CutCharacterIsText, 1),
+            (b"\xe2\x82a", M::CutCharacterIsText, 2),
+            (b"\xf0\x9f\x98a", M::CutCharacterIsText, 3),
+            (b"\xf0\x9f\x98", M::CharacterCutByTheEndIsText, 3),
         ];
-        for (bytes, sort) in sorts {
+        for (bytes, sort, length) in sorts {
+            let error = std::str::from_utf8(bytes).map_err(|error| error.error_len()).err().flatten();
+            assert_eq!(damage(bytes, error), (sort, length), "{bytes:x?}");
             assert_eq!(Model::new(bytes, None).places, Err(INVALID_UTF8));
             let end = Model::new(bytes, Some(sort)).places.map(|places| places.last().map(|place| place.offset));
             assert_eq!(end, Ok(Some(bytes.len() as u64)));

@@ -1,7 +1,6 @@
-//! Starts and steps at every edge of 01's conditions, with the answers that 01 gives them. The text is letters, n of them, so that
-//! it is nowhere in the way; `by_text` has the others.
+//! Starts and steps at every edge of 01's conditions, with the answers that 01 gives them.
 
-use super::{Left, Run, Start, Step, token};
+use super::{Run, start, step, token};
 use crate::answers::{BROKEN_RUN, BROKEN_SHEET, DONE, ROW_MISMATCH, SKIP, START_REFUSED, STOPPED, UNLINKED};
 use crate::broken_sheets::{self, cut, records, set};
 use crate::sheet::Sheet;
@@ -9,11 +8,6 @@ use crate::sheet::Sheet;
 /// How many were tried.
 pub fn check() -> Result<usize, String> {
     Ok(starts()? + sheets()? + runs()? + rows()? + moves()? + orders()?)
-}
-
-fn step(sheet: &Sheet, run: &Run, row: &[u8]) -> Result<Left, String> {
-    let text = vec![b'a'; run.numbers[0] as usize];
-    super::step(&Step { sheet, text: &text, run, row, start_text: &text })
 }
 
 /// The lent run has no meaning yet.
@@ -41,27 +35,24 @@ fn starts() -> Result<usize, String> {
             after.numbers = [*n as u16, 0, 1, 0];
             after.stack[..2].fill(0);
         }
-        // no text can be as long as the greatest n
-        let text = vec![b'a'; (*n).min(100_000) as usize];
-        let left = super::start(&Start { n: *n, text: &text, before: &before })?;
-        expect(&format!("start of {n} with {bytes} bytes"), left, (*number, after))?;
+        expect(&format!("start of {n} with {bytes} bytes"), start(*n, &before)?, (*number, after))?;
     }
     Ok(tried.len())
 }
 
 /// Of an entry of 10 bytes, with room for one more id than is in use, and bytes behind it that are no declared id.
-pub fn good() -> Run {
+fn good() -> Run {
     let mut stack = records(&[0, 1, 0]);
     stack.resize(22, 0xff);
     Run { numbers: [10, 4, 3, 2], stack }
 }
 
 /// Rule 0 has the id 9, no list and no operation; rule 1 has no id.
-pub fn good_sheet() -> Sheet {
+fn good_sheet() -> Sheet {
     broken_sheets::good()
 }
 
-pub fn row(lengths: &[u16]) -> Vec<u8> {
+fn row(lengths: &[u16]) -> Vec<u8> {
     records(lengths)
 }
 
@@ -76,7 +67,7 @@ fn sheets() -> Result<usize, String> {
 
 type Break = (&'static str, fn(&mut Run));
 
-pub const RUNS: &[Break] = &[
+const RUNS: &[Break] = &[
     ("n above 4,096", |run| {
         run.numbers[0] = 4_097;
         run.stack.resize(2 * 4_098, 0);
@@ -210,7 +201,7 @@ fn moves() -> Result<usize, String> {
     Ok(tried.len() + 1)
 }
 
-/// 6, 9, 'done', 10. Where 12 stands among them is tried by `by_text`.
+/// 6, 9, 'done', 10.
 fn orders() -> Result<usize, String> {
     let mut sheet = good_sheet();
     sheet.counts[0] = 0;
@@ -229,6 +220,6 @@ fn orders() -> Result<usize, String> {
     Ok(7)
 }
 
-pub fn expect(what: &str, left: Left, right: Left) -> Result<(), String> {
-    if left == right { Ok(()) } else { Err(format!("{what}: the calls have {left:?}, and their words {right:?}")) }
+fn expect(what: &str, left: (u64, Run), right: (u64, Run)) -> Result<(), String> {
+    if left == right { Ok(()) } else { Err(format!("{what}: the calls have {left:?}, and 01 {right:?}")) }
 }

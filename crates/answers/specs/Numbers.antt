@@ -50,10 +50,6 @@ row_mismatch_number = 10
 abbrev pub no_such_place_number : ℕ
 no_such_place_number = 11
 
--- the entry's text does not fit (02, 2/13)
-abbrev pub text_mismatch_number : ℕ
-text_mismatch_number = 12
-
 -- the most bytes of a file (01, Numbers given at the counter, 1)
 abbrev pub most_source : ℕ
 most_source = 65535

@@ -27,8 +27,6 @@ pub const ROW_MISMATCH: u16 = 10;
 
 pub const NO_SUCH_PLACE: u16 = 11;
 
-pub const TEXT_MISMATCH: u16 = 12;
-
 // The most bytes of a file.
 pub const MOST_SOURCE: usize = 65535;
 

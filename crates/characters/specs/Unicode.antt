@@ -30,17 +30,12 @@ pub record Encoded (s : List ℕ) : Type 0 where
   pub scalars : Scalars scalar_values
   pub bytes : encode_all scalar_values ≡ s
 
--- b is an edge of the text of the code points cs: the length of the bytes of some first of them (02, 1/13 and 2/13)
+-- b is an edge of the text of the code points cs: the length of the bytes of some first of them
 pub record Edge (cs : List ℕ) (b : ℕ) : Type 0 where
   pub before : List ℕ
   pub behind : List ℕ
   pub all : cs ≡ before ++ behind
   pub bytes : b ≡ length (encode_all before)
-
--- the test r holds exactly where b is an edge of the text of the code points cs
-pub record JudgesEdge (cs : List ℕ) (b : ℕ) (r : Bool) : Type 0 where
-  pub sound : r ≡ true → Edge cs b
-  pub complete : Edge cs b → r ≡ true
 
 -- the test r holds exactly of the encodings of lists of scalar values
 pub record Judges (s : List ℕ) (r : Bool) : Type 0 where

@@ -12,7 +12,7 @@ is_continuation b = within 0x80 0xbf b
 abbrev pub at_edge : List ℕ → ℕ → Bool
 at_edge s k = not (is_continuation (byte s k))
 
--- b is an edge of the text s: it is not above its length, and no character goes on there (02, 1/13 and 2/13)
+-- b is an edge of the text s: it is not above its length, and no character goes on there
 abbrev pub is_edge : List ℕ → ℕ → Bool
 is_edge s b = leb b (length s) && at_edge s b
 

@@ -2,14 +2,13 @@
 use mathlib.Core.Path.{◌≡◌, sym, ap, ◌∙◌}
 use mathlib.Core.Bool.{Bool, true, false, not}
 use mathlib.Core.List.{List}
-use Prim.Native.Nat.{ℕ, ◌+◌, ◌≤◌}
+use Prim.Native.Nat.{ℕ, ◌+◌, ◌≤◌, ◌<◌}
 use native.Mathlib.Omega.{arith}
 use borrow.Author.Rules.{rules}
-use borrow.Author.Tests.{leb-true, not-true, not-false}
-use lib.Dec.{leb}
+use borrow.Author.Tests.{le-leb, lt-leb}
 use lib.ListN.{length}
-use Rattle.characters.specs.Utf8.{at_edge, is_edge}
-use Rattle.characters.proofs.Tests.{and_left}
+use Rattle.characters.specs.Utf8.{is_continuation, at_edge}
+use Rattle.characters.specs.Whitespace.{byte}
 use Rattle.lines.specs.declared.Place.{Place}
 use Rattle.lines.specs.declared.LineColumn.TheVariants.{Known, NoSuchPlace}
 use Rattle.lines.specs.Lines.{line_num, col_num, place, place_in}
@@ -33,16 +32,21 @@ pub ruleset passing_blocks = (rules, place_begins, range_is)
 
 -- ---- number 11
 
-module _ (s : List ℕ) (b : ℕ) (t : Bool) (is : t ≡ is_edge s b) where
-  pub place_refused : not t ≡ true → NoSuchPlace ≡ place_in s b
+module _ (s : List ℕ) (b : ℕ) where
+  pub place_above : length s < b → NoSuchPlace ≡ place_in s b
   unfolding place_in
-  place_refused e = rw (← is, not-true t e)
+  place_above h = rw (lt-leb b (length s) h)
 
-  pub edge_inside : not t ≡ false → b ≤ length s
-  edge_inside e = leb-true b (length s) (and_left (leb b (length s)) (at_edge s b) (sym is ∙ not-false t e))
+  module _ (h : b ≤ length s) (x : ℕ) (q : x ≡ byte s b) (r : Bool) (inside : r ≡ is_continuation x) where
+    edge_answer : at_edge s b ≡ not r
+    edge_answer = ap (λ (y : ℕ). not (is_continuation y)) (sym q) ∙ ap not (sym inside)
 
-  pub place_known : (p : Place) → not t ≡ false → p ≡ place_at s b → Known p ≡ place_in s b
-  unfolding place_in place_at
-  place_known p e q = rw (← is, not-false t e) (ap Known q)
+    pub place_inside : r ≡ true → NoSuchPlace ≡ place_in s b
+    unfolding place_in
+    place_inside t = rw (le-leb b (length s) h, edge_answer, t)
 
-pub ruleset judging_offset = (rules, place_refused, edge_inside, place_known)
+    pub place_known : (p : Place) → r ≡ false → p ≡ place_at s b → Known p ≡ place_in s b
+    unfolding place_in place_at
+    place_known p t is = rw (le-leb b (length s) h, edge_answer, t) (ap Known is)
+
+pub ruleset judging_offset = (rules, place_above, place_inside, place_known)

@@ -7,7 +7,8 @@ ghost use Rattle.lines.specs.Places.{ShortRange, place_at};
 
 use crate::counts::{characters, col_num, line_byte, line_ends};
 use crate::{Byte, ColNum, LineColumn, LineNum, Place};
-use characters::utf8::is_edge;
+use characters::utf8::is_continuation;
+use characters::whitespace::byte_at;
 
 // How many bytes are looked at together.
 pub const BLOCK: usize = 64;
@@ -68,7 +69,11 @@ pub fn place_in(s: &[u8], byte: Byte) -> LineColumn
     requires { length s.now ≤ most_source }
     ensures { result ≡ place_in (before s) byte.0 }
 {
-    if !is_edge(s, byte.0) {
+    let b = byte.0;
+    if b > s.len() {
+        return LineColumn::NoSuchPlace;
+    }
+    if is_continuation(byte_at(s, b)) {
         return LineColumn::NoSuchPlace;
     }
     LineColumn::Known(place_of(s, byte))

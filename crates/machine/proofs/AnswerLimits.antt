@@ -4,7 +4,7 @@ use mathlib.Core.Path.{◌≡◌, subst⁻¹}
 use mathlib.Core.Bool.{Bool, true, ◌&&◌}
 use mathlib.Core.List.{List}
 use mathlib.Core.Logic.{⊎_elim}
-use Prim.Native.Nat.{ℕ, ◌*◌, ◌%◌, ◌≤◌, ◌<◌}
+use Prim.Native.Nat.{ℕ, ◌*◌, ◌-◌, ◌%◌, ◌≤◌, ◌<◌}
 use native.Mathlib.Omega.{arith}
 use borrow.Author.Tests.{leb-true}
 use lib.Dec.{eqb, leb}
@@ -13,7 +13,7 @@ use Rattle.characters.proofs.Tests.{le_or_lt, by_test, and_left, and_right}
 use Rattle.area.specs.declared.Rule.{Rule}
 use Rattle.area.specs.Records.{rule_width, entry_width, rule_of, rule_at, entry_at, nth_rule}
 use Rattle.area.specs.Contents.{contents, rule_format}
-use Rattle.answers.specs.Numbers.{accepted_number, area_full_number, broken_map_number, start_refused_number, broken_sheet_number, text_mismatch_number, broken_run_number, row_mismatch_number, done_number, stopped_number, unlinked_number, skip_number, token_number}
+use Rattle.answers.specs.Numbers.{accepted_number, area_full_number, broken_map_number, start_refused_number, broken_sheet_number, broken_run_number, row_mismatch_number, done_number, stopped_number, unlinked_number, skip_number, token_number}
 use Rattle.answers.specs.Words.{TwoBytes}
 use Rattle.area.specs.Bytes.{AllBytes}
 use Rattle.answers.proofs.Words.{two_bytes, no_values}
@@ -32,11 +32,10 @@ use Rattle.link.specs.Link.{is_unmapped, is_unused, unmapped, unused, LinkLeft, 
 use Rattle.name_map.proofs.Maps.{entries_count}
 use Rattle.winner.specs.Winner.{Lexer, length_in, weight, greatest}
 use Rattle.winner.proofs.Winning.{weights_low}
-use Rattle.input_check.specs.InputCheck.{good_text, good_row}
 use Rattle.run.specs.declared.Begun.{Begun}
-use Rattle.run.specs.declared.Begun.TheVariants.{Started, StartRefused, TextMismatch}
+use Rattle.run.specs.declared.Begun.TheVariants.{Started, StartRefused}
 use Rattle.run.specs.declared.Step.{Step}
-use Rattle.run.specs.Run.{Running, current, Input, RunLeft, good_run, fits_in, won_by, choose, step_row, step_run, lexer_of, step_call, start_fields, view, view_fields, step_fields}
+use Rattle.run.specs.Run.{Running, current, Input, RunLeft, good_run, fits_in, good_row, won_by, choose, step_row, step_run, lexer_of, step_call, start_fields, view, view_fields, step_fields}
 use Rattle.run.proofs.Fitting.{run_is}
 
 -- ---- the pattern call
@@ -150,7 +149,7 @@ module _ (x : Lexer) (small : (k : ℕ) → SmallRule (nth_rule x.rules k)) (run
       let f : ℕ → ℕ = weight x (current run) row in
       by_test Small (good_run (length x.states) run) _ _
       (λ good. by_test Small (eqb run.run.position run.run.n) _ _ (λ _. no_values done_number (omega arith))
-      (λ _. by_test Small (good_row (fits_in run.run i.text) (length x.rules) row) _ _
+      (λ _. by_test Small (good_row (fits_in run.run) (length x.rules) row) _ _
       (λ _. by_test Small (eqb (greatest f (length x.rules)) 0) _ _ (λ _. no_values stopped_number (omega arith))
       (λ _.
       let low = weights_low x (current run) row 65535 (length x.rules) (λ k _. omega (arith, length_small k)) in
@@ -163,14 +162,10 @@ pub step_small : (b : SheetBytes) (run : Running) (i : Input) → AllBytes b.are
     → TwoBytes (step_fields (step_call b run i).answer)
 unfolding step_call view view_fields decoded
 step_small b run i rules-bytes row-bytes =
-    by_test Small (sheet_check b) _ _
-    (λ _. by_test Small (good_text run.run.n i.text) _ _
-    (λ _. run_small (lexer_of (decoded b)) (λ k. small_rule b.area2 (get_or b.counts 1 0) k rules-bytes) run i row-bytes)
-    (λ _. no_values text_mismatch_number (omega arith)))
+    by_test Small (sheet_check b) _ _ (λ _. run_small (lexer_of (decoded b)) (λ k. small_rule b.area2 (get_or b.counts 1 0) k rules-bytes) run i row-bytes)
     (λ _. no_values broken_sheet_number (omega arith))
 
 pub start_small : (x : Begun) → TwoBytes (start_fields x)
 unfolding start_fields
 start_small Started = no_values accepted_number (omega arith)
 start_small StartRefused = no_values start_refused_number (omega arith)
-start_small TextMismatch = no_values text_mismatch_number (omega arith)

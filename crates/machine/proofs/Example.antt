@@ -1,29 +1,31 @@
 -- The hypotheses of demand 3 can be met, and its machine does something: a small file with pushes, pops below the bottom, a replace, skips, and
--- refused rows in the middle, over an entry with characters of one to four bytes, computed.
+-- a refused row in the middle, computed.
 use mathlib.Core.Path.{◌≡◌, refl, ap, ◌∙◌}
 use mathlib.Core.Bool.{true}
-use mathlib.Core.List.{List, [], ◌∷◌, map}
+use mathlib.Core.List.{List, [], ◌∷◌}
 use mathlib.Core.Option.{some}
 use Prim.Native.Nat.{ℕ, zero, suc, ◌<◌}
 use native.Mathlib.Omega.{arith}
 use borrow.Author.Tests.{ltb-true}
 use lib.ListN.{get_or, get_elem?, replicate}
-use Rattle.characters.specs.Unicode.{Encoded}
 use Rattle.characters.proofs.Tests.{and_left, and_right}
-use Rattle.area.specs.Bytes.{AllBytes}
+use Rattle.area.specs.Bytes.{AllBytes, bytes}
 use Rattle.section.specs.Request.{request, options}
-use Rattle.parse.specs.Parse.{Caps, caps}
+use Rattle.rules.specs.Rules.{entries}
+use Rattle.rules_section.specs.RulesSection.{rule, rules}
+use Rattle.parse.specs.Parse.{Caps, caps, file}
 use Rattle.area.specs.Lists.{all}
 use Rattle.parsed_sheet.specs.Accepted.{is_byte}
+use Rattle.link.specs.Link.{unmapped, unused}
 use Rattle.run.specs.declared.Run.{Run}
 use Rattle.run.specs.declared.Step.{Step}
 use Rattle.run.specs.declared.Step.TheVariants.{RowMismatch, Done, Stopped, Skip, Token}
-use Rattle.run.specs.Run.{running, start_input, Input, input}
+use Rattle.run.specs.Run.{running, Input, input}
 use Rattle.machine.specs.Computing.{computing}
 use Rattle.machine.specs.File.{FileRule}
 use Rattle.machine.specs.Machine.{Given, Machine, fresh, step}
 use Rattle.machine.specs.Means.{EntryOf}
-use Rattle.machine.specs.Demand.{Demand, Session, start_left_of, session_file, session_map, given, MapHolds, Accepts, session_calls, HaveText, DemandHolds}
+use Rattle.machine.specs.Demand.{Demand, Session, start_left_of, session_file, session_map, given, MapHolds, Accepts, session_calls, DemandHolds}
 use Rattle.machine.proofs.Options.{some_is, none_some}
 use Rattle.machine.specs.Words.{AcceptsInWords, InWords, InWordsHolds}
 use Rattle.machine.proofs.Theorem.{demand}
@@ -51,39 +53,24 @@ names_of_map = 0x41 ∷ 0x43 ∷ 0x45 ∷ []
 abbrev pub entries_of_map : List ℕ
 entries_of_map = 0 ∷ 0 ∷ 1 ∷ 0 ∷ 44 ∷ 1 ∷ 1 ∷ 0 ∷ 1 ∷ 0 ∷ 45 ∷ 1 ∷ 2 ∷ 0 ∷ 1 ∷ 0 ∷ 46 ∷ 1 ∷ []
 
--- `é€𝄞abcde`, by its code points and by its bytes: 14 bytes, with edges at 0, 2, 5, and from 9 on
-abbrev pub entry_characters : List ℕ
-entry_characters = 0xe9 ∷ 0x20ac ∷ 0x1d11e ∷ 0x61 ∷ 0x62 ∷ 0x63 ∷ 0x64 ∷ 0x65 ∷ []
+abbrev pub row : ℕ → ℕ → ℕ → ℕ → ℕ → Input
+row a b c d e = input (a ∷ 0 ∷ b ∷ 0 ∷ c ∷ 0 ∷ d ∷ 0 ∷ e ∷ 0 ∷ [])
 
-abbrev pub entry_text : List ℕ
-entry_text = 0xc3 ∷ 0xa9 ∷ 0xe2 ∷ 0x82 ∷ 0xac ∷ 0xf0 ∷ 0x9d ∷ 0x84 ∷ 0x9e ∷ 0x61 ∷ 0x62 ∷ 0x63 ∷ 0x64 ∷ 0x65 ∷ []
-
-abbrev pub row : ℕ → ℕ → ℕ → ℕ → ℕ → List ℕ
-row a b c d e = a ∷ 0 ∷ b ∷ 0 ∷ c ∷ 0 ∷ d ∷ 0 ∷ e ∷ 0 ∷ []
-
--- the second and the third cut `€`, by the winner's length and by that of a rule that is not live; the fifth has a length above what is left; in
--- the seventh the longer of two live rules wins
-abbrev pub rows : List (List ℕ)
-rows =
-    row 2 2 0 0 0
+abbrev pub entry_rows : List Input
+entry_rows =
+    row 2 1 0 0 0
     ∷ row 0 1 0 0 0
-    ∷ row 0 3 1 0 0
-    ∷ row 0 3 0 0 0
-    ∷ row 10 0 0 4 0
-    ∷ row 9 0 0 4 0
-    ∷ row 1 1 2 1 0
+    ∷ row 6 0 0 1 0
+    ∷ row 5 0 0 1 0
+    ∷ row 1 1 1 0 0
     ∷ row 0 0 0 0 1
     ∷ row 1 1 0 0 1
     ∷ row 0 0 1 1 0
     ∷ row 0 0 0 0 1
-    ∷ []
+    ∷ input []
     ∷ []
 
--- each with the text of the start
-abbrev pub entry_rows : List Input
-entry_rows = map (input entry_text) rows
-
--- the file and the map, and the start of the entry, over a stack of 30 bytes 7
+-- the file and the map, and the start of an entry of 8 bytes, over a stack of 18 bytes 7
 abbrev pub session : Run → Session
 session r = record {
   request = request lex_file (options 0) [];
@@ -92,8 +79,8 @@ session r = record {
   entries = entries_of_map;
   area7 = [];
   area8 = [];
-  start = start_input 14 entry_text;
-  running = running r (replicate 30 7);
+  n = 8;
+  running = running r (replicate 18 7);
 }
 
 -- the machine's answers
@@ -123,30 +110,15 @@ unfolding computing
 met r = record { parsed = refl; unmapped = 0; unused = 0; linked = refl; started = refl }
 
 -- and these are the answers
-pub met_answers : (r : Run) → answers (given (session r) entry_characters) fresh entry_rows
-    ≡ Token 300 0 2 ∷ RowMismatch ∷ RowMismatch ∷ Skip ∷ RowMismatch ∷ Skip ∷ Token 301 9 2 ∷ Token 302 11 1 ∷ Token 300 12 1 ∷ Stopped ∷ Token 302 13 1
-    ∷ Done ∷ []
+pub met_answers : (r : Run) → answers (given (session r)) fresh entry_rows
+    ≡ Token 300 0 2 ∷ Skip ∷ RowMismatch ∷ Skip ∷ Token 301 4 1 ∷ Token 302 5 1 ∷ Token 300 6 1 ∷ Stopped ∷ Token 302 7 1 ∷ Done ∷ []
 unfolding computing answers
 met_answers r = refl
 
--- the text is that of the characters, and each step has it
-pub met_text : Encoded entry_text
-unfolding computing
-met_text = record { scalar_values = entry_characters; scalars = (refl, (refl, (refl, (refl, (refl, (refl, (refl, (refl, tt)))))))); bytes = refl }
-
-have_text : (text : List ℕ) (rs : List (List ℕ)) → HaveText text (map (input text) rs)
-unfolding HaveText
-have_text text [] = tt
-have_text text (r ∷ rs) = (refl, have_text text rs)
-
-pub met_texts : HaveText entry_text entry_rows
-met_texts = have_text entry_text rows
-
 -- so demand 3 holds of the calls with these rows
-pub met_demand : (r : Run)
-    → Demand (given (session r) entry_characters) (session r).running.stack (start_left_of (session r)) entry_rows (session_calls (session r) entry_rows)
-unfolding DemandHolds met_text
-met_demand r = (demand (session r) (met r) entry_rows met_texts).demand met_text
+pub met_demand : (r : Run) → Demand (given (session r)) (session r).running.stack (start_left_of (session r)) entry_rows (session_calls (session r) entry_rows)
+unfolding DemandHolds
+met_demand r = demand (session r) (met r) entry_rows
 
 -- ---- the same in words
 
@@ -166,4 +138,4 @@ met_words r = record { parsed = refl; linked = refl; started = refl }
 
 pub met_in_words : (r : Run) → InWords (session r) entry_rows
 unfolding InWordsHolds
-met_in_words r = in_words (session r) entries_are_bytes (met_words r) entry_rows met_texts
+met_in_words r = in_words (session r) entries_are_bytes (met_words r) entry_rows

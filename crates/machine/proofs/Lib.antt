@@ -1,6 +1,5 @@
 pub mod Options
 pub mod Mapping
-pub mod Edges
 pub mod Meanings
 pub mod Only
 pub mod Laid
@@ -12,7 +11,6 @@ pub mod Operations
 pub mod Winners
 pub mod Stepping
 pub mod Relinking
-pub mod Characters
 pub mod Whole
 pub mod Theorem
 pub mod AnswerLimits

@@ -2,14 +2,13 @@
 use mathlib.Core.Path.{◌≡◌, refl, sym, ap, ap₂, ◌∙◌}
 use mathlib.Core.Bool.{Bool, true, false, not, ◌&&◌, ◌||◌, false≢true, true≢false}
 use mathlib.Core.List.{List, [], ◌∷◌}
-use mathlib.Core.Logic.{◌⊎◌, inl, inr, ⊎_elim}
+use mathlib.Core.Logic.{inl, inr}
 use mathlib.Core.Option.{Option, none, some}
 use Prim.Native.Nat.{ℕ, zero, suc, ◌+◌, ◌*◌, ◌-◌, ◌≤◌, ◌<◌}
 use native.Mathlib.Omega.{arith}
 use borrow.Author.Tests.{eq-eqb, eqb-true, eqb-false, leb-true, leb-false, ltb-true, ltb-false}
-use lib.Dec.{eqb, ltb, leb}
+use lib.Dec.{eqb, ltb}
 use lib.ListN.{length, get_or, get_elem?}
-use Rattle.characters.specs.Unicode.{Edge}
 use Rattle.text.specs.Range.{same_bytes}
 use Rattle.characters.proofs.Tests.{by_test, and_left, and_right, or_true, or_cases}
 use Rattle.text.proofs.Ranges.{same_equal, same_self}
@@ -19,10 +18,9 @@ use Rattle.name_map.specs.Map.{Entry}
 use Rattle.run.specs.declared.Step.TheVariants.{RowMismatch, Done, Stopped}
 use Rattle.run.specs.Run.{Input}
 use Rattle.machine.specs.File.{FileState, FileRule}
-use Rattle.machine.specs.Machine.{Given, Machine, current_state, lengths, fits, length_fits, edges_from, has, is_empty, is_live, Winner, winner, first_or_longer, winner_of, id_in, Answered, answered, token, wins, chooses, step}
+use Rattle.machine.specs.Machine.{Given, Machine, current_state, lengths, fits, not_above, has, is_empty, is_live, Winner, winner, first_or_longer, winner_of, id_in, Answered, answered, token, wins, chooses, step}
 use Rattle.machine.specs.Means.{length_at, Fitting, Misfit, Has, Live, Won, EntryOf, Means}
 use Rattle.machine.proofs.Options.{some_is, none_some, place_inside}
-use Rattle.machine.proofs.Edges.{listed_edge, edge_listed}
 
 -- ---- live rules
 
@@ -102,58 +100,32 @@ module _ (g : Given) (m : Machine) (i : Input) (off : m.position ≡ g.n → ⊥
   left : ℕ
   left = g.n - m.position
 
-  -- what the test says of a length
-  abbrev at_edge : ℕ → Bool
-  at_edge l = has (edges_from 0 g.characters) (m.position + l)
-
-  length_low : (l : ℕ) → length_fits g m l ≡ true → l ≤ g.n - m.position
-  unfolding length_fits
-  length_low l e = leb-true l (g.n - m.position) (and_left (leb l (g.n - m.position)) _ e)
-
-  length_edge : (l : ℕ) → length_fits g m l ≡ true → Edge g.characters (m.position + l)
-  unfolding length_fits
-  length_edge l e = listed_edge g.characters (m.position + l) (and_right (leb l (g.n - m.position)) (at_edge l) e)
-
-  length_misfits : (l : ℕ) → length_fits g m l ≡ false → (g.n - m.position < l) ⊎ (Edge g.characters (m.position + l) → ⊥)
-  unfolding length_fits
-  length_misfits l e = go (leb l (g.n - m.position)) refl e
-    where
-      go : (t : Bool) → leb l (g.n - m.position) ≡ t → t && at_edge l ≡ false → (g.n - m.position < l) ⊎ (Edge g.characters (m.position + l) → ⊥)
-      go false f d = inl (leb-false l (g.n - m.position) f)
-      go true f d = inr (λ h. true≢false (sym (edge_listed g.characters (m.position + l) h) ∙ d))
-
-  pub row_fitting : fits (length_fits g m) (length g.file.rules) i.row ≡ true → Fitting g m i
+  pub row_fitting : fits (not_above (g.n - m.position)) (length g.file.rules) i.row ≡ true → Fitting g m i
   unfolding fits n left
-  row_fitting e = record {
-    before = off;
-    size = size;
-    low = λ k h. rw (← read k h) (length_low (get_or (lengths i.row) k 0) (passes k h));
-    edge = λ k h. rw (← read k h) (length_edge (get_or (lengths i.row) k 0) (passes k h));
-  }
-    where
-      size : length i.row ≡ n * 2
-      size = eqb-true (length i.row) (n * 2) (and_left (eqb (length i.row) (n * 2)) _ e)
+  row_fitting e =
+      let row : List ℕ = i.row in
+      let size : length row ≡ n * 2 = eqb-true (length row) (n * 2) (and_left (eqb (length row) (n * 2)) _ e) in
+      let pass : all (not_above left) (lengths row) ≡ true = and_right (eqb (length row) (n * 2)) _ e in
+      record {
+        before = off;
+        size = size;
+        low = λ k h.
+            let here : k < length (lengths row) = omega (arith, lengths_count n row size, h) in
+            rw (← lengths-at row k (omega (arith, size, h))) (leb-true (get_or (lengths row) k 0) left (all-at (not_above left) (lengths row) 0 k pass here));
+      }
 
-      read : (k : ℕ) → k < n → get_or (lengths i.row) k 0 ≡ length_at i.row k
-      read k h = lengths-at i.row k (omega (arith, size, h))
-
-      passes : (k : ℕ) → k < n → length_fits g m (get_or (lengths i.row) k 0) ≡ true
-      passes k h =
-          all-at (length_fits g m) (lengths i.row) 0 k (and_right (eqb (length i.row) (n * 2)) _ e) (omega (arith, lengths_count n i.row size, h))
-
-  pub misfits : fits (length_fits g m) (length g.file.rules) i.row ≡ false → Misfit g m i
+  pub misfits : fits (not_above (g.n - m.position)) (length g.file.rules) i.row ≡ false → Misfit g m i
   unfolding fits n left
   misfits e = go (eqb (length i.row) (n * 2)) refl e
     where
-      go : (t : Bool) → eqb (length i.row) (n * 2) ≡ t → t && all (length_fits g m) (lengths i.row) ≡ false → Misfit g m i
+      go : (t : Bool) → eqb (length i.row) (n * 2) ≡ t → t && all (not_above left) (lengths i.row) ≡ false → Misfit g m i
       go false f d = inl (eqb-false (length i.row) (n * 2) f)
       go true f d =
           let row : List ℕ = i.row in
           let size : length row ≡ n * 2 = eqb-true (length row) (n * 2) f in
-          let r = some_fails (length_fits g m) (lengths row) d in
+          let r = some_fails (not_above left) (lengths row) d in
           let h : r.0 < n = omega (arith, lengths_count n row size, r.1) in
-          let read = lengths-at row r.0 (omega (arith, size, h)) in
-          ⊎_elim (λ q. inr (inl (r.0, h, rw (← read) q))) (λ q. inr (inr (r.0, h, rw (← read) q))) (length_misfits (get_or (lengths row) r.0 0) r.2)
+          inr (r.0, h, rw (← lengths-at row r.0 (omega (arith, size, h))) (leb-false (get_or (lengths row) r.0 0) left r.2))
 
 -- ---- the winner
 
@@ -296,7 +268,7 @@ module _ (g : Given) (m : Machine) (i : Input) where
   unfolding step
   means =
       by_test Meant (eqb m.position g.n) (answered Done m) _ (λ e. (eqb-true m.position g.n e, refl))
-      (λ e. by_test Meant (fits (length_fits g m) (length g.file.rules) i.row) _ (answered RowMismatch m)
+      (λ e. by_test Meant (fits (not_above (g.n - m.position)) (length g.file.rules) i.row) _ (answered RowMismatch m)
       (λ f.
       let fitting : Fitting g m i = row_fitting g m i (eqb-false m.position g.n e) f in
       let count = lengths_count (length g.file.rules) i.row fitting.size in

@@ -1,15 +1,15 @@
 -- An input has one answer that means something, and one machine that is next: so `Means` alone says what the machine does.
 use mathlib.Core.Path.{◌≡◌, sym, ap, ◌∙◌}
 use mathlib.Core.List.{List}
-use mathlib.Core.Logic.{inl, inr, ⊎_elim}
+use mathlib.Core.Logic.{◌⊎◌, inl, inr, ⊎_elim}
 use mathlib.Core.Option.{none, some}
-use Prim.Native.Nat.{ℕ, ◌<◌}
+use Prim.Native.Nat.{ℕ, ◌-◌, ◌<◌}
 use native.Mathlib.Omega.{arith}
 use lib.ListN.{get_elem?}
 use Rattle.characters.proofs.Tests.{le_or_lt}
 use Rattle.name_map.specs.Map.{Entry}
 use Rattle.run.specs.declared.Step.{Step}
-use Rattle.run.specs.declared.Step.TheVariants.{BrokenSheet, TextMismatch, BrokenRun, RowMismatch, Done, Stopped, Unlinked, Skip, Token}
+use Rattle.run.specs.declared.Step.TheVariants.{BrokenSheet, BrokenRun, RowMismatch, Done, Stopped, Unlinked, Skip, Token}
 use Rattle.run.specs.Run.{Input}
 use Rattle.machine.specs.Machine.{Given, Machine, Winner, winner, move, answered}
 use Rattle.machine.specs.Means.{length_at, Fitting, Misfit, NoneMatches, Won, EntryOf, Means}
@@ -22,8 +22,7 @@ pub record Distinct (es : List Entry) : Type 0 where
 module _ (g : Given) (m : Machine) (i : Input) where
   fits_not : Fitting g m i → Misfit g m i → ⊥
   fits_not t (inl wrong) = wrong t.size
-  fits_not t (inr (inl (k, h, more))) = omega (arith, t.low k h, more)
-  fits_not t (inr (inr (k, h, off))) = off (t.edge k h)
+  fits_not t (inr (k, h, more)) = omega (arith, t.low k h, more)
 
   won_not : (w : Winner) → Won g m i w → NoneMatches g m i → ⊥
   won_not w h z = omega (arith, z h.place w.rule h.rule h.live, h.has, h.some_bytes)
@@ -60,10 +59,8 @@ module _ (g : Given) (m : Machine) (i : Input) where
   module _ (distinct : Distinct g.map) where
     pub only : (a : Step) (x : Machine) (b : Step) (y : Machine) → Means g m i a x → Means g m i b y → answered a x ≡ answered b y
     only BrokenSheet x b y p q = absurd p
-    only TextMismatch x b y p q = absurd p
     only BrokenRun x b y p q = absurd p
     only Done x BrokenSheet y p q = absurd q
-    only Done x TextMismatch y p q = absurd q
     only Done x BrokenRun y p q = absurd q
     only Done x Done y p q = ap (answered Done) (p.1 ∙ sym q.1)
     only Done x RowMismatch y p q = absurd (q.0 p.0)
@@ -72,7 +69,6 @@ module _ (g : Given) (m : Machine) (i : Input) where
     only Done x Skip y p q = absurd (q.1.fitting.before p.0)
     only Done x (Token id start bytes) y p q = absurd (q.1.fitting.before p.0)
     only RowMismatch x BrokenSheet y p q = absurd q
-    only RowMismatch x TextMismatch y p q = absurd q
     only RowMismatch x BrokenRun y p q = absurd q
     only RowMismatch x Done y p q = absurd (p.0 q.0)
     only RowMismatch x RowMismatch y p q = ap (answered RowMismatch) (p.2 ∙ sym q.2)
@@ -81,7 +77,6 @@ module _ (g : Given) (m : Machine) (i : Input) where
     only RowMismatch x Skip y p q = absurd (fits_not q.1.fitting p.1)
     only RowMismatch x (Token id start bytes) y p q = absurd (fits_not q.1.fitting p.1)
     only Stopped x BrokenSheet y p q = absurd q
-    only Stopped x TextMismatch y p q = absurd q
     only Stopped x BrokenRun y p q = absurd q
     only Stopped x Done y p q = absurd (p.0.before q.0)
     only Stopped x RowMismatch y p q = absurd (fits_not p.0 q.1)
@@ -90,7 +85,6 @@ module _ (g : Given) (m : Machine) (i : Input) where
     only Stopped x Skip y p q = absurd (won_not q.0 q.1 p.1)
     only Stopped x (Token id start bytes) y p q = absurd (won_not q.0 q.1 p.1)
     only Unlinked x BrokenSheet y p q = absurd q
-    only Unlinked x TextMismatch y p q = absurd q
     only Unlinked x BrokenRun y p q = absurd q
     only Unlinked x Done y p q = absurd (p.1.fitting.before q.0)
     only Unlinked x RowMismatch y p q = absurd (fits_not p.1.fitting q.1)
@@ -100,7 +94,6 @@ module _ (g : Given) (m : Machine) (i : Input) where
     only Unlinked x (Token id start bytes) y (v, pv, n, nv, nobody, ev) (w, qw, k, nw, (j, e, at, is, id_is), from, long, ew) =
         absurd (nobody id (j, e, at, is ∙ sym (same_name v w pv qw n k nv nw), id_is))
     only Skip x BrokenSheet y p q = absurd q
-    only Skip x TextMismatch y p q = absurd q
     only Skip x BrokenRun y p q = absurd q
     only Skip x Done y p q = absurd (p.1.fitting.before q.0)
     only Skip x RowMismatch y p q = absurd (fits_not p.1.fitting q.1)
@@ -109,7 +102,6 @@ module _ (g : Given) (m : Machine) (i : Input) where
     only Skip x Skip y p q = ap (answered Skip) (moved_same p.0 q.0 p.1 q.1 x y p.3 q.3)
     only Skip x (Token id start bytes) y p q = absurd (name_not p.0 q.0 p.1 q.1 p.2 q.2 q.3)
     only (Token id start bytes) x BrokenSheet y p q = absurd q
-    only (Token id start bytes) x TextMismatch y p q = absurd q
     only (Token id start bytes) x BrokenRun y p q = absurd q
     only (Token id start bytes) x Done y p q = absurd (p.1.fitting.before q.0)
     only (Token id start bytes) x RowMismatch y p q = absurd (fits_not p.1.fitting q.1)

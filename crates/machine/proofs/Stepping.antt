@@ -1,16 +1,14 @@
 -- One step call on a run that is as the machine has it: the run passes its check, the current state is the machine's, and the scan's winner is the
 -- machine's, so that the call leaves what the machine does.
 use mathlib.Core.Path.{◌≡◌, refl, sym, ap, ◌∙◌}
-use mathlib.Core.Bool.{Bool, true, false, cond, ◌&&◌}
+use mathlib.Core.Bool.{Bool, true, false, cond}
 use mathlib.Core.List.{List, map}
 use mathlib.Core.Option.{Option, none, some}
-use Prim.Native.Nat.{ℕ, ◌+◌, ◌*◌, ◌-◌, ◌≤◌, ◌<◌}
+use Prim.Native.Nat.{ℕ, ◌*◌, ◌-◌, ◌≤◌, ◌<◌}
 use native.Mathlib.Omega.{arith}
 use borrow.Author.Tests.{eq-eqb, eqb-false}
-use lib.Dec.{eqb, leb}
+use lib.Dec.{eqb}
 use lib.ListN.{length, length-map}
-use Rattle.characters.specs.Unicode.{encode_all}
-use Rattle.characters.specs.Utf8.{is_edge}
 use Rattle.area.specs.declared.Rule.{Rule}
 use Rattle.area.specs.Records.{nth_rule}
 use Rattle.parse.specs.Parse.{Contents}
@@ -19,15 +17,13 @@ use Rattle.link.specs.Link.{link_rules}
 use Rattle.link.proofs.Outcomes.{link_count, link_at}
 use Rattle.winner.specs.Winner.{weight, greatest, earliest, best}
 use Rattle.winner.proofs.Winning.{greatest_low}
-use Rattle.input_check.specs.InputCheck as Checked
 use Rattle.run.specs.declared.Step.{Step}
 use Rattle.run.specs.declared.Step.TheVariants.{RowMismatch, Done, Stopped}
-use Rattle.run.specs.Run.{running, current, Input, RunLeft, run_left, good_run, fits_in, won_by, choose, step_row, step_run, lexer_of}
+use Rattle.run.specs.Run.{running, current, Input, RunLeft, run_left, good_run, won_by, choose, step_row, step_run, lexer_of}
 use Rattle.machine.specs.File.{FileRule, file_state, file_rule, file_in}
-use Rattle.machine.specs.Machine.{Given, Machine, current_state, lengths, fits, length_fits, Winner, winner, winner_of, Answered, wins, chooses, step}
+use Rattle.machine.specs.Machine.{Given, Machine, current_state, lengths, fits, not_above, Winner, winner, winner_of, Answered, wins, chooses, step}
 use Rattle.machine.proofs.Laid.{left_as}
 use Rattle.machine.specs.Demand.{run_as}
-use Rattle.machine.proofs.Edges.{edge_same}
 use Rattle.machine.proofs.Meanings.{lengths_count, Picks, picked}
 use Rattle.machine.proofs.Reading.{Sound, row_same, fits_size}
 use Rattle.machine.proofs.Operations.{linked_lexer, linked_weight, still_as, won_as}
@@ -40,9 +36,9 @@ by_same_test : (n : ℕ) (b : List ℕ) (t : Bool) (x y : RunLeft Step) (p q : A
 by_same_test n b true x y p q f k = f refl
 by_same_test n b false x y p q f k = k refl
 
-module _ (name : Rule → List ℕ) (c : Contents) (es : List Entry) (limit n : ℕ) (cs : List ℕ) (sound : Sound c) where
+module _ (name : Rule → List ℕ) (c : Contents) (es : List Entry) (limit n : ℕ) (sound : Sound c) where
   abbrev g : Given
-  g = record { file = file_in name c; map = es; limit = limit; n = n; characters = cs }
+  g = record { file = file_in name c; map = es; limit = limit; n = n }
 
   module _ (size : ℕ) (m : Machine) (b : List ℕ) (h : Runs g size m b) where
     -- the run passes its check
@@ -87,14 +83,7 @@ module _ (name : Rule → List ℕ) (c : Contents) (es : List Entry) (limit n : 
 
     -- the test of a length, how many rules there are, and the current state
     abbrev test : ℕ → Bool
-    test = length_fits g m
-
-    -- the call's test of a length goes by the bytes of the characters
-    test_same : (text : List ℕ) → text ≡ encode_all cs → fits_in (run_as n m) text ≡ test
-    unfolding Checked.length_fits length_fits
-    test_same text e =
-        λ j l.
-        ap (λ (t : Bool). leb l (n - m.position) && t) (ap (λ (s : List ℕ). is_edge s (m.position + l)) e ∙ edge_same cs (m.position + l)) j
+    test = not_above (n - m.position)
 
     abbrev count : ℕ
     count = length c.rules
@@ -112,9 +101,9 @@ module _ (name : Rule → List ℕ) (c : Contents) (es : List Entry) (limit n : 
         chooses_as i.row fit (omega (arith, eqb-false m.position n e, (numbers g size m b h).inside)) _
         (picked (map file_state c.states) state (map (file_rule name c) c.rules) (lengths i.row) same)
 
-    pub step_as : (i : Input) → i.text ≡ encode_all cs → step_run (linked_lexer name es c) (running (run_as n m) b) i ≡ left_as n b (step g m i)
+    pub step_as : (i : Input) → step_run (linked_lexer name es c) (running (run_as n m) b) i ≡ left_as n b (step g m i)
     unfolding step_run step step_row
-    step_as i e =
-        rw (run_good, length-map c.rules (file_rule name c), link_count name es c.rules, test_same i.text e, row_same test count i.row, weights_as i.row)
+    step_as i =
+        rw (run_good, length-map c.rules (file_rule name c), link_count name es c.rules, row_same test count i.row, weights_as i.row)
         (by_same_test n b (eqb m.position n) _ _ _ _ (λ _. still_as n m b h.begins Done)
         (λ e. by_same_test n b (fits test count i.row) _ _ _ _ (chosen i e) (λ _. still_as n m b h.begins RowMismatch)))

@@ -6,8 +6,6 @@ use mathlib.Core.List.{List, []}
 use Prim.Native.Nat.{ℕ}
 use native.Mathlib.Omega.{arith}
 use lib.ListN.{length, length-map}
-use Rattle.characters.specs.Unicode.{Encoded}
-use Rattle.characters.proofs.Decoding.{utf8_judges}
 use Rattle.area.specs.declared.Rule.{Rule}
 use Rattle.names.specs.Names.{name_of}
 use Rattle.section.specs.Request.{Request}
@@ -18,17 +16,16 @@ use Rattle.parsed_sheet.proofs.Decoding.{accepted_decodes, accepted_checks, answ
 use Rattle.parsed_sheet.proofs.Growing.{accepted_meaning}
 use Rattle.name_map.specs.Map.{Entry, entries_of}
 use Rattle.winner.specs.Winner.{Lexer}
-use Rattle.input_check.proofs.Texts.{text-length, text_formed}
 use Rattle.run.specs.declared.Begun.{Begun}
 use Rattle.run.specs.declared.Begun.TheVariants.{Started}
-use Rattle.run.specs.Run.{Running, most_bytes, put_state, StartInput, Input, RunLeft, leaving, run_left, first_run, start_call}
+use Rattle.run.specs.Run.{Running, running, most_bytes, put_state, Input, RunLeft, leaving, run_left, first_run, start_call}
 use Rattle.run_laws.specs.Calls.{calls, EachCall}
 use Rattle.run_laws.specs.Always.{SoundRun, SoundCall, AlwaysHolds}
-use Rattle.run_laws.proofs.Started.{start_small, start_long, start_text, start_left}
+use Rattle.run_laws.proofs.Started.{start_small, start_long, start_left}
 use Rattle.run_laws.proofs.Always.{always}
 use Rattle.machine.specs.File.{File, file_state, name_at, file_in, file_by, file_of}
 use Rattle.machine.specs.Machine.{Given, fresh}
-use Rattle.machine.specs.Demand.{AsMachine, Follows, sheet_parsed, link_left_of, linked_sheet, start_left_of, session_file, session_map, given, HaveText, DemandHolds}
+use Rattle.machine.specs.Demand.{AsMachine, Follows, sheet_parsed, link_left_of, linked_sheet, start_left_of, session_file, session_map, DemandHolds}
 use Rattle.machine.proofs.Laid.{stack_as, running_as}
 use Rattle.machine.proofs.Stacks.{Begins, laid_bottom, laid_begins}
 use Rattle.machine.proofs.Relinking.{relink}
@@ -38,65 +35,53 @@ use Rattle.machine.proofs.Keeping.{SoundAs, Runs}
 use Rattle.machine.proofs.Places.{place_next, place_first}
 use Rattle.machine.proofs.Operations.{linked_lexer}
 use Rattle.machine.proofs.Reading.{Sound}
-use Rattle.machine.proofs.Whole.{Sheet, TextOf, as_machine, sheet_calls, AllSound, follows}
-use Rattle.machine.proofs.Characters.{first_edge, pieces_whole}
+use Rattle.machine.proofs.Whole.{Sheet, as_machine, sheet_calls, AllSound, follows}
 
 -- ---- the start
 
-module _ (s : StartInput) (x : Running) (started : (start_call s x).answer ≡ Started) where
+module _ (n : ℕ) (x : Running) (started : (start_call n x).answer ≡ Started) where
   -- state 0 alone at the bottom
   first_as : put_state x.stack 0 0 ≡ stack_as x.stack fresh
-  first_as = laid_bottom x.stack 0 (omega (arith, start_long s x started))
+  first_as = laid_bottom x.stack 0 (omega (arith, start_long n x started))
 
   -- it leaves the machine's first run
-  start_as : start_call s x ≡ leaving Started (running_as s.n x.stack fresh)
-  start_as = start_left s x started ∙ ap (run_left Started (first_run s.n)) first_as
+  start_as : start_call n x ≡ leaving Started (running_as n x.stack fresh)
+  start_as = start_left n x started ∙ ap (run_left Started (first_run n)) first_as
 
   start_begins : Begins fresh.stack (stack_as x.stack fresh)
-  start_begins = laid_begins x.stack fresh.stack (omega (arith, start_long s x started))
-
-  -- its text is that of some characters
-  start_encoded : Encoded s.text
-  start_encoded = (utf8_judges s.text).sound (text_formed s.n s.text (start_text s x started))
+  start_begins = laid_begins x.stack fresh.stack (omega (arith, start_long n x started))
 
 -- ---- the calls
 
 -- the calls on a sheet with the linked rules follow the machine, from an accepted start on
 module _ (name : Rule → List ℕ) (c : Contents) (es : List Entry) (limit : ℕ) (sound : Sound c) (differ : Distinct es) (b : SheetBytes) (sheet : Sheet name c es b)
-    (s : StartInput) (e : Encoded s.text) (x : Running) (started : (start_call s x).answer ≡ Started) (is : List Input) (texts : HaveText s.text is) where
-  -- what the machine is given
-  abbrev giving : File → List Entry → Given
-  giving f map = record { file = f; map = map; limit = limit; n = s.n; characters = e.scalar_values }
-
+    (n : ℕ) (x : Running) (started : (start_call n x).answer ≡ Started) (is : List Input) where
   abbrev Followed : File → List Entry → RunLeft Begun → Type 0
   Followed f map left =
-      let g : Given = giving f map in
+      let g : Given = record { file = f; map = map; limit = limit; n = n } in
       AsMachine g fresh [] x.stack left.after × Follows g x.stack fresh [] is (calls b left.after is)
 
-  followed : Followed (file_in name c) es (start_call s x)
+  followed : Followed (file_in name c) es (start_call n x)
   unfolding AlwaysHolds
   followed =
-      let g : Given = giving (file_in name c) es in
-      let n : ℕ = s.n in
+      let g : Given = record { file = file_in name c; map = es; limit = limit; n = n } in
       let size : ℕ = length x.stack in
       let first : List ℕ = stack_as x.stack fresh in
       let states : length (decoded b).states ≡ length g.file.states =
       ap (λ (l : Lexer). length l.states) sheet.reads ∙ sym (length-map c.states file_state) in
-      let w = always b sheet.checks s x started is in
-      let sound-first = subst (λ (k : ℕ). SoundRun k n size (start_call s x).after) states w.first in
-      let sound-each = subst (λ (k : ℕ). EachCall (SoundCall k n size) (start_call s x).after (calls b (start_call s x).after is)) states w.each in
-      let left = start_as s x started in
+      let w = always b sheet.checks n x started is in
+      let sound-first = subst (λ (k : ℕ). SoundRun k n size (start_call n x).after) states w.first in
+      let sound-each = subst (λ (k : ℕ). EachCall (SoundCall k n size) (start_call n x).after (calls b (start_call n x).after is)) states w.each in
+      let left = start_as n x started in
       let runs : Runs g size fresh first = record {
         sound = subst (λ (z : RunLeft Begun). SoundAs g size z.after) left sound-first;
-        begins = start_begins s x started;
+        begins = start_begins n x started;
       } in
       let each = subst (λ (z : RunLeft Begun). AllSound g size z.after (calls b z.after is)) left sound-each in
       let places = place_next [] fresh.stack x.stack x.stack (place_first x.stack) in
-      let edge = first_edge e.scalar_values in
-      let of_text : TextOf g s.text = record { bytes = sym e.bytes; good = start_text s x started } in
       subst⁻¹ (Followed (file_in name c) es) left (
-        as_machine g fresh [] x.stack first runs places edge,
-        follows g differ b (sheet_calls name c es limit n e.scalar_values sound b sheet) x.stack s.text of_text is fresh [] first texts runs places edge each,
+        as_machine g fresh [] x.stack first runs places,
+        follows g differ b (sheet_calls name c es limit n sound b sheet) x.stack is fresh [] first runs places each,
       )
 
 -- ---- the demand
@@ -113,7 +98,7 @@ file_is asked k c e = ap (file_by asked.source) (accepted_meaning asked k c e)
 
 pub demand : DemandHolds
 unfolding DemandHolds AlwaysHolds
-demand q ok is texts =
+demand q ok is =
     let name : Rule → List ℕ = name_at q.request.source in
     let got = answer_accepted q.request q.capacities ok.parsed in
     let c : Contents = got.0 in
@@ -132,23 +117,16 @@ demand q ok is texts =
           link.reads ∙ ap (linked_lexer (name_in (sheet_parsed q)) es) (accepted_decodes q.request q.capacities c accepts)
           ∙ ap (λ (f : Rule → List ℕ). linked_lexer f es c) (name_same (sheet_parsed q));
     } in
-    let Met : Encoded q.start.text → File → List Entry → Type 0 =
-    λ e f map. Followed name c es most_bytes sound link.differ b sheet q.start e q.running ok.started is texts f map (start_left_of q) in
-    let by-file : (e : Encoded q.start.text) → Met e (file_in name c) es =
-    λ e. followed name c es most_bytes sound link.differ b sheet q.start e q.running ok.started is texts in
-    let met : (e : Encoded q.start.text) → Met e (session_file q) (session_map q) =
-    λ e. subst (Met e (session_file q)) maps (subst⁻¹ (λ (f : File). Met e f es) same (by-file e)) in
-    let w = always b link.checks q.start q.running ok.started is in
+    let Met : File → List Entry → Type 0 =
+    λ f map. Followed name c es most_bytes sound link.differ b sheet q.n q.running ok.started is f map (start_left_of q) in
+    let by-file : Met (file_in name c) es = followed name c es most_bytes sound link.differ b sheet q.n q.running ok.started is in
+    let met : Met (session_file q) (session_map q) = subst (Met (session_file q)) maps (subst⁻¹ (λ (f : File). Met f es) same by-file) in
+    let w = always b link.checks q.n q.running ok.started is in
     record {
-      size = text-length q.start.n q.start.text (start_text q.start q.running ok.started);
-      text = start_encoded q.start q.running ok.started;
-      demand = λ e. record {
-        small = start_small q.start q.running ok.started;
-        first = (met e).0;
-        each = (met e).1;
-        cover = w.cover;
-        once = w.once;
-        whole = pieces_whole (given q e.scalar_values) q.running.stack is fresh [] _ (met e).1 (first_edge e.scalar_values);
-        few = w.few;
-      };
+      small = start_small q.n q.running ok.started;
+      first = met.0;
+      each = met.1;
+      cover = w.cover;
+      once = w.once;
+      few = w.few;
     }

@@ -4,22 +4,20 @@ use mathlib.Core.Bool.{true}
 use mathlib.Core.List.{List, [], ◌∷◌}
 use Prim.Native.Nat.{ℕ, ◌<◌}
 use lib.ListN.{length}
-use Rattle.characters.specs.Unicode.{encode_all, Edge}
 use Rattle.area.specs.declared.Rule.{Rule}
 use Rattle.parse.specs.Parse.{Contents}
 use Rattle.sheet_check.specs.SheetCheck.{SheetBytes, decoded, sheet_check}
 use Rattle.name_map.specs.Map.{Entry}
 use Rattle.winner.specs.Winner.{Lexer}
-use Rattle.input_check.specs.InputCheck.{good_text}
 use Rattle.run.specs.declared.Step.{Step}
-use Rattle.run.specs.declared.Step.TheVariants.{TextMismatch, Unlinked}
+use Rattle.run.specs.declared.Step.TheVariants.{Unlinked}
 use Rattle.run.specs.Run.{Running, running, Input, RunLeft, step_run, lexer_of, step_call}
 use Rattle.run_laws.specs.Calls.{calls, EachCall}
 use Rattle.run_laws.specs.Always.{SoundCall}
 use Rattle.machine.specs.File.{file_in}
 use Rattle.machine.specs.Machine.{Given, Machine, step}
 use Rattle.machine.specs.Means.{Means}
-use Rattle.machine.specs.Demand.{AsMachine, MapHolds, Follows, HaveText, run_as}
+use Rattle.machine.specs.Demand.{AsMachine, MapHolds, Follows, run_as}
 use Rattle.machine.proofs.Laid.{stack_as, left_as}
 use Rattle.machine.proofs.Keeping.{Runs, current_as, next_runs}
 use Rattle.machine.proofs.Operations.{linked_lexer}
@@ -27,7 +25,6 @@ use Rattle.machine.proofs.Stepping.{step_as}
 use Rattle.machine.proofs.Places.{Places, place_next}
 use Rattle.machine.proofs.Meanings.{means}
 use Rattle.machine.proofs.Only.{Distinct, only}
-use Rattle.machine.proofs.Characters.{edge_kept}
 use Rattle.machine.proofs.Reading.{Sound}
 
 -- ---- one call
@@ -37,34 +34,28 @@ pub record Sheet (name : Rule → List ℕ) (c : Contents) (es : List Entry) (b 
   pub checks : sheet_check b ≡ true
   pub reads : lexer_of (decoded b) ≡ linked_lexer name es c
 
--- a text that fits, of the machine's characters
-pub record TextOf (g : Given) (text : List ℕ) : Type 0 where
-  pub bytes : text ≡ encode_all g.characters
-  pub good : good_text g.n text ≡ true
-
 -- calls that are the machine's steps wherever its run is as it has it
 pub record Calls (g : Given) (b : SheetBytes) : Type 0 where
-  pub called : (size : ℕ) (m : Machine) (l : List ℕ) (i : Input) → TextOf g i.text → Runs g size m l
+  pub called : (size : ℕ) (m : Machine) (l : List ℕ) (i : Input) → Runs g size m l
       → step_call b (running (run_as g.n m) l) i ≡ left_as g.n l (step g m i)
 
-pub sheet_calls : (name : Rule → List ℕ) (c : Contents) (es : List Entry) (limit n : ℕ) (cs : List ℕ) → Sound c → (b : SheetBytes) → Sheet name c es b
-    → Calls (record { file = file_in name c; map = es; limit = limit; n = n; characters = cs }) b
+pub sheet_calls : (name : Rule → List ℕ) (c : Contents) (es : List Entry) (limit n : ℕ) → Sound c → (b : SheetBytes) → Sheet name c es b
+    → Calls (record { file = file_in name c; map = es; limit = limit; n = n }) b
 unfolding step_call
-sheet_calls name c es limit n cs sound b sheet = record {
-  called = λ size m l i t h.
-      rw (sheet.checks, t.good)
-      (ap (λ (x : Lexer). step_run x (running (run_as n m) l) i) sheet.reads ∙ step_as name c es limit n cs sound size m l h i t.bytes);
+sheet_calls name c es limit n sound b sheet = record {
+  called = λ size m l i h.
+      rw sheet.checks
+      (ap (λ (x : Lexer). step_run x (running (run_as n m) l) i) sheet.reads ∙ step_as name c es limit n sound size m l h i);
 }
 
 -- the run and the bytes are as the machine has them
 pub as_machine : (g : Given) (m : Machine) (held : List (List ℕ)) (s l : List ℕ) → Runs g (length s) m l → Places (m.stack ∷ held) s l
-    → Edge g.characters m.position → AsMachine g m held s (running (run_as g.n m) l)
-as_machine g m held s l h places edge = record {
+    → AsMachine g m held s (running (run_as g.n m) l)
+as_machine g m held s l h places = record {
   run = refl;
   places = places;
   size = h.sound.same_bytes;
   declared = subst (λ (k : ℕ). k < length g.file.states) (current_as g (length s) m l h) h.sound.declared;
-  edge = edge;
 }
 
 -- where the map holds the name of each named rule, a named winner is a token
@@ -77,10 +68,6 @@ linked_answer g m i a next h held e = go (subst (λ (z : Step). Means g m i z ne
         let r = held.holds won.place w.rule name won.rule named in
         none r.0 r.1
 
--- the machine never gives 12
-never_12 : (g : Given) (m : Machine) (i : Input) (a : Step) (next : Machine) → Means g m i a next → a ≡ TextMismatch → ⊥
-never_12 g m i a next h e = subst (λ (z : Step). Means g m i z next) e h
-
 -- ---- all calls
 
 -- each of them is sound
@@ -88,34 +75,27 @@ abbrev pub AllSound : Given → ℕ → Running → List (RunLeft Step) → Type
 AllSound g size x os = EachCall (SoundCall (length g.file.states) g.n size) x os
 
 -- over a stack whose bytes were s before the start call
-module _ (g : Given) (differ : Distinct g.map) (b : SheetBytes) (by-machine : Calls g b) (s text : List ℕ) (of_text : TextOf g text) where
+module _ (g : Given) (differ : Distinct g.map) (b : SheetBytes) (by-machine : Calls g b) (s : List ℕ) where
   -- from the machine m on, which held these stacks before
-  pub follows : (is : List Input) (m : Machine) (held : List (List ℕ)) (l : List ℕ) → HaveText text is → Runs g (length s) m l → Places (m.stack ∷ held) s l
-      → Edge g.characters m.position
+  pub follows : (is : List Input) (m : Machine) (held : List (List ℕ)) (l : List ℕ) → Runs g (length s) m l → Places (m.stack ∷ held) s l
       → (let x : Running = running (run_as g.n m) l in AllSound g (length s) x (calls b x is) → Follows g s m held is (calls b x is))
-  unfolding calls EachCall Follows HaveText
-  follows [] m held l texts h places edge sound = tt
-  follows (i ∷ is) m held l texts h places edge sound =
+  unfolding calls EachCall Follows
+  follows [] m held l h places sound = tt
+  follows (i ∷ is) m held l h places sound =
       let next : Machine = (step g m i).machine in
       let a : Step = (step g m i).answer in
       let meant = means g m i in
-      let left = by-machine.called (length s) m l i (subst⁻¹ (TextOf g) texts.0 of_text) h in
+      let left = by-machine.called (length s) m l i h in
       let each = subst (λ (o : RunLeft Step). AllSound g (length s) (running (run_as g.n m) l) (o ∷ calls b o.after is)) left sound in
       let runs = next_runs g (length s) m l h next each.0.after in
       let stand = place_next (m.stack ∷ held) next.stack s l places in
-      let stays = edge_kept g m i edge a next meant in
       subst⁻¹ (λ (o : RunLeft Step). Follows g s m held (i ∷ is) (o ∷ calls b o.after is)) left (
         record {
           answer = refl;
           means = meant;
           only = λ x y q. only g m i differ x y a next q meant;
-          allowed = record {
-            not_6 = each.0.not_6;
-            not_9 = each.0.not_9;
-            not_12 = never_12 g m i a next meant;
-            not_unlinked = linked_answer g m i a next meant;
-          };
-          leaves = as_machine g next (m.stack ∷ held) s (stack_as l next) runs stand stays;
+          allowed = record { not_6 = each.0.not_6; not_9 = each.0.not_9; not_unlinked = linked_answer g m i a next meant };
+          leaves = as_machine g next (m.stack ∷ held) s (stack_as l next) runs stand;
         },
-        follows is next (m.stack ∷ held) (stack_as l next) texts.1 runs stand stays each.1,
+        follows is next (m.stack ∷ held) (stack_as l next) runs stand each.1,
       )

@@ -19,9 +19,9 @@ use Rattle.link.specs.declared.LinkAnswer.TheVariants as L
 use Rattle.name_map.specs.Map.{Entry}
 use Rattle.link.specs.Link.{link_fields, link_word}
 use Rattle.run.specs.declared.Begun.{Begun}
-use Rattle.run.specs.declared.Begun.TheVariants.{Started, StartRefused, TextMismatch as StartTextMismatch}
+use Rattle.run.specs.declared.Begun.TheVariants.{Started, StartRefused}
 use Rattle.run.specs.declared.Step.{Step}
-use Rattle.run.specs.declared.Step.TheVariants.{BrokenSheet, TextMismatch, BrokenRun, RowMismatch, Done, Stopped, Unlinked, Skip, Token}
+use Rattle.run.specs.declared.Step.TheVariants.{BrokenSheet, BrokenRun, RowMismatch, Done, Stopped, Unlinked, Skip, Token}
 use Rattle.run.specs.Run.{Running, Input, RunLeft, step_call, start_fields, start_word, view, view_fields, step_fields, step_word}
 use Rattle.run.proofs.RunWords.{step_tells}
 use Rattle.run_laws.specs.Calls.{calls}
@@ -56,7 +56,6 @@ start_zero : (x : Begun) → start_word x ≡ 0 → x ≡ Started
 unfolding start_fields
 start_zero Started e = refl
 start_zero StartRefused e = absurd (omega (arith, e))
-start_zero StartTextMismatch e = absurd (omega (arith, e))
 
 accepts : (q : Session) → AcceptsInWords q → Accepts q
 accepts q h =
@@ -87,7 +86,6 @@ ids_low names (a ∷ b ∷ c ∷ d ∷ e ∷ f ∷ l) h (suc j) x q = ids_low na
 means_small : (g : Given) (m : Machine) (i : Input) (a : Step) (next : Machine) → g.n < 65536 → LowIds g.map → Means g m i a next → TwoBytes (step_fields a)
 unfolding view view_fields
 means_small g m i BrokenSheet next h l e = absurd e
-means_small g m i TextMismatch next h l e = absurd e
 means_small g m i BrokenRun next h l e = absurd e
 means_small g m i RowMismatch next h l e = no_values row_mismatch_number (omega arith)
 means_small g m i Done next h l e = no_values done_number (omega arith)
@@ -120,14 +118,12 @@ same_words b (i ∷ is) x = let o : RunLeft Step = step_call b x i in ap (λ (os
 
 pub in_words : InWordsHolds
 unfolding InWordsHolds DemandHolds
-in_words q bytes h is texts =
-    let d = demand q (accepts q h) is texts in
+in_words q bytes h is =
+    let d = demand q (accepts q h) is in
     let b : SheetBytes = linked_sheet (sheet_parsed q) (link_left_of q) in
     let ids = ids_low q.names q.entries bytes in
     record {
       same = same_words b is (start_left_of q).after;
-      demanded = d;
-      each = λ e.
-          let met = d.demand e in
-          in_words_follows (given q e.scalar_values) q.running.stack b (omega (arith, met.small)) ids is (start_left_of q).after fresh [] met.each;
+      demand = d;
+      each = in_words_follows (given q) q.running.stack b (omega (arith, d.small)) ids is (start_left_of q).after fresh [] d.each;
     }

@@ -1,9 +1,8 @@
--- Demand 3: one statement about a whole list of step calls, each given the text of the start, from an accepted parse, an accepted link and an accepted
--- start. Where the link's map holds all rule names no answer is 'unlinked'; all else holds of any map (01, The run machine; 02, 2/13).
+-- Demand 3: one statement about a whole list of step calls, from an accepted parse, an accepted link and an accepted start. Where the link's map
+-- holds all rule names no answer is 'unlinked'; all else holds of any map (01, The run machine).
 use Rattle.std.specs.Prelude.{ℕ, ◌+◌, ◌*◌, ◌/◌, ◌%◌, ◌≤◌, ◌<◌, ◌≡◌, cond, List, [], ◌∷◌, ltb, length, get_or}
 use Rattle.std.proofs.Math.Option.{Option, none, some}
 use Rattle.std.proofs.Math.ListN.{get_elem?}
-use Rattle.characters.specs.Unicode.{Encoded, Edge}
 use Rattle.section.specs.Request.{Request}
 use Rattle.parse.specs.declared.Answer.TheVariants.{Accepted}
 use Rattle.parse.specs.Parse.{Caps, parse_call}
@@ -16,10 +15,10 @@ use Rattle.run.specs.declared.Run.{Run}
 use Rattle.run.specs.declared.Begun.{Begun}
 use Rattle.run.specs.declared.Begun.TheVariants.{Started}
 use Rattle.run.specs.declared.Step.{Step}
-use Rattle.run.specs.declared.Step.TheVariants.{BrokenSheet, TextMismatch, BrokenRun, Unlinked}
-use Rattle.run.specs.Run.{Running, most_bytes, StartInput, Input, RunLeft, start_call}
+use Rattle.run.specs.declared.Step.TheVariants.{BrokenSheet, BrokenRun, Unlinked}
+use Rattle.run.specs.Run.{Running, most_bytes, Input, RunLeft, start_call}
 use Rattle.run_laws.specs.Calls.{calls, last_position}
-use Rattle.run_laws.specs.Pieces.{Piece, pieces, Adjoin, covered}
+use Rattle.run_laws.specs.Pieces.{pieces, Adjoin, covered}
 use Rattle.machine.specs.File.{FileRule, File, map_of, file_of}
 use Rattle.machine.specs.Machine.{Given, Machine, fresh, current_state, answered, step}
 use Rattle.machine.specs.Means.{EntryOf, Means}
@@ -44,14 +43,12 @@ PlaceHolds (some v) p s b = (get_or b (p * 2) 0 ≡ v % 256) × (get_or b (p * 2
 abbrev pub run_as : ℕ → Machine → Run
 run_as n m = record { n = n; position = m.position; depth = length m.stack; moves = m.moves }
 
--- the run x and its stack's bytes are as the machine has them, which held these stacks before; the current state is declared, and the position is
--- at an edge (02, 2/13)
+-- the run x and its stack's bytes are as the machine has them, which held these stacks before; and the current state is declared
 pub record AsMachine (g : Given) (m : Machine) (held : List (List ℕ)) (s : List ℕ) (x : Running) : Type 0 where
   pub run : x.run ≡ run_as g.n m
   pub places : (p : ℕ) → PlaceHolds (last_held p (m.stack ∷ held)) p s x.stack
   pub size : length x.stack ≡ length s
   pub declared : current_state m.stack < length g.file.states
-  pub edge : Edge g.characters m.position
 
 -- ---- each call
 
@@ -59,11 +56,10 @@ pub record AsMachine (g : Given) (m : Machine) (held : List (List ℕ)) (s : Lis
 pub record MapHolds (f : File) (es : List Entry) : Type 0 where
   pub holds : (k : ℕ) (x : FileRule) (name : List ℕ) → get_elem? f.rules k ≡ some x → x.name ≡ some name → (id : ℕ) × EntryOf es name id
 
--- the answer is neither 6 nor 9 nor 12, nor 'unlinked' where the map holds all rule names
+-- the answer is neither 6 nor 9, nor 'unlinked' where the map holds all rule names
 pub record Allowed (g : Given) (a : Step) : Type 0 where
   pub not_6 : a ≡ BrokenSheet → ⊥
   pub not_9 : a ≡ BrokenRun → ⊥
-  pub not_12 : a ≡ TextMismatch → ⊥
   pub not_unlinked : MapHolds g.file g.map → a ≡ Unlinked → ⊥
 
 -- a call that left o: its answer is the machine's; this and what the machine holds then mean what they should, and nothing else would; and the run
@@ -84,11 +80,6 @@ Follows g s m held (i ∷ is) (o ∷ os) = Call g s m held i o × Follows g s (s
 
 -- ---- the demand
 
--- each of the pieces is of whole characters: it starts and ends at an edge (02, 2/13)
-unfoldable pub WholeCharacters : List ℕ → List Piece → Type 0
-WholeCharacters cs [] = Unit {0}
-WholeCharacters cs (x ∷ xs) = Edge cs x.start × Edge cs (x.start + x.bytes) × WholeCharacters cs xs
-
 -- of step calls with these inputs that left os, after a start call that left f, over a stack whose bytes were s before it
 pub record Demand (g : Given) (s : List ℕ) (f : RunLeft Begun) (is : List Input) (os : List (RunLeft Step)) : Type 0 where
   -- n is within the limit, and at first the run is as the machine has it
@@ -100,8 +91,6 @@ pub record Demand (g : Given) (s : List ℕ) (f : RunLeft Begun) (is : List Inpu
   pub cover : Adjoin 0 (pieces 0 os) (last_position f.after os)
   -- so each of these bytes is covered once, and no other
   pub once : (x : ℕ) → covered x (pieces 0 os) ≡ cond (ltb x (last_position f.after os)) 1 0
-  -- the tokens and skips are whole characters (02, 2/13)
-  pub whole : WholeCharacters g.characters (pieces 0 os)
   -- at most n calls move
   pub few : length (pieces 0 os) ≤ g.n
 
@@ -115,7 +104,7 @@ pub record Session : Type 0 where
   pub entries : List ℕ
   pub area7 : List ℕ
   pub area8 : List ℕ
-  pub start : StartInput
+  pub n : ℕ
   pub running : Running
 
 -- the sheet that the parse call left
@@ -132,7 +121,7 @@ linked_sheet b l = sheet_bytes b.source b.area1 l.area2 b.area3 b.area4 b.area5 
 
 -- what the start call left
 abbrev pub start_left_of : Session → RunLeft Begun
-start_left_of q = start_call q.start q.running
+start_left_of q = start_call q.n q.running
 
 -- the file and the map, by their bytes alone
 abbrev pub session_file : Session → File
@@ -141,9 +130,9 @@ session_file q = file_of q.request
 abbrev pub session_map : Session → List Entry
 session_map q = map_of q.names q.entries
 
--- what the machine is given: the file, flags and verdicts by what they mean, the map and n; the limit of n, which 01 sets at 4,096; and characters
-abbrev pub given : Session → List ℕ → Given
-given q cs = record { file = session_file q; map = session_map q; limit = most_bytes; n = q.start.n; characters = cs }
+-- what the machine is given: the file, flags and verdicts by what they mean, the map and n; and the limit of n, which 01 sets at 4,096
+abbrev pub given : Session → Given
+given q = record { file = session_file q; map = session_map q; limit = most_bytes; n = q.n }
 
 -- the file, the link and the start are accepted
 pub record Accepts (q : Session) : Type 0 where
@@ -157,18 +146,6 @@ pub record Accepts (q : Session) : Type 0 where
 abbrev pub session_calls : Session → List Input → List (RunLeft Step)
 session_calls q is = calls (linked_sheet (sheet_parsed q) (link_left_of q)) (start_left_of q).after is
 
--- each of the inputs has the text (02, 2/13)
-unfoldable pub HaveText : List ℕ → List Input → Type 0
-HaveText text [] = Unit {0}
-HaveText text (i ∷ is) = (i.text ≡ text) × HaveText text is
-
--- the start's text has n bytes and is that of some characters; and the demand holds of a machine that is given the characters whose text it is
--- (02, 2/13)
-pub record Demanded (q : Session) (is : List Input) : Type 0 where
-  pub size : length q.start.text ≡ q.start.n
-  pub text : Encoded q.start.text
-  pub demand : (e : Encoded q.start.text) → Demand (given q e.scalar_values) q.running.stack (start_left_of q) is (session_calls q is)
-
--- the demand, of every session whose calls are accepted and of every list of rows, each with the text of the start
+-- the demand, of every session whose calls are accepted and of every list of rows
 unfoldable pub DemandHolds : Type 0
-DemandHolds = (q : Session) → Accepts q → (is : List Input) → HaveText q.start.text is → Demanded q is
+DemandHolds = (q : Session) → Accepts q → (is : List Input) → Demand (given q) q.running.stack (start_left_of q) is (session_calls q is)

@@ -1,8 +1,6 @@
--- The run machine (01, The run machine; 02, 2/13). It is given a file's states and rules, a map, n, the limit of n and the entry's characters, and
--- reads neither sheet nor run.
+-- The run machine (01, The run machine). It is given a file's states and rules, a map, n and the limit of n, and reads neither sheet nor run.
 use Rattle.std.specs.Prelude.{ℕ, ◌+◌, ◌*◌, ◌-◌, Bool, true, false, cond, not, ◌&&◌, ◌||◌, List, [], ◌∷◌, ◌++◌, eqb, ltb, leb, length, get_or, take}
 use Rattle.std.proofs.Math.Option.{Option, none, some}
-use Rattle.characters.specs.Unicode.{encode}
 use Rattle.text.specs.Range.{same_bytes}
 use Rattle.area.specs.Lists.{all}
 use Rattle.name_map.specs.Map.{Entry}
@@ -13,14 +11,12 @@ use Rattle.machine.specs.File.{Operation, keep, replace, push, pop, FileState, F
 
 -- ---- what it is given, and what it holds
 
--- for a whole run; the limit is the greatest n that a start accepts, and no step reads it; the characters of the entry, by their code points, are
--- those of the start's text
+-- for a whole run; the limit is the greatest n that a start accepts, and no step reads it
 pub record Given : Type 0 where
   pub file : File
   pub map : List Entry
   pub limit : ℕ
   pub n : ℕ
-  pub characters : List ℕ
 
 -- the last of the stack is the current state
 pub record Machine : Type 0 where
@@ -48,21 +44,12 @@ lengths (low ∷ high ∷ row) = (low + high * 256) ∷ lengths row
 unfoldable pub fits : (ℕ → Bool) → ℕ → List ℕ → Bool
 fits test rules row = eqb (length row) (rules * 2) && all test (lengths row)
 
--- one of the numbers is this one
-unfoldable pub has : List ℕ → ℕ → Bool
-has [] n = false
-has (x ∷ xs) n = eqb x n || has xs n
-
--- the edges of characters of which the first starts at b: where each of them starts, and where the last ends (02, 2/13)
-unfoldable pub edges_from : ℕ → List ℕ → List ℕ
-edges_from b [] = b ∷ []
-edges_from b (c ∷ cs) = b ∷ edges_from (b + length (encode c)) cs
-
--- a length is not above what is left, and position plus length is at an edge (02, 2/13)
-unfoldable pub length_fits : Given → Machine → ℕ → Bool
-length_fits g m l = leb l (g.n - m.position) && has (edges_from 0 g.characters) (m.position + l)
-
 -- ---- the winner
+
+-- one of the ids is this one
+unfoldable pub has : List ℕ → ℕ → Bool
+has [] id = false
+has (x ∷ xs) id = eqb x id || has xs id
 
 -- a rule without a list
 unfoldable pub is_empty : List ℕ → Bool
@@ -146,11 +133,15 @@ unfoldable pub chooses : Given → Option Winner → Machine → Answered
 chooses g none m = answered Stopped m
 chooses g (some w) m = cond (eqb w.bytes 0) (answered Stopped m) (wins g w.rule.name w m)
 
--- 'done' at n; 10 where the row does not fit; both change nothing; else by the winner; of the input it reads the row alone
+-- a length is not above what is left
+abbrev pub not_above : ℕ → ℕ → Bool
+not_above left l = leb l left
+
+-- 'done' at n; 10 where the row does not fit; both change nothing; else by the winner
 unfoldable pub step : Given → Machine → Input → Answered
 step g m i =
     let f = g.file in
     cond (eqb m.position g.n) (answered Done m)
-    (cond (fits (length_fits g m) (length f.rules) i.row)
+    (cond (fits (not_above (g.n - m.position)) (length f.rules) i.row)
     (chooses g (winner_of f.states (current_state m.stack) f.rules (lengths i.row)) m)
     (answered RowMismatch m))

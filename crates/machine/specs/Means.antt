@@ -1,12 +1,11 @@
--- What an answer of the run machine means, and the machine that is next, in 01's words (01, The run machine; 02, 2/13). The winner is stated here: by
--- every live rule of the file, and not by how a machine looks for it; and an edge, by the characters before it.
+-- What an answer of the run machine means, and the machine that is next, in 01's words (01, The run machine). The winner is stated here: by every
+-- live rule of the file, and not by how a machine looks for it.
 use Rattle.std.specs.Prelude.{ℕ, ◌+◌, ◌*◌, ◌-◌, ◌≤◌, ◌<◌, ◌≡◌, false, List, [], ◌⊎◌, length, get_or}
 use Rattle.std.proofs.Math.Option.{none, some}
 use Rattle.std.proofs.Math.ListN.{get_elem?}
-use Rattle.characters.specs.Unicode.{Edge}
 use Rattle.name_map.specs.Map.{Entry}
 use Rattle.run.specs.declared.Step.{Step}
-use Rattle.run.specs.declared.Step.TheVariants.{BrokenSheet, TextMismatch, BrokenRun, RowMismatch, Done, Stopped, Unlinked, Skip, Token}
+use Rattle.run.specs.declared.Step.TheVariants.{BrokenSheet, BrokenRun, RowMismatch, Done, Stopped, Unlinked, Skip, Token}
 use Rattle.run.specs.Run.{Input}
 use Rattle.machine.specs.File.{FileRule}
 use Rattle.machine.specs.Machine.{Given, Machine, current_state, is_exclusive, Winner, move}
@@ -17,19 +16,17 @@ use Rattle.machine.specs.Machine.{Given, Machine, current_state, is_exclusive, W
 abbrev pub length_at : List ℕ → ℕ → ℕ
 length_at row k = get_or row (k * 2) 0 + get_or row (k * 2 + 1) 0 * 256
 
--- the position is not n, and the input's row fits: two bytes for each rule, no length above what is left, and each ends at an edge (02, 2/13)
+-- the position is not n, and the input's row fits: two bytes for each rule, and no length above what is left
 pub record Fitting (g : Given) (m : Machine) (i : Input) : Type 0 where
   pub before : m.position ≡ g.n → ⊥
   pub size : length i.row ≡ length g.file.rules * 2
   pub low : (k : ℕ) → k < length g.file.rules → length_at i.row k ≤ g.n - m.position
-  pub edge : (k : ℕ) → k < length g.file.rules → Edge g.characters (m.position + length_at i.row k)
 
--- the row has another size, or some rule's length is above what is left or does not end at an edge (02, 2/13)
+-- the row has another size, or some rule's length is above what is left
 abbrev pub Misfit : Given → Machine → Input → Type 0
 Misfit g m i =
     (length i.row ≡ length g.file.rules * 2 → ⊥)
     ⊎ ((k : ℕ) × (k < length g.file.rules) × (g.n - m.position < length_at i.row k))
-    ⊎ ((k : ℕ) × (k < length g.file.rules) × (Edge g.characters (m.position + length_at i.row k) → ⊥))
 
 -- ---- the winner
 
@@ -64,10 +61,9 @@ EntryOf es name id = (j : ℕ) × (e : Entry) × (get_elem? es j ≡ some e) × 
 
 -- ---- the answers
 
--- what an answer means of the machine m, an input, and the machine that is next; 6, 9 and 12 the machine never gives
+-- what an answer means of the machine m, an input, and the machine that is next; 6 and 9 the machine never gives
 abbrev pub Means : Given → Machine → Input → Step → Machine → Type 0
 Means g m i BrokenSheet next = ⊥
-Means g m i TextMismatch next = ⊥
 Means g m i BrokenRun next = ⊥
 Means g m i Done next = (m.position ≡ g.n) × (next ≡ m)
 Means g m i RowMismatch next = (m.position ≡ g.n → ⊥) × Misfit g m i × (next ≡ m)

@@ -1,7 +1,6 @@
--- Demand 3 over the words and arrays that the exported calls give back (01, Numbers given at the counter, and The run machine; 02, 2/13).
+-- Demand 3 over the words and arrays that the exported calls give back (01, Numbers given at the counter, and The run machine).
 use Rattle.std.specs.Prelude.{ℕ, ◌%◌, ◌≡◌, List, [], ◌∷◌, map}
 use Rattle.answers.specs.Words.{TwoBytes}
-use Rattle.characters.specs.Unicode.{Encoded}
 use Rattle.area.specs.Bytes.{AllBytes}
 use Rattle.parse.specs.Parse.{parse_call}
 use Rattle.sheet_check.specs.SheetCheck.{SheetBytes, sheet_bytes}
@@ -12,7 +11,7 @@ use Rattle.troymantle.specs.Words.{LeftInWords, in_words}
 use Rattle.troymantle.specs.LinkWords.{LinkInWords, in_link_words}
 use Rattle.troymantle.specs.RunWords.{start_in_words, step_in_words}
 use Rattle.machine.specs.Machine.{Given, Machine, fresh, step}
-use Rattle.machine.specs.Demand.{AsMachine, Session, given, session_calls, HaveText, Demanded}
+use Rattle.machine.specs.Demand.{AsMachine, Demand, Session, start_left_of, given, session_calls}
 
 -- what the exported parse call gives back
 abbrev pub parse_gives : Session → LeftInWords
@@ -36,7 +35,7 @@ linked_given q =
 
 -- what the exported start call gives back
 abbrev pub start_gives : Session → RunLeft ℕ
-start_gives q = start_in_words (start_call q.start q.running)
+start_gives q = start_in_words (start_call q.n q.running)
 
 -- the file, the link and the start are accepted, by the numbers in the words
 pub record AcceptsInWords (q : Session) : Type 0 where
@@ -71,9 +70,9 @@ session_words q is = calls_in_words (linked_given q) (start_gives q).after is
 -- what the exported calls give back: it is of calls that meet the demand, and each word tells the machine's answer
 pub record InWords (q : Session) (is : List Input) : Type 0 where
   pub same : session_words q is ≡ map step_in_words (session_calls q is)
-  pub demanded : Demanded q is
-  pub each : (e : Encoded q.start.text) → FollowsInWords (given q e.scalar_values) q.running.stack fresh [] is (session_words q is)
+  pub demand : Demand (given q) q.running.stack (start_left_of q) is (session_calls q is)
+  pub each : FollowsInWords (given q) q.running.stack fresh [] is (session_words q is)
 
 -- for every map of bytes
 unfoldable pub InWordsHolds : Type 0
-InWordsHolds = (q : Session) → AllBytes q.entries → AcceptsInWords q → (is : List Input) → HaveText q.start.text is → InWords q is
+InWordsHolds = (q : Session) → AllBytes q.entries → AcceptsInWords q → (is : List Input) → InWords q is

@@ -1,4 +1,4 @@
--- A run as a call takes it, and what the start call and the step call do (01, The run, and Numbers given at the counter, 6, 8, 9, 10; 02, 2/13).
+-- A run as a call takes it, and what the start call and the step call do (01, The run, and Numbers given at the counter, 6, 8, 9, 10).
 use Rattle.std.specs.Prelude.{ℕ, ◌+◌, ◌*◌, ◌-◌, Bool, cond, ◌&&◌, List, eqb, leb, length}
 use Rattle.std.proofs.lemmas.List.Edits.{sets}
 use Rattle.area.specs.declared.Rule.{Rule}
@@ -6,19 +6,18 @@ use Rattle.area.specs.Bytes.{two}
 use Rattle.area.specs.Lists.{all}
 use Rattle.area.specs.Records.{entry_at, nth_rule, entry_width}
 use Rattle.area.specs.Contents.{contents, entry_format}
-use Rattle.answers.specs.Numbers.{accepted_number, start_refused_number, broken_sheet_number, broken_run_number, row_mismatch_number, text_mismatch_number}
+use Rattle.answers.specs.Numbers.{accepted_number, start_refused_number, broken_sheet_number, broken_run_number, row_mismatch_number}
 use Rattle.answers.specs.Numbers.{done_number, stopped_number, unlinked_number, skip_number, token_number}
 use Rattle.answers.specs.Words.{Fields, fields, word}
 use Rattle.parse.specs.Parse.{Contents}
 use Rattle.sheet_check.specs.SheetCheck.{SheetBytes, decoded, sheet_check, declared}
-use Rattle.input_check.specs.InputCheck.{good_text, length_fits, good_row}
 use Rattle.winner.specs.declared.Best.{Best}
 use Rattle.winner.specs.Winner.{Lexer, weight, best}
 use Rattle.run.specs.declared.Run.{Run}
 use Rattle.run.specs.declared.Begun.{Begun}
-use Rattle.run.specs.declared.Begun.TheVariants.{Started, StartRefused, TextMismatch as StartTextMismatch}
+use Rattle.run.specs.declared.Begun.TheVariants.{Started, StartRefused}
 use Rattle.run.specs.declared.Step.{Step}
-use Rattle.run.specs.declared.Step.TheVariants.{BrokenSheet, TextMismatch, BrokenRun, RowMismatch, Done, Stopped, Unlinked, Skip, Token}
+use Rattle.run.specs.declared.Step.TheVariants.{BrokenSheet, BrokenRun, RowMismatch, Done, Stopped, Unlinked, Skip, Token}
 
 -- ---- the run
 
@@ -52,21 +51,12 @@ current g = entry_at g.stack (g.run.depth - 1)
 
 -- ---- what a call is given, and what it leaves
 
--- what a start is given beside the run: how many bytes the entry has, and its text (02, 2/13)
-pub record StartInput : Type 0 where
-  pub n : ℕ
-  pub text : List ℕ
-
-abbrev pub start_input : ℕ → List ℕ → StartInput
-start_input n text = record { n = n; text = text }
-
--- what a step is given beside the sheet and the run: the entry's text again (02, 2/13), and a length for each rule
+-- what a step is given beside the sheet and the run: a length for each rule
 pub record Input : Type 0 where
-  pub text : List ℕ
   pub row : List ℕ
 
-abbrev pub input : List ℕ → List ℕ → Input
-input text row = record { text = text; row = row }
+abbrev pub input : List ℕ → Input
+input row = record { row = row }
 
 -- what a call leaves: its answer, and the run afterwards
 pub record RunLeft (A : Type 0) : Type 0 where
@@ -89,14 +79,9 @@ first_run n = record { n = n; position = 0; depth = 1; moves = 0 }
 unfoldable pub good_start : ℕ → List ℕ → Bool
 good_start n s = leb n most_bytes && leb (stack_bytes n) (length s)
 
--- 8, then 12; accepted, only the first entry of the stack is changed; refused, nothing is (02, 2/13)
-unfoldable pub start_call : StartInput → Running → RunLeft Begun
-start_call i g =
-    cond (good_start i.n g.stack)
-    (cond (good_text i.n i.text)
-    (run_left Started (first_run i.n) (put_state g.stack 0 0))
-    (leaving StartTextMismatch g))
-    (leaving StartRefused g)
+-- accepted, only the first entry of the stack is changed; refused, nothing is
+unfoldable pub start_call : ℕ → Running → RunLeft Begun
+start_call n g = cond (good_start n g.stack) (run_left Started (first_run n) (put_state g.stack 0 0)) (leaving StartRefused g)
 
 -- ---- the tests of the step call
 
@@ -111,13 +96,13 @@ good_numbers g =
 unfoldable pub good_run : ℕ → Running → Bool
 good_run states g = good_numbers g && all (declared states) (contents entry_format g.stack g.run.depth)
 
--- the bytes that are left
-abbrev pub bytes_left : Run → ℕ
-bytes_left r = r.n - r.position
+-- a length is not above the bytes that are left
+abbrev pub fits_in : Run → ℕ → Bool
+fits_in r l = leb l (r.n - r.position)
 
--- number 10: a length fits what is left of the entry, from the position on (02, 2/13)
-abbrev pub fits_in : Run → List ℕ → ℕ → Bool
-fits_in r text = length_fits text (bytes_left r) r.position
+-- number 10: one length for each rule, and each passes the test
+unfoldable pub good_row : (ℕ → Bool) → ℕ → List ℕ → Bool
+good_row fits rules row = eqb (length row) (rules * entry_width) && all fits (contents entry_format row rules)
 
 -- ---- a move
 
@@ -164,8 +149,8 @@ module _ (x : Lexer) (g : Running) where
   choose b = cond (eqb b.length 0) (leaving Stopped g) (won_by g (nth_rule x.rules b.rule) b.length)
 
   -- a row that fits
-  unfoldable pub step_row : List ℕ → RunLeft Step
-  step_row row = choose (best (weight x (current g) row) (length x.rules))
+  unfoldable pub step_row : Input → RunLeft Step
+  step_row i = choose (best (weight x (current g) i.row) (length x.rules))
 
   -- 9, 'done', 10, then the winner
   unfoldable pub step_run : Input → RunLeft Step
@@ -173,27 +158,23 @@ module _ (x : Lexer) (g : Running) where
       cond (good_run (length x.states) g)
       (cond (eqb g.run.position g.run.n)
       (leaving Done g)
-      (cond (good_row (fits_in g.run i.text) (length x.rules) i.row) (step_row i.row) (leaving RowMismatch g)))
+      (cond (good_row (fits_in g.run) (length x.rules) i.row) (step_row i) (leaving RowMismatch g)))
       (leaving BrokenRun g)
 
 -- what a step reads of the contents of a sheet
 abbrev pub lexer_of : Contents → Lexer
 lexer_of c = record { states = c.states; rules = c.rules; lists = c.lists }
 
--- 6 first of all, then 12, by the run's n (02, 2/13)
+-- 6 first of all
 unfoldable pub step_call : SheetBytes → Running → Input → RunLeft Step
-step_call b g i =
-    cond (sheet_check b)
-    (cond (good_text g.run.n i.text) (step_run (lexer_of (decoded b)) g i) (leaving TextMismatch g))
-    (leaving BrokenSheet g)
+step_call b g i = cond (sheet_check b) (step_run (lexer_of (decoded b)) g i) (leaving BrokenSheet g)
 
 -- ---- the answers as words
 
--- the number of each answer, and its values (01, Numbers given at the counter; 02)
+-- the number of each answer, and its values (01, Numbers given at the counter)
 unfoldable pub start_fields : Begun → Fields
 start_fields Started = fields accepted_number 0 0 0
 start_fields StartRefused = fields start_refused_number 0 0 0
-start_fields StartTextMismatch = fields text_mismatch_number 0 0 0
 
 -- an answer of the step by what it does: it stays, by the number that says why; it skips; or it gives a token, with its id, start and length
 pub data View : Type 0 where
@@ -203,7 +184,6 @@ pub data View : Type 0 where
 
 unfoldable pub view : Step → View
 view BrokenSheet = stays broken_sheet_number
-view TextMismatch = stays text_mismatch_number
 view BrokenRun = stays broken_run_number
 view RowMismatch = stays row_mismatch_number
 view Done = stays done_number

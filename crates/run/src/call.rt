@@ -1,24 +1,21 @@
-// The start call and the step call, on a run by value (01, Numbers given at the counter, and The run; 02, 2/13).
-ghost use Rattle.std.specs.Prelude.{◌≡◌, true, ◌<◌, leb};
+// The start call and the step call, on a run by value (01, Numbers given at the counter, and The run).
+ghost use Rattle.std.specs.Prelude.{◌≡◌, true, ◌<◌};
 ghost use Rattle.sheet_check.specs.Phrases.{sheet_in};
 ghost use Rattle.area.specs.Phrases.{before, after};
 ghost use Rattle.winner.specs.Phrases.{lexer_in, Readable};
-ghost use Rattle.input_check.specs.InputCheck.{good_text};
-ghost use Rattle.input_check.specs.Top.{RowFits};
-ghost use Rattle.run.specs.Run.{running, start_input, input, run_left, start_call, good_run, bytes_left, step_row, step_run, step_call};
+ghost use Rattle.run.specs.Run.{running, input, run_left, start_call, good_run, fits_in, step_row, step_run, step_call};
+ghost use Rattle.run.specs.Top.{RowFits};
 
-use crate::fit::good_run;
+use crate::fit::{good_run, row_top};
 use crate::moves::{put_state, won_by};
-use crate::{Begun, BegunRun, MOST_BYTES, Run, Step, Stepped};
+use crate::{Begun, BegunRun, MOST_BYTES, RowTop, Run, Step, Stepped};
 use area::{ENTRY_WIDTH, read_entry, read_rule};
-use input_check::{RowTop, good_text, row_top};
 use sheet_check::check::quick_check;
 use winner::winner;
 
-// Begins a run over an entry of n bytes, with its text.
-pub fn start(n: u64, text: &[u8], r: Run, stack: &mut [u8]) -> BegunRun
-    ensures { run_left result.answer result.run (after stack)
-        ≡ start_call (start_input n (before text)) (running r (before stack)) }
+// Begins a run over an entry of n bytes.
+pub fn start(n: u64, r: Run, stack: &mut [u8]) -> BegunRun
+    ensures { run_left result.answer result.run (after stack) ≡ start_call n (running r (before stack)) }
 {
     if n > MOST_BYTES {
         return BegunRun {
@@ -29,12 +26,6 @@ pub fn start(n: u64, text: &[u8], r: Run, stack: &mut [u8]) -> BegunRun
     if stack.len() < ENTRY_WIDTH * (n as usize + 1) {
         return BegunRun {
             answer: Begun::StartRefused,
-            run: r,
-        };
-    }
-    if !good_text(n, text) {
-        return BegunRun {
-            answer: Begun::TextMismatch,
             run: r,
         };
     }
@@ -66,9 +57,9 @@ fn step_row(
     requires readable { Readable area1.now area2.now area3.now states rules entries }
     requires stack_value { good_run states (running r stack.old) ≡ true }
     requires position_lt_n { r.position < r.n }
-    requires row_fits { RowFits (λ l. leb l (bytes_left r)) rules row.now top }
+    requires row_fits { RowFits (fits_in r) rules row.now top }
     ensures { run_left result.answer result.run (after stack)
-        ≡ step_row (lexer_in area1 area2 area3 states rules entries) (running r (before stack)) (before row) }
+        ≡ step_row (lexer_in area1 area2 area3 states rules entries) (running r (before stack)) (input (before row)) }
 {
     let state = read_entry(stack, r.depth as usize - 1);
     let b = winner(area1, area2, area3, states, rules, entries, state, row, top);
@@ -82,7 +73,7 @@ fn step_row(
     won_by(x, b.length, r, stack)
 }
 
-// A sheet that passed the check, and a text that fits.
+// A sheet that passed the check.
 fn step_run(
     area1: &[u8],
     area2: &[u8],
@@ -90,15 +81,13 @@ fn step_run(
     states: u16,
     rules: u16,
     entries: u16,
-    text: &[u8],
     r: Run,
     stack: &mut [u8],
     row: &[u8],
 ) -> Stepped
-    requires readable { Readable area1.now area2.now area3.now states rules entries }
-    requires text_value { good_text r.n text.now ≡ true }
+    requires { Readable area1.now area2.now area3.now states rules entries }
     ensures { run_left result.answer result.run (after stack)
-        ≡ step_run (lexer_in area1 area2 area3 states rules entries) (running r (before stack)) (input (before text) (before row)) }
+        ≡ step_run (lexer_in area1 area2 area3 states rules entries) (running r (before stack)) (input (before row)) }
 {
     if good_run(states, r, stack) {
         if r.position == r.n {
@@ -107,7 +96,7 @@ fn step_run(
                 run: r,
             };
         }
-        let RowTop::Fits(top) = row_top(text, r.n - r.position, r.position, rules, row) else {
+        let RowTop::Fits(top) = row_top(rules, r.n - r.position, row) else {
             return Stepped {
                 answer: Step::RowMismatch,
                 run: r,
@@ -123,7 +112,7 @@ fn step_run(
     }
 }
 
-// Moves a run on by one row. The sheet is checked first of all, then the text.
+// Moves a run on by one row. The sheet is checked first of all.
 pub fn step(
     src: &[u8],
     area1: &[u8],
@@ -132,25 +121,17 @@ pub fn step(
     area4: &[u8],
     area5: &[u8],
     counts: &[u16; 6],
-    text: &[u8],
     r: Run,
     stack: &mut [u8],
     row: &[u8],
 ) -> Stepped
     ensures { run_left result.answer result.run (after stack)
-        ≡ step_call
-        (sheet_in src area1 area2 area3 area4 area5 counts) (running r (before stack)) (input (before text) (before row)) }
+        ≡ step_call (sheet_in src area1 area2 area3 area4 area5 counts) (running r (before stack)) (input (before row)) }
 {
     if quick_check(src, area1, area2, area3, area4, area5, counts) {
-        if good_text(r.n as u64, text) {
-            return step_run(
-                area1, area2, area3, counts[0], counts[1], counts[2], text, r, stack, row,
-            );
-        }
-        return Stepped {
-            answer: Step::TextMismatch,
-            run: r,
-        };
+        return step_run(
+            area1, area2, area3, counts[0], counts[1], counts[2], r, stack, row,
+        );
     }
     Stepped {
         answer: Step::BrokenSheet,

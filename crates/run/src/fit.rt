@@ -1,11 +1,13 @@
-// Whether a run fits (01, Numbers given at the counter, 9).
-ghost use Rattle.std.specs.Prelude.{◌≡◌};
+// Whether a run and a row fit (01, Numbers given at the counter, 9 and 10).
+ghost use Rattle.std.specs.Prelude.{◌≡◌, leb};
 ghost use Rattle.area.specs.Phrases.{before};
 ghost use Rattle.run.specs.Run.{running, good_numbers, good_run};
+ghost use Rattle.run.specs.Top.{RowTopIs};
 
-use crate::{MOST_BYTES, Run};
+use crate::{MOST_BYTES, RowTop, Run};
 use area::ENTRY_WIDTH;
 use sheet_check::check::good_entries;
+use winner::greatest_length;
 
 // The sums are wider than a field, so that they cannot wrap.
 fn good_numbers(r: Run, stack: &[u8]) -> bool
@@ -27,4 +29,18 @@ pub fn good_run(states: u16, r: Run, stack: &[u8]) -> bool
         return good_entries(stack, r.depth, states);
     }
     false
+}
+
+// Every length is at most the bytes left where the greatest is.
+pub fn row_top(rules: u16, left: u16, row: &[u8]) -> RowTop
+    ensures { RowTopIs (λ x. leb x left) rules (before row) result }
+{
+    if row.len() != rules as usize * ENTRY_WIDTH {
+        return RowTop::Misfit;
+    }
+    let top = greatest_length(row, rules);
+    if left < top {
+        return RowTop::Misfit;
+    }
+    RowTop::Fits(top)
 }

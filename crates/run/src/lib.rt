@@ -1,5 +1,5 @@
-// A run of the lexer that a sheet describes: the start call and the step call (01, The run; 02, 2/13).
-mod fit; // whether a run fits
+// A run of the lexer that a sheet describes: the start call and the step call (01, The run).
+mod fit; // whether a run and a row fit
 mod moves; // what the winner does
 pub mod call; // the calls
 
@@ -17,19 +17,24 @@ pub struct Run {
     pub moves: u16,
 }
 
-// The answers of the start call: accepted, or refused by number 8 of 01 or 12 of 02.
+// Whether a row fits: its greatest length, or that it does not fit.
+#[derive(Drop)]
+pub enum RowTop {
+    Fits(u16),
+    Misfit,
+}
+
+// The answers of the start call: accepted, or refused by number 8 of 01.
 #[derive(Drop)]
 pub enum Begun {
     Started,
     StartRefused,
-    TextMismatch,
 }
 
 // The answers of the step call. A token has its id, start and length.
 #[derive(Drop)]
 pub enum Step {
     BrokenSheet,
-    TextMismatch,
     BrokenRun,
     RowMismatch,
     Done,

@@ -61,18 +61,11 @@ fn keep_run(run: &mut [u16; 4], r: Run) {
     *run = [r.n, r.position, r.depth, r.moves];
 }
 
-// `start N BYTES LENGTH`: over an entry of N bytes, with so many bytes of the stack and of the text; of the text N where no length is told.
-fn start_run(entry: &[u8], run: &mut [u16; 4], stack: &mut [u8], values: &[u8]) {
-    let n = number_at(values, 0);
+// `start N BYTES`: over an entry of N bytes, with so many bytes of the stack.
+fn start_run(run: &mut [u16; 4], stack: &mut [u8], values: &[u8]) {
     let bytes = at_most(number_at(values, 2), stack.len());
-    let told = if values.len() > 4 {
-        number_at(values, 4)
-    } else {
-        n
-    };
-    let length = at_most(told, entry.len());
     let r = run_of(run);
-    let q = start(n as u64, &entry[0..length], r, &mut stack[0..bytes]);
+    let q = start(number_at(values, 0) as u64, r, &mut stack[0..bytes]);
     keep_run(run, q.run);
     let answer = q.answer;
     say_start(answer);
@@ -86,22 +79,10 @@ fn put_entry(stack: &mut [u8], k: u16, id: u16) {
     }
 }
 
-// `entry AT BYTE`: another byte of the text.
-fn put_byte(entry: &mut [u8], at: u16, byte: u16) {
-    let k = at as usize;
-    if k < entry.len() {
-        entry[k] = (byte % 256) as u8;
-    }
-}
-
-// `start`, `entry`, `put`, or `numbers N POSITION DEPTH MOVES`: another run.
-fn change_run(letter: u8, entry: &mut [u8], run: &mut [u16; 4], stack: &mut [u8], values: &[u8]) {
+// `start`, `put`, or `numbers N POSITION DEPTH MOVES`: another run.
+fn change_run(letter: u8, run: &mut [u16; 4], stack: &mut [u8], values: &[u8]) {
     if letter == b's' {
-        start_run(entry, run, stack, values);
-        return;
-    }
-    if letter == b'e' {
-        put_byte(entry, number_at(values, 0), number_at(values, 2));
+        start_run(run, stack, values);
         return;
     }
     if letter == b'p' {
@@ -120,7 +101,7 @@ fn change_run(letter: u8, entry: &mut [u8], run: &mut [u16; 4], stack: &mut [u8]
     say(b" unknown");
 }
 
-// `row LENGTH ..`: a step, with as many bytes of the text as the run's n says.
+// `row LENGTH ..`: a step.
 fn step_row(
     src: &[u8],
     area1: &[u8],
@@ -129,14 +110,13 @@ fn step_row(
     area4: &[u8],
     area5: &[u8],
     counts: &[u16; 6],
-    text: &[u8],
     run: &mut [u16; 4],
     stack: &mut [u8],
     row: &[u8],
 ) {
     let r = run_of(run);
     let q = step(
-        src, area1, area2, area3, area4, area5, counts, text, r, stack, row,
+        src, area1, area2, area3, area4, area5, counts, r, stack, row,
     );
     keep_run(run, q.run);
     let answer = q.answer;
@@ -152,7 +132,6 @@ fn step_with_bytes(
     area4: &[u8],
     area5: &[u8],
     counts: &[u16; 6],
-    text: &[u8],
     run: &mut [u16; 4],
     stack: &mut [u8],
     values: &[u8],
@@ -167,7 +146,6 @@ fn step_with_bytes(
         area4,
         area5,
         counts,
-        text,
         run,
         &mut stack[0..bytes],
         &values[from..],
@@ -183,7 +161,6 @@ fn step_odd(
     area4: &[u8],
     area5: &[u8],
     counts: &[u16; 6],
-    text: &[u8],
     run: &mut [u16; 4],
     stack: &mut [u8],
     values: &[u8],
@@ -200,45 +177,13 @@ fn step_odd(
         area4,
         area5,
         counts,
-        text,
         run,
         stack,
         &values[0..length],
     );
 }
 
-// `text LENGTH LENGTH ..`: a step with only so many bytes of the text.
-fn step_with_text(
-    src: &[u8],
-    area1: &[u8],
-    area2: &[u8],
-    area3: &[u8],
-    area4: &[u8],
-    area5: &[u8],
-    counts: &[u16; 6],
-    entry: &[u8],
-    run: &mut [u16; 4],
-    stack: &mut [u8],
-    values: &[u8],
-) {
-    let length = at_most(number_at(values, 0), entry.len());
-    let from = at_most(2, values.len());
-    step_row(
-        src,
-        area1,
-        area2,
-        area3,
-        area4,
-        area5,
-        counts,
-        &entry[0..length],
-        run,
-        stack,
-        &values[from..],
-    );
-}
-
-// `text`, `row`, `bytes` or `odd`.
+// `row`, `bytes` or `odd`.
 fn move_run(
     letter: u8,
     src: &[u8],
@@ -248,67 +193,29 @@ fn move_run(
     area4: &[u8],
     area5: &[u8],
     counts: &[u16; 6],
-    entry: &[u8],
     run: &mut [u16; 4],
     stack: &mut [u8],
     values: &[u8],
 ) {
-    if letter == b't' {
-        step_with_text(
-            src, area1, area2, area3, area4, area5, counts, entry, run, stack, values,
-        );
-        return;
-    }
-    let n = at_most(run[0], entry.len());
     if letter == b'b' {
         step_with_bytes(
-            src,
-            area1,
-            area2,
-            area3,
-            area4,
-            area5,
-            counts,
-            &entry[0..n],
-            run,
-            stack,
-            values,
+            src, area1, area2, area3, area4, area5, counts, run, stack, values,
         );
         return;
     }
     if letter == b'o' {
         step_odd(
-            src,
-            area1,
-            area2,
-            area3,
-            area4,
-            area5,
-            counts,
-            &entry[0..n],
-            run,
-            stack,
-            values,
+            src, area1, area2, area3, area4, area5, counts, run, stack, values,
         );
         return;
     }
     step_row(
-        src,
-        area1,
-        area2,
-        area3,
-        area4,
-        area5,
-        counts,
-        &entry[0..n],
-        run,
-        stack,
-        values,
+        src, area1, area2, area3, area4, area5, counts, run, stack, values,
     );
 }
 
 fn is_move(letter: u8) -> bool {
-    (letter == b't') | (letter == b'r') | (letter == b'b') | (letter == b'o')
+    (letter == b'r') | (letter == b'b') | (letter == b'o')
 }
 
 // The call of a line.
@@ -321,7 +228,6 @@ fn command(
     area4: &[u8],
     area5: &[u8],
     counts: &mut [u16; 6],
-    entry: &mut [u8],
     run: &mut [u16; 4],
     stack: &mut [u8],
     values: &[u8],
@@ -336,11 +242,11 @@ fn command(
     }
     if is_move(letter) {
         move_run(
-            letter, src, area1, area2, area3, area4, area5, counts, entry, run, stack, values,
+            letter, src, area1, area2, area3, area4, area5, counts, run, stack, values,
         );
         return;
     }
-    change_run(letter, entry, run, stack, values);
+    change_run(letter, run, stack, values);
 }
 
 // A line, what it is answered, and the run afterwards; a line that starts with # is only printed.
@@ -352,7 +258,6 @@ fn line(
     area4: &[u8],
     area5: &[u8],
     counts: &mut [u16; 6],
-    entry: &mut [u8],
     run: &mut [u16; 4],
     stack: &mut [u8],
     text: &[u8],
@@ -375,7 +280,6 @@ fn line(
         area4,
         area5,
         counts,
-        entry,
         run,
         stack,
         &values[0..n],
@@ -391,7 +295,6 @@ fn each_line(
     area4: &[u8],
     area5: &[u8],
     counts: &mut [u16; 6],
-    entry: &mut [u8],
     run: &mut [u16; 4],
     stack: &mut [u8],
     lines: &[u8],
@@ -408,7 +311,6 @@ fn each_line(
             area4,
             area5,
             counts,
-            entry,
             run,
             stack,
             &lines[from..end],
@@ -417,8 +319,8 @@ fn each_line(
     }
 }
 
-// Parses the file, and goes through the lines. The text has 4,097 bytes, `a` at first, and the stack would do for an entry of as many, so that
-// a run can be broken by n alone.
+// Parses the file, and goes through the lines. The stack would do for an entry of 4,097 bytes, so that a run
+// can be broken by n alone.
 pub fn play(src: &[u8], lines: &[u8]) {
     let mut counts = [0u16; 6];
     let mut area1 = [0u8; 60];
@@ -427,7 +329,6 @@ pub fn play(src: &[u8], lines: &[u8]) {
     let mut area4 = [0u8; 40];
     let mut area5 = [0u8; 40];
     let mut area6 = [0u8; 40];
-    let mut entry = [b'a'; 4097];
     let mut run = [0u16; 4];
     let mut stack = [0u8; 8196];
     say(b"parse:");
@@ -452,7 +353,6 @@ pub fn play(src: &[u8], lines: &[u8]) {
         &area4,
         &area5,
         &mut counts,
-        &mut entry,
         &mut run,
         &mut stack,
         lines,

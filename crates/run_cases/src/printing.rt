@@ -2,7 +2,7 @@
 use crate::numbers::number_at;
 use answers::{
     AREA_FULL, BROKEN_MAP, BROKEN_RUN, BROKEN_SHEET, FAULTY_FILE, INVALID_UTF8, LONG_FILE,
-    ROW_MISMATCH, START_REFUSED, TEXT_MISMATCH, UNKNOWN_FLAG,
+    ROW_MISMATCH, START_REFUSED, UNKNOWN_FLAG,
 };
 use libc::STDOUT_FILENO;
 use link::LinkAnswer;
@@ -60,14 +60,12 @@ pub fn say_start(answer: Begun) {
     match answer {
         Begun::Started => say(b" started"),
         Begun::StartRefused => say_refused(START_REFUSED),
-        Begun::TextMismatch => say_refused(TEXT_MISMATCH),
     }
 }
 
 pub fn say_step(answer: Step) {
     match answer {
         Step::BrokenSheet => say_refused(BROKEN_SHEET),
-        Step::TextMismatch => say_refused(TEXT_MISMATCH),
         Step::BrokenRun => say_refused(BROKEN_RUN),
         Step::RowMismatch => say_refused(ROW_MISMATCH),
         Step::Done => say(b" done"),

@@ -10,7 +10,7 @@ use Rattle.sheet_check.proofs.Checked.{states_count, checked_counts}
 use Rattle.run.specs.declared.Begun.{Begun}
 use Rattle.run.specs.declared.Begun.TheVariants.{Started}
 use Rattle.run.specs.declared.Step.{Step}
-use Rattle.run.specs.Run.{Running, running, StartInput, Input, RunLeft, moves_of, put_state, first_run, start_call, step_call}
+use Rattle.run.specs.Run.{Running, running, Input, RunLeft, moves_of, put_state, first_run, start_call, step_call}
 use Rattle.run.proofs.Fitting.{run_is, current_declared}
 use Rattle.run_laws.specs.Calls.{calls, last_running, last_position}
 use Rattle.run_laws.specs.Pieces.{Piece, piece_left, pieces, Adjoin}
@@ -65,31 +65,30 @@ module _ (b : SheetBytes) (passed : sheet_check b ≡ true) where
           moves = omega (arith, c.moves, s.moves, length-append here behind);
         }
 
-  first_sound : (s : StartInput) (x : Running) → (start_call s x).answer ≡ Started
-      → SoundRun states s.n (length x.stack) (running (first_run s.n) (put_state x.stack 0 0))
-  first_sound s x ok =
-      let good = first_good s x ok states (omega (arith, states_count b, (checked_counts b passed).0)) in
+  first_sound : (n : ℕ) (x : Running) → (start_call n x).answer ≡ Started
+      → SoundRun states n (length x.stack) (running (first_run n) (put_state x.stack 0 0))
+  first_sound n x ok =
+      let good = first_good n x ok states (omega (arith, states_count b, (checked_counts b passed).0)) in
       record {
         good = good;
-        declared = current_declared states (first_run s.n) (put_state x.stack 0 0) good;
+        declared = current_declared states (first_run n) (put_state x.stack 0 0) good;
         same_n = refl;
         same_bytes = put_length x.stack 0 0;
       }
 
 pub always : AlwaysHolds
 unfolding AlwaysHolds
-always b passed start x ok is =
-    let n : ℕ = start.n in
+always b passed n x ok is =
     let first : Running = running (first_run n) (put_state x.stack 0 0) in
     let os : List (RunLeft Step) = calls b first is in
     let states : ℕ = length (decoded b).states in
     let bytes : ℕ = length x.stack in
-    let h = first_sound b passed start x ok in
+    let h = first_sound b passed n x ok in
     let s = sums b passed n bytes is first h in
     let keeps = run_kept b passed n bytes in
     let end : SoundRun states n bytes (last_running first os) = calls_last b (SoundRun states n bytes) keeps is first h in
     let g = run_is states (last_running first os).run (last_running first os).stack end.good in
-    subst⁻¹ (λ (f : RunLeft Begun). Always b n x.stack f.after (calls b f.after is)) (start_left start x ok)
+    subst⁻¹ (λ (f : RunLeft Begun). Always b n x.stack f.after (calls b f.after is)) (start_left n x ok)
     (record {
       first = h;
       each = calls_each b (SoundRun states n bytes) keeps (SoundCall states n bytes) (call_sound b passed n bytes) is first h;

@@ -2,7 +2,7 @@
 -- each of these cases holds of the call.
 use mathlib.Core.Path.{◌≡◌, refl, sym, ◌∙◌}
 use mathlib.Core.Bool.{Bool, true, false, cond}
-use Prim.Native.Nat.{ℕ, ◌≤◌, ◌<◌}
+use Prim.Native.Nat.{ℕ, ◌-◌, ◌≤◌, ◌<◌}
 use native.Mathlib.Omega.{arith}
 use borrow.Author.Tests.{leb-true, eqb-true, eqb-false}
 use lib.Dec.{eqb}
@@ -10,15 +10,14 @@ use lib.ListN.{length}
 use Rattle.characters.proofs.Tests.{by_test}
 use Rattle.area.specs.declared.Rule.{Rule}
 use Rattle.area.specs.Records.{nth_rule}
-use Rattle.answers.specs.Numbers.{broken_sheet_number, text_mismatch_number, broken_run_number, row_mismatch_number, done_number, stopped_number, unlinked_number}
+use Rattle.answers.specs.Numbers.{broken_sheet_number, broken_run_number, row_mismatch_number, done_number, stopped_number, unlinked_number}
 use Rattle.sheet_check.specs.SheetCheck.{SheetBytes, decoded, sheet_check}
 use Rattle.winner.specs.Winner.{Lexer, live, length_in, weight, greatest, earliest}
 use Rattle.winner.proofs.Winning.{earliest_has, winner_inside, weights_low}
 use Rattle.run.specs.declared.Step.{Step}
-use Rattle.run.specs.declared.Step.TheVariants.{TextMismatch, RowMismatch, Done, Stopped, Unlinked, Skip, Token}
-use Rattle.run.specs.Run.{Running, current, Input, RunLeft, leaving, good_run, bytes_left, fits_in, move_by, won_by, choose, step_row, step_run, lexer_of, step_call, stays, view}
-use Rattle.input_check.specs.InputCheck.{good_text, good_row}
-use Rattle.input_check.proofs.Rows.{row-length, fits_low}
+use Rattle.run.specs.declared.Step.TheVariants.{RowMismatch, Done, Stopped, Unlinked, Skip, Token}
+use Rattle.run.specs.Run.{Running, current, Input, RunLeft, leaving, good_run, fits_in, good_row, move_by, won_by, choose, step_row, step_run, lexer_of, step_call, stays, view}
+use Rattle.run.proofs.Fitting.{row-length}
 
 -- rule k wins by so many bytes: it is live in the current state, and the row has that length for it, at least one byte and none that is not left
 pub record Wins (c : Lexer) (x : Running) (i : Input) (k bytes : ℕ) : Type 0 where
@@ -26,7 +25,7 @@ pub record Wins (c : Lexer) (x : Running) (i : Input) (k bytes : ℕ) : Type 0 w
   pub is_live : live c.states c.lists (current x) (nth_rule c.rules k) ≡ true
   pub has : length_in i.row k ≡ bytes
   pub some : 0 < bytes
-  pub left : bytes ≤ bytes_left x.run
+  pub left : bytes ≤ x.run.n - x.run.position
 
 -- a property of what a call leaves, in each case: it stays, by a number that is neither 6 nor 9; it gives a token; it skips
 pub record InEachCase (c : Lexer) (x : Running) (i : Input) (P : RunLeft Step → Type 0) : Type 0 where
@@ -45,7 +44,7 @@ weighs : (t : Bool) (bytes : ℕ) → (cond t bytes 0 ≡ 0 → ⊥) → (t ≡ 
 weighs true bytes h = (refl, refl)
 weighs false bytes h = absurd (h refl)
 
-wins : (c : Lexer) (x : Running) (i : Input) → good_row (fits_in x.run i.text) (length c.rules) i.row ≡ true
+wins : (c : Lexer) (x : Running) (i : Input) → good_row (fits_in x.run) (length c.rules) i.row ≡ true
     → (greatest (weight c (current x) i.row) (length c.rules) ≡ 0 → ⊥)
     → Wins c x i (earliest (weight c (current x) i.row) (length c.rules)) (greatest (weight c (current x) i.row) (length c.rules))
 unfolding weight
@@ -56,15 +55,13 @@ wins c x i fits some =
     let inside : k < n = winner_inside f n some in
     let has : f k ≡ greatest f n = earliest_has f n (omega (arith, inside)) in
     let w = weighs (live c.states c.lists (current x) (nth_rule c.rules k)) (length_in i.row k) (λ e. some (sym has ∙ e)) in
-    let left : ℕ = bytes_left x.run in
-    let low : (j : ℕ) → j < n → length_in i.row j ≤ left =
-    λ j h. leb-true (length_in i.row j) left (fits_low i.text left x.run.position (length_in i.row j) (row-length (fits_in x.run i.text) n i.row fits j h)) in
+    let left : ℕ = x.run.n - x.run.position in
     record {
       inside = inside;
       is_live = w.0;
       has = w.1 ∙ has;
       some = omega (arith, some);
-      left = weights_low c (current x) i.row left n low;
+      left = weights_low c (current x) i.row left n (λ j h. leb-true (length_in i.row j) left (row-length (fits_in x.run) n i.row fits j h));
     }
 
 -- ---- the call
@@ -79,7 +76,7 @@ module _ (c : Lexer) (x : Running) (i : Input) (P : RunLeft Step → Type 0) (ho
       (λ _. holds.stayed Unlinked unlinked_number refl (λ q. omega (arith, q)) (λ q. omega (arith, q))))
       (λ e. holds.skipped k bytes w (eqb-false r.named 1 e))
 
-  row_cases : good_row (fits_in x.run i.text) (length c.rules) i.row ≡ true → P (step_row c x i.row)
+  row_cases : good_row (fits_in x.run) (length c.rules) i.row ≡ true → P (step_row c x i)
   unfolding step_row choose view
   row_cases fits =
       let f : ℕ → ℕ = weight c (current x) i.row in
@@ -92,14 +89,11 @@ module _ (c : Lexer) (x : Running) (i : Input) (P : RunLeft Step → Type 0) (ho
   run_cases good =
       rw good
       (by_test P (eqb x.run.position x.run.n) _ _ (λ _. holds.stayed Done done_number refl (λ q. omega (arith, q)) (λ q. omega (arith, q)))
-      (λ _. by_test P (good_row (fits_in x.run i.text) (length c.rules) i.row) _ _ row_cases
+      (λ _. by_test P (good_row (fits_in x.run) (length c.rules) i.row) _ _ row_cases
       (λ _. holds.stayed RowMismatch row_mismatch_number refl (λ q. omega (arith, q)) (λ q. omega (arith, q)))))
 
 pub call_cases : (b : SheetBytes) → sheet_check b ≡ true → (x : Running) → good_run (length (decoded b).states) x ≡ true
     → (i : Input) (P : RunLeft Step → Type 0)
     → InEachCase (lexer_of (decoded b)) x i P → P (step_call b x i)
-unfolding step_call view
-call_cases b passed x good i P holds =
-    rw passed
-    (by_test P (good_text x.run.n i.text) _ _ (λ _. run_cases (lexer_of (decoded b)) x i P holds good)
-    (λ _. holds.stayed TextMismatch text_mismatch_number refl (λ q. omega (arith, q)) (λ q. omega (arith, q))))
+unfolding step_call
+call_cases b passed x good i P holds = rw passed (run_cases (lexer_of (decoded b)) x i P holds good)

@@ -14,7 +14,7 @@ use Rattle.sheet_check.proofs.Checked.{good_rule_lem, states_count, checked_reco
 use Rattle.area.proofs.All.{all-at}
 use Rattle.run.specs.declared.Step.{Step}
 use Rattle.run.specs.declared.Step.TheVariants.{BrokenSheet, BrokenRun, Skip, Token}
-use Rattle.run.specs.Run.{Running, Input, RunLeft, leaving, moves_of, good_run, bytes_left, move_by, step_call, View, stays, view, view_fields, step_fields}
+use Rattle.run.specs.Run.{Running, Input, RunLeft, leaving, moves_of, good_run, move_by, step_call, View, stays, view, view_fields, step_fields}
 use Rattle.run.proofs.Fitting.{run_is}
 use Rattle.run_laws.specs.Pieces.{Piece, piece, piece_of, piece_left, Adjoin}
 use Rattle.run_laws.proofs.Cases.{call_cases}
@@ -61,7 +61,7 @@ stays_called states x good a k e p q =
 
 -- a move by a rule over some of the bytes that are left
 module _ (states : ℕ) (x : Running) (good : good_run states x ≡ true) (r : Rule) (bytes : ℕ)
-    (target : r.target < states) (some : 0 < bytes) (left : bytes ≤ bytes_left x.run) where
+    (target : r.target < states) (some : 0 < bytes) (left : bytes ≤ x.run.n - x.run.position) where
   goes_called : (a : Step)
       → ((q : ℕ) → q ≡ x.run.position + bytes → piece_of x.run.position q (view a) ≡ piece x.run.position bytes ∷ [])
       → (a ≡ BrokenSheet → ⊥) → (a ≡ BrokenRun → ⊥) → Called states x (leaving a (move_by x r bytes))

@@ -1,4 +1,4 @@
--- An accepted start leaves the first run, which is good beside any state; and its text fits.
+-- An accepted start leaves the first run, which is good beside any state.
 use mathlib.Core.Path.{◌≡◌, refl, ap}
 use mathlib.Core.Bool.{Bool, true, false, cond}
 use Prim.Native.Nat.{ℕ, ◌≤◌, ◌<◌}
@@ -8,33 +8,19 @@ use lib.Dec.{leb}
 use lib.ListN.{length}
 use Rattle.characters.proofs.Tests.{and_left, and_right}
 use Rattle.area.specs.Records.{entry_at}
-use Rattle.input_check.specs.InputCheck.{good_text}
-use Rattle.run.specs.declared.Begun.TheVariants.{Started, StartRefused, TextMismatch}
-use Rattle.run.specs.Run.{Running, running, StartInput, leaving, run_left, most_bytes, stack_bytes, put_state, first_run, good_start, good_run, start_call, start_fields, start_word}
+use Rattle.run.specs.declared.Begun.TheVariants.{Started, StartRefused}
+use Rattle.run.specs.Run.{Running, running, leaving, run_left, most_bytes, stack_bytes, put_state, first_run, good_start, good_run, start_call, start_fields, start_word}
 use Rattle.run_laws.proofs.Stacks.{put_length, put_same}
 use Rattle.run_laws.proofs.Operated.{run_good}
 
-module _ (s : StartInput) (x : Running) (started : (start_call s x).answer ≡ Started) where
-  abbrev n : ℕ
-  n = s.n
-
-  -- both tests pass
-  tests_pass : (good_start n x.stack ≡ true) × (good_text n s.text ≡ true)
-  unfolding start_call start_fields
-  tests_pass = go (good_start n x.stack) (good_text n s.text) started
-    where
-      go : (t u : Bool)
-          → (cond t (cond u (run_left Started (first_run n) (put_state x.stack 0 0)) (leaving TextMismatch x)) (leaving StartRefused x)).answer ≡ Started
-          → (t ≡ true) × (u ≡ true)
-      go true true e = (refl, refl)
-      go true false e = absurd (omega (arith, ap start_word e))
-      go false u e = absurd (omega (arith, ap start_word e))
-
+module _ (n : ℕ) (x : Running) (started : (start_call n x).answer ≡ Started) where
   start_good : good_start n x.stack ≡ true
-  start_good = tests_pass.0
-
-  pub start_text : good_text n s.text ≡ true
-  start_text = tests_pass.1
+  unfolding start_call start_fields
+  start_good = go (good_start n x.stack) started
+    where
+      go : (t : Bool) → (cond t (run_left Started (first_run n) (put_state x.stack 0 0)) (leaving StartRefused x)).answer ≡ Started → t ≡ true
+      go true e = refl
+      go false e = absurd (omega (arith, ap start_word e))
 
   pub start_small : n ≤ most_bytes
   unfolding good_start
@@ -44,9 +30,9 @@ module _ (s : StartInput) (x : Running) (started : (start_call s x).answer ≡ S
   unfolding good_start
   start_long = leb-true (stack_bytes n) (length x.stack) (and_right (leb n most_bytes) _ start_good)
 
-  pub start_left : start_call s x ≡ run_left Started (first_run n) (put_state x.stack 0 0)
+  pub start_left : start_call n x ≡ run_left Started (first_run n) (put_state x.stack 0 0)
   unfolding start_call
-  start_left = rw (start_good, start_text) refl
+  start_left = rw start_good refl
 
   pub first_good : (states : ℕ) → 0 < states → good_run states (running (first_run n) (put_state x.stack 0 0)) ≡ true
   first_good states some =

@@ -1,11 +1,11 @@
 -- What always holds of a run on a sheet that passes the check, linked or not (01, The run): one statement about an accepted start and any list of
--- step calls after it, whatever text and row each is given.
+-- step calls after it.
 use Rattle.std.specs.Prelude.{ℕ, ◌≤◌, ◌<◌, ◌≡◌, true, cond, List, [], ◌∷◌, ltb, length}
 use Rattle.sheet_check.specs.SheetCheck.{SheetBytes, decoded, sheet_check}
 use Rattle.run.specs.declared.Begun.TheVariants.{Started}
 use Rattle.run.specs.declared.Step.{Step}
 use Rattle.run.specs.declared.Step.TheVariants.{BrokenSheet, BrokenRun}
-use Rattle.run.specs.Run.{Running, StartInput, Input, RunLeft, moves_of, current, good_run, start_call, stays, view}
+use Rattle.run.specs.Run.{Running, Input, RunLeft, moves_of, current, good_run, start_call, stays, view}
 use Rattle.run_laws.specs.Calls.{calls, EachCall, last_running, last_position}
 use Rattle.run_laws.specs.Pieces.{Piece, piece_left, pieces, Adjoin, covered}
 
@@ -43,5 +43,5 @@ pub record Always (b : SheetBytes) (n : ℕ) (s : List ℕ) (x : Running) (os : 
 -- of every sheet that passes the check, every accepted start and every list of inputs
 unfoldable pub AlwaysHolds : Type 0
 AlwaysHolds = (b : SheetBytes) → sheet_check b ≡ true
-    → (s : StartInput) (x : Running) → (start_call s x).answer ≡ Started
-    → (is : List Input) → Always b s.n x.stack (start_call s x).after (calls b (start_call s x).after is)
+    → (n : ℕ) (x : Running) → (start_call n x).answer ≡ Started
+    → (is : List Input) → Always b n x.stack (start_call n x).after (calls b (start_call n x).after is)

@@ -1,6 +1,6 @@
-// The start call and the step call as C functions (01, The run; 02, 2/13).
+// The start call and the step call as C functions (01, The run).
 ghost use Rattle.std.specs.Prelude.{◌≡◌};
-ghost use Rattle.run.specs.Run.{running, start_input, input, run_left, start_call, step_call};
+ghost use Rattle.run.specs.Run.{running, input, run_left, start_call, step_call};
 ghost use Rattle.sheet_check.specs.Phrases.{sheet_in};
 ghost use Rattle.area.specs.Phrases.{before, after};
 ghost use Rattle.troymantle.specs.RunWords.{start_in_words, step_in_words};
@@ -17,11 +17,10 @@ pub struct Worded {
 }
 
 // The start call on a run by value.
-fn start_by_value(n: u64, text: &[u8], r: Run, stack: &mut [u8]) -> Worded
-    ensures { run_left result.word result.run (after stack)
-        ≡ start_in_words (start_call (start_input n (before text)) (running r (before stack))) }
+fn start_by_value(n: u64, r: Run, stack: &mut [u8]) -> Worded
+    ensures { run_left result.word result.run (after stack) ≡ start_in_words (start_call n (running r (before stack))) }
 {
-    let begun = start(n, text, r, stack);
+    let begun = start(n, r, stack);
     let answer = begun.answer;
     let run = begun.run;
     Worded {
@@ -30,13 +29,12 @@ fn start_by_value(n: u64, text: &[u8], r: Run, stack: &mut [u8]) -> Worded
     }
 }
 
-// Begins a run over an entry of n bytes, with its text. A refusal changes nothing.
+// Begins a run over an entry of n bytes. A refusal changes nothing.
 #[unsafe(no_mangle)]
-pub extern "C" fn troymantle_start(n: u64, text: &[u8], run: &mut Run, stack: &mut [u8]) -> u64
-    ensures { run_left result run.new (after stack)
-        ≡ start_in_words (start_call (start_input n (before text)) (running run.old (before stack))) }
+pub extern "C" fn troymantle_start(n: u64, run: &mut Run, stack: &mut [u8]) -> u64
+    ensures { run_left result run.new (after stack) ≡ start_in_words (start_call n (running run.old (before stack))) }
 {
-    let worded = start_by_value(n, text, *run, stack);
+    let worded = start_by_value(n, *run, stack);
     *run = worded.run;
     worded.word
 }
@@ -50,17 +48,15 @@ fn step_by_value(
     area4: &[u8],
     area5: &[u8],
     counts: &[u16; 6],
-    text: &[u8],
     r: Run,
     stack: &mut [u8],
     row: &[u8],
 ) -> Worded
     ensures { run_left result.word result.run (after stack)
-        ≡ step_in_words
-        (step_call (sheet_in src area1 area2 area3 area4 area5 counts) (running r (before stack)) (input (before text) (before row))) }
+        ≡ step_in_words (step_call (sheet_in src area1 area2 area3 area4 area5 counts) (running r (before stack)) (input (before row))) }
 {
     let stepped = step(
-        src, area1, area2, area3, area4, area5, counts, text, r, stack, row,
+        src, area1, area2, area3, area4, area5, counts, r, stack, row,
     );
     let answer = stepped.answer;
     let run = stepped.run;
@@ -70,7 +66,7 @@ fn step_by_value(
     }
 }
 
-// Moves a run on by a row, one length for each rule, with the entry's text again. A refusal changes nothing.
+// Moves a run on by a row, one length for each rule. A refusal changes nothing.
 #[unsafe(no_mangle)]
 pub extern "C" fn troymantle_step(
     src: &[u8],
@@ -80,18 +76,15 @@ pub extern "C" fn troymantle_step(
     area4: &[u8],
     area5: &[u8],
     counts: &[u16; 6],
-    text: &[u8],
     run: &mut Run,
     stack: &mut [u8],
     row: &[u8],
 ) -> u64
     ensures { run_left result run.new (after stack)
-        ≡ step_in_words
-        (step_call
-        (sheet_in src area1 area2 area3 area4 area5 counts) (running run.old (before stack)) (input (before text) (before row))) }
+        ≡ step_in_words (step_call (sheet_in src area1 area2 area3 area4 area5 counts) (running run.old (before stack)) (input (before row))) }
 {
     let worded = step_by_value(
-        src, area1, area2, area3, area4, area5, counts, text, *run, stack, row,
+        src, area1, area2, area3, area4, area5, counts, *run, stack, row,
     );
     *run = worded.run;
     worded.word

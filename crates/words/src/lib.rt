@@ -9,8 +9,8 @@ ghost use Rattle.lines.specs.Places.{SmallOffset};
 
 use answers::{
     ACCEPTED, AREA_FULL, BROKEN_MAP, BROKEN_RUN, BROKEN_SHEET, DONE, FAULTY_FILE, INVALID_UTF8,
-    LONG_FILE, NO_SUCH_PLACE, ROW_MISMATCH, SKIP, START_REFUSED, STOPPED, TEXT_MISMATCH, TOKEN,
-    UNKNOWN_FLAG, UNLINKED, word,
+    LONG_FILE, NO_SUCH_PLACE, ROW_MISMATCH, SKIP, START_REFUSED, STOPPED, TOKEN, UNKNOWN_FLAG,
+    UNLINKED, word,
 };
 use lines::{LineColumn, OffsetAt};
 use link::LinkAnswer;
@@ -61,7 +61,6 @@ pub fn start_word(answer: Begun) -> u64
     match answer {
         Begun::Started => word(ACCEPTED, 0, 0, 0),
         Begun::StartRefused => word(START_REFUSED, 0, 0, 0),
-        Begun::TextMismatch => word(TEXT_MISMATCH, 0, 0, 0),
     }
 }
 
@@ -71,7 +70,6 @@ pub fn step_word(answer: Step) -> u64
 {
     match answer {
         Step::BrokenSheet => word(BROKEN_SHEET, 0, 0, 0),
-        Step::TextMismatch => word(TEXT_MISMATCH, 0, 0, 0),
         Step::BrokenRun => word(BROKEN_RUN, 0, 0, 0),
         Step::RowMismatch => word(ROW_MISMATCH, 0, 0, 0),
         Step::Done => word(DONE, 0, 0, 0),

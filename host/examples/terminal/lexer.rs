@@ -39,8 +39,10 @@ pub enum End {
     Stopped,
     /// The rule's name, and how many bytes it matches.
     Unlinked(String, usize),
-    /// The entry is too long, or not UTF-8 from the position on.
+    /// The entry is too long.
     Refused(Refusal),
+    /// The entry is not UTF-8 from the position on.
+    NotText,
 }
 
 impl<'a> Lexer<'a> {
@@ -56,16 +58,21 @@ impl<'a> Lexer<'a> {
 
     /// Reads an entry to its end, or as far as it goes.
     pub fn read(&self, entry: &Entry) -> Reading {
-        let text = std::str::from_utf8(&entry.bytes);
-        let mut run = match self.sheet.start(&entry.bytes) {
+        let mut run = match self.sheet.start(entry.length) {
             Ok(run) => run,
-            Err(refusal) => {
-                let position = text.map_or_else(|error| error.valid_up_to(), |_| 0);
-                return Reading { moves: vec![], end: End::Refused(refusal), position, stack: vec![] };
+            Err(refusal) => return Reading { moves: vec![], end: End::Refused(refusal), position: 0, stack: vec![] },
+        };
+        let text = match std::str::from_utf8(&entry.bytes) {
+            Ok(text) => text,
+            Err(error) => {
+                return Reading {
+                    moves: vec![],
+                    end: End::NotText,
+                    position: error.valid_up_to(),
+                    stack: run.states(),
+                };
             }
         };
-        // the start has judged it
-        let text = text.unwrap_or_default();
         let mut moves = vec![];
         loop {
             match self.step(text, &mut run) {
@@ -92,8 +99,7 @@ impl<'a> Lexer<'a> {
     /// rules may have or the winner may lack; the same step on the sheet before its link tells the position.
     fn winner(&self, run: &Run, row: &Row) -> (String, usize) {
         let (numbers, stack) = run.clone().into_parts();
-        let mut unlinked = Run::from_parts(self.unlinked, run.text(), numbers, stack);
-        let Ok(Step::Token { id: position, range }) = unlinked.step(row) else {
+        let Ok(Step::Token { id: position, range }) = Run::from_parts(self.unlinked, numbers, stack).step(row) else {
             return Default::default();
         };
         let name = self.rules.get(usize::from(position)).and_then(|rule| rule.name.as_deref());
@@ -149,25 +155,7 @@ mod tests {
     fn entries_are_text() {
         let loaded = loaded("%%\na+ ;\n", &[]);
         let reading = Lexer::new(&loaded).read(&Entry::new(b"aa\xff".to_vec()));
-        assert_eq!((reading.end, reading.position), (End::Refused(Refusal::TextMismatch), 2));
-        assert_eq!(reading.moves.len(), 0);
-    }
-
-    #[test]
-    fn characters_of_every_length_are_read() {
-        let loaded = loaded("%%\n[aé] 'A'\n€+ ;\n😀.? 'B'\n", &[("A", 1), ("B", 2)]);
-        let lexer = Lexer::new(&loaded);
-        let entry = "aé€€😀é";
-        let reading = lexer.read(&Entry::new(entry.into()));
-        let moves: Vec<_> = reading
-            .moves
-            .iter()
-            .map(|made| (made.token.as_ref().map(|(_, id)| *id), &entry[made.range.clone()]))
-            .collect();
-        assert_eq!(moves, [(Some(1), "a"), (Some(1), "é"), (None, "€€"), (Some(2), "😀é")]);
-        assert_eq!(reading.end, End::Done);
-        let reading = lexer.read(&Entry::new("é😀€é?".into()));
-        assert_eq!((reading.end, reading.position), (End::Stopped, 11));
+        assert_eq!((reading.end, reading.position, reading.moves.len()), (End::NotText, 2, 0));
     }
 
     #[test]
@@ -178,9 +166,7 @@ mod tests {
         assert_eq!(end(&[b'a'; 4_096]), End::Done);
         assert_eq!(end(&[b'a'; 4_097]), End::Refused(Refusal::StartRefused));
         assert_eq!(end(&[255; 4_097]), End::Refused(Refusal::StartRefused));
-        // of a longer one only so many bytes are kept
-        let kept = Entry { bytes: vec![b'a'; 4_097], length: usize::MAX };
-        assert_eq!(lexer.read(&kept).end, End::Refused(Refusal::StartRefused));
+        assert_eq!(lexer.read(&Entry { bytes: vec![], length: usize::MAX }).end, End::Refused(Refusal::StartRefused));
         assert_eq!(end(&[]), End::Done);
     }
 }

@@ -7,7 +7,6 @@ use crate::message::painted_marks;
 use crate::paint::{Paint, Style};
 use crate::source::{grouped, marked, visible};
 use std::io::{self, Write};
-use troymantle::Refusal;
 
 /// Names, states and texts that are longer than this are not waited for by the columns.
 const WIDEST: usize = 24;
@@ -130,20 +129,17 @@ pub fn end_words(lexer: &Lexer, reading: &Reading) -> (&'static str, Option<Stri
         End::Done => ("done", None),
         End::Stopped => ("stopped", Some(format!("no rule of state {state} matches here"))),
         End::Unlinked(name, _) => ("unlinked", Some(format!("rule {} is not in the map", visible(name)))),
-        End::Refused(refusal @ Refusal::TextMismatch) => {
-            let (words, number) = (refusal.words(), refusal.number());
-            ("refused", Some(format!("{words} ({number}): the entry is not UTF-8 from here on")))
-        }
         End::Refused(refusal) => ("refused", Some(refusal.to_string())),
+        End::NotText => ("refused", Some("the entry is not UTF-8 from here on".to_string())),
     }
 }
 
 /// How many bytes at the position are marked, where an entry was not read to its end.
 fn marked_length(reading: &Reading) -> Option<usize> {
     match reading.end {
-        End::Stopped | End::Refused(Refusal::TextMismatch) => Some(0),
-        End::Unlinked(_, length) => Some(length),
         End::Done | End::Refused(_) => None,
+        End::Stopped | End::NotText => Some(0),
+        End::Unlinked(_, length) => Some(length),
     }
 }
 
@@ -170,13 +166,8 @@ fn end_object(lexer: &Lexer, number: usize, entry: &Entry, reading: &Reading) ->
             let object = object.text("name", name).number("start", reading.position).number("length", *length);
             with_states(object.text("text", text), lexer, &reading.stack)
         }
-        End::Refused(refusal) => {
-            let object = match refusal {
-                Refusal::TextMismatch => object.number("start", reading.position),
-                _ => object,
-            };
-            object.number("length", entry.length).number("number", usize::from(refusal.number()))
-        }
+        End::Refused(refusal) => object.number("length", entry.length).number("number", usize::from(refusal.number())),
+        End::NotText => object.number("start", reading.position).number("length", entry.length),
     };
     words.iter().fold(object, |object, words| object.text("message", words))
 }

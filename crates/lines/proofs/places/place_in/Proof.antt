@@ -7,6 +7,8 @@ pub place_in_spec : {M : Type 1} → statement M
 place_in_spec =
     tie.close
     (tie.spec
+    (λ c. search judging_offset)
+    (λ c κs. search judging_offset)
     (λ c κs. search judging_offset)
     (λ c. search judging_offset)
     (λ c κs. search judging_offset)

@@ -13,7 +13,5 @@ start_spec =
     (λ c. search starting)
     (λ c κs. search starting)
     (λ c. search starting)
-    (λ c κs. search starting)
-    (λ c. search starting)
     (λ c. search starting)
     (λ c. search starting))

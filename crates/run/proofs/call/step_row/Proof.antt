@@ -2,8 +2,7 @@
 -- definition.
 use native.Mathlib.Omega.{arith}
 use borrow.Author.Rules.{rules}
-use Rattle.input_check.proofs.Rows.{row_long}
-use Rattle.run.proofs.Fitting.{depth_inside, run_is, current_declared}
+use Rattle.run.proofs.Fitting.{depth_inside, run_is, current_declared, row_long}
 use Rattle.run.proofs.Stepping.{row_stopped, row_won, rule_inside, bytes_low, move_inside}
 use Rattle.run.proofs.call.step_row.Statement.{statement}
 use Rattle.run.proofs.call.step_row.Tie as tie

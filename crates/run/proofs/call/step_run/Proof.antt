@@ -1,9 +1,8 @@
 -- `run::call::step_run` meets its contract: each test is that of the definition, in its order.
 use mathlib.Core.Path.{sym, ◌∙◌}
 use borrow.Author.Rules.{rules}
-use Rattle.input_check.proofs.Rows.{row_low, told_fits, told_misfit}
-use Rattle.run.proofs.Fitting.{run_is}
-use Rattle.run.proofs.Stepping.{run_refused, run_done, run_ill, run_row, short_of, left_of_text}
+use Rattle.run.proofs.Fitting.{run_is, told_fits, told_misfit}
+use Rattle.run.proofs.Stepping.{run_refused, run_done, run_ill, run_row, short_of}
 use Rattle.run.proofs.call.step_run.Statement.{statement}
 use Rattle.run.proofs.call.step_run.Tie as tie
 
@@ -16,7 +15,7 @@ module _ (c : tie.Else2) where
   short-good-run = short-if1.before
 
   abbrev short-start : tie.Start
-  short-start = short-good-run.before.before.before.before.before.before.before.before
+  short-start = short-good-run.before.before.before.before.before.before.before
 
 -- places misfit of returns-2: row-top if2
 module _ (c : tie.After-enum-told) where
@@ -45,11 +44,6 @@ returns c =
 sub-row-top : tie.Need-overflow-sub-row-top
 sub-row-top c = let p = c.before in (run_is _ _ _ (sym (short-good-run p).good-run.ensures ∙ (short-if1 p).if1.true)).inside
 
-row-top-requires : tie.Need-row-top-requires
-row-top-requires c κs =
-    let p = c.before in
-    left_of_text _ _ _ (short-start p).args.text.now (sym (short-good-run p).good-run.ensures ∙ (short-if1 p).if1.true) (short-start p).requires.1
-
 returns-2 : tie.Need-returns-2
 returns-2 c =
     let p = misfit-if2 c in
@@ -61,7 +55,7 @@ step-row-requires c κs =
     let p = fits-if2 c in
     let good = sym (short-good-run p).good-run.ensures ∙ (short-if1 p).if1.taken in
     let row = told_fits _ _ _ _ (fits-row-top c).row-top.ensures _ (fits-top c).top.given.1 in
-    ((short-start p).pre.0, (good, (short_of _ _ _ good p.if2.left, row_low _ _ _ _ _ _ row)))
+    ((short-start p).pre, (good, (short_of _ _ _ good p.if2.left, row)))
 
 returns-3 : tie.Need-returns-3
 returns-3 c =
@@ -83,7 +77,7 @@ step_run_spec =
     (λ c. search rules)
     returns
     sub-row-top
-    row-top-requires
+    (λ c κs. search rules)
     (λ c. search rules)
     (λ c. search rules)
     (λ c. search rules)

@@ -7,11 +7,11 @@ use Rattle.run_cases.proofs.calls.each_line.Statement.{statement}
 use Rattle.run_cases.proofs.calls.each_line.Tie as tie
 
 abbrev invariant-loop : tie.invariant-loop
-invariant-loop src area1 area2₀ area3 area4 area5 counts₀ entry₀ run₀ stack₀ lines from₀ area2 counts entry run stack from =
-    (from ≤ length lines) × (length area2 ≡ length area2₀) × (length entry ≡ length entry₀) × (length stack ≡ length stack₀)
+invariant-loop src area1 area2₀ area3 area4 area5 counts₀ run₀ stack₀ lines from₀ area2 counts run stack from =
+    (from ≤ length lines) × (length area2 ≡ length area2₀) × (length stack ≡ length stack₀)
 
 abbrev decreases-loop : tie.decreases-loop
-decreases-loop src area1 area2₀ area3 area4 area5 counts₀ entry₀ run₀ stack₀ lines from₀ area2 counts entry run stack from = length lines - from
+decreases-loop src area1 area2₀ area3 area4 area5 counts₀ run₀ stack₀ lines from₀ area2 counts run stack from = length lines - from
 
 pub each_line_spec : {M : Type 1} → statement M
 each_line_spec =
@@ -25,7 +25,6 @@ each_line_spec =
     (λ c. search rules)
     (λ c. search rules)
     (λ c κs. search rules)
-    (λ c. search rules)
     (λ c. search rules)
     (λ c. search rules)
     (λ c. search rules)

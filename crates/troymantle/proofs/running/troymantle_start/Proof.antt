@@ -42,7 +42,7 @@ use Rattle.run.specs.contracts.Run as RunType
 use Rattle.run.proofs.Run.TheLaws as RunLaws
 use Rattle.borrow_proofs.proofs.Walking.{parts, tokens, nothings, together, have_nothings, called}
 use Rattle.borrow_proofs.proofs.Parameters.{Params, stays, machine, meets_by}
-use Rattle.call_proofs.proofs.Shapes.{Shape, number, slice, kept, given_slice, count, kept_at, kept_lifetime, given-at, params_of}
+use Rattle.call_proofs.proofs.Shapes.{Shape, number, kept, given_slice, count, kept_at, kept_lifetime, given-at, params_of}
 use Rattle.call_proofs.proofs.Tuples.{numbers_from, replaced-at, arg_at, args_with, vals_with, behind, from_behind, typed_from}
 use Rattle.call_proofs.proofs.Locals.{place_of, locals_allocated, params_stored, args_read, respelt, locals_released}
 use Rattle.call_proofs.proofs.Lending.{lfts_but, shares_but, but, with, taken_out, put_in, lent_opened, lent_closed}
@@ -59,7 +59,7 @@ use Rattle.troymantle.proofs.running.troymantle_start.Code as code
 
 -- the parameters, in order
 abbrev shapes : List Shape
-shapes = number ∷ slice ∷ kept RunType.the_row ∷ given_slice ∷ []
+shapes = number ∷ kept RunType.the_row ∷ given_slice ∷ []
 
 -- ---- from here on nothing depends on the parameters
 

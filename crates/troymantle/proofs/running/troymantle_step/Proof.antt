@@ -60,7 +60,7 @@ use Rattle.troymantle.proofs.running.troymantle_step.Code as code
 
 -- the parameters, in order
 abbrev shapes : List Shape
-shapes = slice ∷ slice ∷ slice ∷ slice ∷ slice ∷ slice ∷ shared (Array u16 6) ∷ slice ∷ kept RunType.the_row ∷ given_slice ∷ slice ∷ []
+shapes = slice ∷ slice ∷ slice ∷ slice ∷ slice ∷ slice ∷ shared (Array u16 6) ∷ kept RunType.the_row ∷ given_slice ∷ slice ∷ []
 
 -- ---- from here on nothing depends on the parameters
 

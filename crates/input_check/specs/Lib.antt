@@ -1,3 +1,0 @@
-pub mod InputCheck
-pub mod Top
-pub mod Computing
