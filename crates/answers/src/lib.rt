@@ -1,4 +1,6 @@
 // The number of each answer of the calls, and an answer as one word (01, Numbers given at the counter).
+#![tactic(auto)]
+
 ghost use Rattle.std.specs.Prelude.{◌≡◌};
 ghost use Rattle.answers.specs.Words.{fields, word};
 

@@ -1,11 +1,11 @@
--- Short words for contracts: what a reference refers to before the call and after it.
+-- Short words for contracts: what a reference that is lent for writing refers to before the call and after it.
 use Rattle.std.specs.Prelude.{ℕ, List}
-use Rattle.std.specs.Borrow.{Bor}
+use denote.MutBor.{MutBor}
 use denote.Triple.Both.{Both}
 
--- a parameter that is a slice of bytes, or a reference to an array of numbers
+-- a parameter that lends a slice of bytes, or an array of numbers, for writing
 abbrev pub Bytes : Type 0
-Bytes = Both (Bor (List ℕ)) (Bor (List ℕ))
+Bytes = Both (MutBor (List ℕ)) (MutBor (List ℕ))
 
 -- what it refers to before the call
 abbrev pub before : Bytes → List ℕ

@@ -1,4 +1,6 @@
 // The areas that a caller lends: records of two-byte fields, one after the other, and zeros behind them.
+#![tactic(auto)]
+
 ghost use Rattle.std.specs.Prelude.{◌≡◌, ◌++◌, ◌∷◌, [], ◌+◌, ◌*◌, ◌-◌, ◌≤◌, length, take, drop};
 ghost use Rattle.std.proofs.lemmas.List.Edits.{sets};
 ghost use Rattle.area.specs.Bytes.{two, bytes, zeros, field_at};
@@ -36,14 +38,14 @@ pub const MOST_RULES: usize = 2048;
 
 pub const MOST_OTHERS: usize = 65535;
 
-#[derive(Drop)]
+#[derive(Clone, Copy)]
 pub struct State {
     pub start: u16,
     pub end: u16,
     pub exclusive: u16,
 }
 
-#[derive(Drop)]
+#[derive(Clone, Copy)]
 pub struct Rule {
     pub has_id: u16,
     pub id: u16,
@@ -61,13 +63,13 @@ pub struct Rule {
     pub target: u16,
 }
 
-#[derive(Drop)]
+#[derive(Clone, Copy)]
 pub struct Expected {
     pub start: u16,
     pub end: u16,
 }
 
-#[derive(Drop)]
+#[derive(Clone, Copy)]
 pub struct Fault {
     pub number: u16,
     pub kind: u16,
@@ -76,7 +78,7 @@ pub struct Fault {
 }
 
 // Four fields in a row. Wide records are read and written by fours, so that no proof has to join more than five facts.
-#[derive(Drop)]
+#[derive(Clone, Copy)]
 struct Four {
     first: u16,
     second: u16,
@@ -85,7 +87,7 @@ struct Four {
 }
 
 // How many records there are afterwards, or that there was no room.
-#[derive(Drop)]
+#[derive(Clone, Copy)]
 pub enum Appended {
     Next(u16),
     Full,

@@ -1,4 +1,6 @@
 // The declarations of a lex file: start states and expected names (01, Declarations).
+#![tactic(auto)]
+
 mod line; // what a declaration's line says
 mod states; // the states that a line declares
 mod missing; // the expected names of a line
@@ -21,7 +23,7 @@ use states::declare_start_states;
 use text::range::lookahead_is;
 
 // A name in a declaration of states: of no good form; a repeat of the state with that span; or new.
-#[derive(Drop)]
+#[derive(Clone, Copy)]
 pub enum Naming {
     Malformed,
     Known(u16, u16),
@@ -29,7 +31,7 @@ pub enum Naming {
 }
 
 // A declaration's line: names of states (exclusive, from, to); expected names (from); or neither.
-#[derive(Drop)]
+#[derive(Clone, Copy)]
 pub enum Declaration {
     States(u16, usize, usize),
     Expecting(usize),
@@ -37,14 +39,14 @@ pub enum Declaration {
 }
 
 // How many states and fault spans there are.
-#[derive(Drop)]
+#[derive(Clone, Copy)]
 pub struct NameCounts {
     pub states: u16,
     pub faults: u16,
 }
 
 // What a step over areas 1 and 6 comes to.
-#[derive(Drop)]
+#[derive(Clone, Copy)]
 pub enum NameProgress {
     Go(usize, NameCounts),
     Bad(u16, u16, NameCounts),
@@ -52,7 +54,7 @@ pub enum NameProgress {
 }
 
 // How many states, expected names and fault spans there are.
-#[derive(Drop)]
+#[derive(Clone, Copy)]
 pub struct DeclarationCounts {
     pub states: u16,
     pub expected: u16,
@@ -60,7 +62,7 @@ pub struct DeclarationCounts {
 }
 
 // What a step over areas 1, 5 and 6 comes to.
-#[derive(Drop)]
+#[derive(Clone, Copy)]
 pub enum DeclarationProgress {
     Go(usize, DeclarationCounts),
     Bad(u16, u16, DeclarationCounts),
@@ -79,7 +81,7 @@ fn parse_declaration(
 ) -> DeclarationProgress
     requires i_le_e { ((i ≤ e) × (e ≤ length src.now)) × (length src.now ≤ 65535) }
     requires held_declared { HeldDeclared area1.old area5.old area6.old q }
-    ensures { DoesDeclared (λ k. declaration (before src) k i e) area1 area5 area6 q result }
+    ensures { DoesDeclared (λ k. declaration src.now k i e) area1 area5 area6 q result }
 {
     let states = q.states;
     let expected = q.expected;
@@ -147,7 +149,7 @@ pub fn parse_declarations(
 ) -> DeclarationProgress
     requires i_in_bounds { (i ≤ length src.now) × (length src.now ≤ 65535) }
     requires held_declared { HeldDeclared area1.old area5.old area6.old q }
-    ensures { DoesDeclared (λ k. declarations (before src) (options flags) k i) area1 area5 area6 q result }
+    ensures { DoesDeclared (λ k. declarations src.now (options flags) k i) area1 area5 area6 q result }
 {
     let mut line = next_declaration(src, flags, i);
     let mut counts = q;

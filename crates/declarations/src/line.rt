@@ -20,7 +20,7 @@ fn is_alphanumeric(b: u8) -> bool
 // Whether the bytes from a to before e are all letters or digits.
 fn all_alphanumeric(src: &[u8], a: usize, e: usize) -> bool
     requires { (a ≤ e) × (e ≤ length src.now) }
-    ensures { result ≡ all_bytes is_alphanumeric (before src) a e }
+    ensures { result ≡ all_bytes is_alphanumeric src.now a e }
 {
     let mut k = a;
     while k < e {
@@ -35,7 +35,7 @@ fn all_alphanumeric(src: &[u8], a: usize, e: usize) -> bool
 // Whether the word from i to w is `%`, one of two letters, and letters or digits.
 fn declares_with(src: &[u8], x: u8, y: u8, i: usize, w: usize) -> bool
     requires { (i ≤ w) × (w ≤ length src.now) }
-    ensures { result ≡ declares x y (before src) (range i w) }
+    ensures { result ≡ declares x y src.now (range i w) }
 {
     if w - i < 2 {
         return false;
@@ -50,7 +50,7 @@ fn declares_with(src: &[u8], x: u8, y: u8, i: usize, w: usize) -> bool
 // The names from r to e, trimmed. Without names it is no declaration of states.
 fn states_from(src: &[u8], exclusive: u16, r: usize, e: usize) -> Declaration
     requires { (r ≤ e) × (e ≤ length src.now) }
-    ensures { result ≡ states_of exclusive (trimmed (before src) (range r e)) }
+    ensures { result ≡ states_of exclusive (trimmed src.now (range r e)) }
 {
     let a = trim_start(src, r, e);
     let t = trim_end(src, a, e);
@@ -63,7 +63,7 @@ fn states_from(src: &[u8], exclusive: u16, r: usize, e: usize) -> Declaration
 // The line whose first word stands from i to w, and whose rest from r to e.
 fn declaration_by(src: &[u8], i: usize, e: usize, w: usize, r: usize) -> Declaration
     requires { ((i ≤ w) × (w ≤ e)) × ((r ≤ e) × (e ≤ length src.now)) }
-    ensures { result ≡ declaration_by (before src) (range i w) (range r e) }
+    ensures { result ≡ declaration_by src.now (range i w) (range r e) }
 {
     if declares_with(src, b's', b'S', i, w) {
         return states_from(src, 0, r, e);
@@ -80,7 +80,7 @@ fn declaration_by(src: &[u8], i: usize, e: usize, w: usize, r: usize) -> Declara
 // The line from i to e. One that is only the word once trimmed has no rest.
 pub fn declaration_of(src: &[u8], i: usize, e: usize) -> Declaration
     requires { (i ≤ e) × (e ≤ length src.now) }
-    ensures { result ≡ declaration_of (before src) (range i e) }
+    ensures { result ≡ declaration_of src.now (range i e) }
 {
     let t = trim_end(src, i, e);
     let w = find_whitespace(src, i, e);

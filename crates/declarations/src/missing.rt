@@ -13,7 +13,7 @@ use text::scan::{find_ascii_whitespace, skip_ascii_whitespace};
 
 fn is_quoted(src: &[u8], a: usize, e: usize) -> bool
     requires { (a ≤ e) × (e ≤ length src.now) }
-    ensures { result ≡ is_quoted (before src) (range a e) }
+    ensures { result ≡ is_quoted src.now (range a e) }
 {
     if e - a < 2 {
         return false;
@@ -25,7 +25,7 @@ fn is_quoted(src: &[u8], a: usize, e: usize) -> bool
 fn next_expected(src: &[u8], i: u16, e: usize, a: usize, area: &mut [u8], n: u16) -> Progress
     requires a_lt_e { ((a < e) × (e ≤ length src.now)) × (length src.now ≤ 65535) }
     requires held { Held expected_format area.old n }
-    ensures { DoesRecords expected_format (λ c5. declare_expected (before src) c5 (range i e) (range a (find_ascii_whitespace (before src) a e))) area n result }
+    ensures { DoesRecords expected_format (λ c5. declare_expected src.now c5 (range i e) (range a (find_ascii_whitespace src.now a e))) area n result }
 {
     let end = find_ascii_whitespace(src, a, e);
     if is_quoted(src, a, end) {
@@ -45,7 +45,7 @@ fn next_expected(src: &[u8], i: u16, e: usize, a: usize, area: &mut [u8], n: u16
 pub fn expected_names(src: &[u8], i: u16, e: usize, w: usize, area: &mut [u8], n: u16) -> Progress
     requires w_le_e { ((w ≤ e) × (e ≤ length src.now)) × (length src.now ≤ 65535) }
     requires held { Held expected_format area.old n }
-    ensures { DoesRecords expected_format (λ c5. expected_names (before src) c5 (range i e) w) area n result }
+    ensures { DoesRecords expected_format (λ c5. expected_names src.now c5 (range i e) w) area n result }
 {
     let mut a = skip_ascii_whitespace(src, w, e);
     let mut count = n;

@@ -19,7 +19,7 @@ use text::scan::find_whitespace;
 fn validate_start_state(src: &[u8], a: usize, e: usize, area: &[u8], n: u16) -> Naming
     requires e_in_bounds { e ≤ length src.now }
     requires held { Held state_format area.now n }
-    ensures { result ≡ naming_of (before src) a e (contents state_format (before area) n) }
+    ensures { result ≡ naming_of src.now a e (contents state_format area.now n) }
 {
     if validate_start_state_name(src, a, e) {
         let j = get_start_state_by_name(src, a, e, area, n);
@@ -45,7 +45,7 @@ fn declare_state(
 ) -> NameProgress
     requires a_le_e { ((a ≤ e) × (e ≤ length src.now)) × (length src.now ≤ 65535) }
     requires held_names { HeldNames area1.old area6.old q }
-    ensures { DoesNames (λ k. declare_state (before src) k (state a e exclusive)) area1 area6 q result }
+    ensures { DoesNames (λ k. declare_state src.now k (state a e exclusive)) area1 area6 q result }
 {
     let next = e + whitespace_len(src, e);
     let states = q.states;
@@ -106,7 +106,7 @@ pub fn declare_start_states(
 ) -> NameProgress
     requires t_in_bounds { (t ≤ length src.now) × (length src.now ≤ 65535) }
     requires held_names { HeldNames area1.old area6.old q }
-    ensures { DoesNames (λ k. state_names (before src) k exclusive (range a t)) area1 area6 q result }
+    ensures { DoesNames (λ k. state_names src.now k exclusive (range a t)) area1 area6 q result }
 {
     let mut at = a;
     let mut counts = q;

@@ -1,4 +1,6 @@
 // A pattern's escapes: whether one of them is rewritten, and the rewritten text, appended to the text area (01, Rules).
+#![tactic(auto)]
+
 ghost use Rattle.std.specs.Prelude.{◌≡◌, ◌+◌, ◌≤◌, ◌<◌, length};
 ghost use Rattle.characters.specs.Class.{ClassTable};
 ghost use Rattle.characters.specs.Walk.{Between};
@@ -221,8 +223,8 @@ fn push_piece(
 pub fn unescape(src: &[u8], flags: u64, i: usize, c: usize, area: &mut [u8], n: u16) -> Appended
     requires i_le_c { (i ≤ c) × (c ≤ length src.now) }
     requires held { Held text_format area.old n }
-    ensures { Grows text_format (append text_format (length (before area)) (unescaped (before src) flags i c))
-        (before area) n result (after area) }
+    ensures { Grows text_format (append text_format (length area.old) (unescaped src.now flags i c))
+        area.old n result area.new }
 {
     let classes = &CLASS;
     let z = rewritten_end(src, i, c);

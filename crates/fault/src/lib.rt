@@ -1,4 +1,6 @@
 // The fault area: a fault appended, and the span of a repeated name inserted behind the last span of its fault (01, Areas, 6).
+#![tactic(auto)]
+
 pub mod kinds; // the kinds of faults
 
 ghost use Rattle.std.specs.Prelude.{◌≡◌, ◌<◌, length};
@@ -13,7 +15,7 @@ use area::{
 
 // What a step over one area comes to, with the count of the area's records: on at a place; a fault of a kind at a place ends parsing; or the
 // area of a number is full.
-#[derive(Drop)]
+#[derive(Clone, Copy)]
 pub enum Progress {
     Go(usize, u16),
     Bad(u16, u16, u16),
@@ -21,7 +23,7 @@ pub enum Progress {
 }
 
 // Where a name stands in the source.
-#[derive(Drop)]
+#[derive(Clone, Copy)]
 pub struct Span {
     pub start: u16,
     pub end: u16,
@@ -140,8 +142,8 @@ fn add_span(area: &mut [u8], n: u16, j: usize, start: u16, end: u16) -> Appended
 // A fault of two spans behind the others: that of the name at first, and that of its first repeat. Both fit, or none is written.
 fn add_pair(area: &mut [u8], n: u16, kind: u16, first: Span, second: Span) -> Appended
     requires { HeldFaults area.old n }
-    ensures { GrowsFaults (add_pair (length (before area)) kind first.start first.end second.start second.end)
-        (before area) n result (after area) }
+    ensures { GrowsFaults (add_pair (length area.old) kind first.start first.end second.start second.end)
+        area.old n result area.new }
 {
     let count = n as usize;
     if has_room(area.len(), FAULT_WIDTH, MOST_OTHERS, count, 2) {
@@ -175,8 +177,8 @@ pub fn add_duplicate_occurrence(
     second: Span,
 ) -> Appended
     requires { HeldFaults area.old n }
-    ensures { GrowsFaults (add_repeat (length (before area)) kind first.start first.end second.start second.end)
-        (before area) n result (after area) }
+    ensures { GrowsFaults (add_repeat (length area.old) kind first.start first.end second.start second.end)
+        area.old n result area.new }
 {
     let start = first.start;
     let end = first.end;

@@ -4,7 +4,6 @@ use Rattle.std.specs.Prelude.{◌≡◌, ℕ, ◌+◌, ◌*◌, ◌%◌, ◌<◌
 use Rattle.area.specs.declared.Rule.{Rule}
 use Rattle.area.specs.Bytes.{field_from}
 use Rattle.area.specs.Records.{rule_at, entry_at}
-use Rattle.area.specs.Phrases.{Bytes, before}
 use Rattle.lanes.specs.declared.Lane.{Lane}
 
 -- how many lanes there are
@@ -39,9 +38,9 @@ pub record Limits : Type 0 where
   pub more : List ℕ
 
 -- the limits, as they are lent
-abbrev pub limits_in : Bytes → Bytes → Bytes → Bytes → Bytes → Limits
+abbrev pub limits_in : List ℕ → List ℕ → List ℕ → List ℕ → List ℕ → Limits
 limits_in heres order lasts sums more =
-    record { heres = before heres; order = before order; lasts = before lasts; sums = before sums; more = before more }
+    record { heres = heres; order = order; lasts = lasts; sums = sums; more = more }
 
 -- lane j of the rule at a place keeps its limits
 module _ (l : List ℕ) (limits : Limits) (at j : ℕ) where

@@ -1,6 +1,8 @@
 // Quick tests of the rules and the list entries of a sheet, eight fields at a time. The compiler makes one vector of each eight, so every
 // lane does what every other does, and a field that is not asked for has no limit. Where a test passes, every record keeps the limits; where
 // it does not, nothing is known.
+#![tactic(auto)]
+
 ghost use Rattle.std.specs.Prelude.{◌≡◌, ◌+◌, ◌-◌, ◌*◌, ◌%◌, ◌≤◌, min, true, length};
 ghost use Rattle.area.specs.Records.{rule_width, entry_width};
 ghost use Rattle.area.specs.Phrases.{before, after};
@@ -15,7 +17,7 @@ const ANY: u16 = 65535;
 const LANES: usize = 8;
 
 // The fields of a lane: the one at a place, and those 1, 4, 5 and 6 fields behind it.
-#[derive(Drop)]
+#[derive(Clone, Copy)]
 struct Lane {
     here: u16,
     next: u16,
@@ -57,7 +59,7 @@ fn wrapping_mul(x: u16, y: u16) -> u16
 
 fn read_lane(area: &[u8], at: usize, j: usize) -> Lane
     requires { at + 2 * j + 14 ≤ length area.now }
-    ensures { result ≡ lane_at (before area) at j }
+    ensures { result ≡ lane_at area.now at j }
 {
     let first = at + 2 * j;
     Lane {
@@ -103,8 +105,8 @@ fn join(
 )
     requires rule_width_in_bounds { at + rule_width ≤ length area.now }
     requires fields_len { (length fields.old ≡ lane_count) × (length totals.old ≡ lane_count) }
-    ensures { Joined (before area) (limits_in heres order lasts sums more) at lane_count
-        (before fields) (before totals) (after fields) (after totals) }
+    ensures { Joined area.now (limits_in heres.now order.now lasts.now sums.now more.now) at lane_count
+        fields.old totals.old fields.new totals.new }
 {
     let mut j = 0;
     while j < LANES {
@@ -118,7 +120,7 @@ fn join(
 // Whether each number of both is 0.
 fn all_zero(fields: &[u16; 8], totals: &[u16; 8]) -> bool
     requires { (length fields.now ≡ lane_count) × (length totals.now ≡ lane_count) }
-    ensures { result ≡ true → AllZero (before fields) (before totals) }
+    ensures { result ≡ true → AllZero fields.now totals.now }
 {
     let mut joint = 0;
     let mut j = 0;
@@ -144,7 +146,7 @@ pub fn quick_rules(
 ) -> bool
     requires rule_width_in_bounds { count * rule_width ≤ length area.now }
     requires source_bound { (source ≤ 65534) × (entries ≤ 65534) × (text ≤ 65534) }
-    ensures { result ≡ true → RulesWithin (before area) count source highest entries text }
+    ensures { result ≡ true → RulesWithin area.now count source highest entries text }
 {
     let heres = [1, ANY, 1, 0, source, ANY, ANY, 1];
     let order = [0, 0, 0, ANY, 0, 0, 0, 0];
@@ -177,7 +179,7 @@ pub fn quick_rules(
 // One loop of eight without a branch, which the compiler makes one vector.
 fn eight_within(area: &[u8], from: usize, highest: u16) -> bool
     requires { (from + lane_count) * entry_width ≤ length area.now }
-    ensures { result ≡ true → EntriesWithin (before area) from (from + lane_count) highest }
+    ensures { result ≡ true → EntriesWithin area.now from (from + lane_count) highest }
 {
     let mut excess = 0;
     let mut j = 0;
@@ -190,7 +192,7 @@ fn eight_within(area: &[u8], from: usize, highest: u16) -> bool
 
 fn rest_within(area: &[u8], from: usize, most: usize, highest: u16) -> bool
     requires { (from ≤ most) × (most * entry_width ≤ length area.now) }
-    ensures { result ≡ true → EntriesWithin (before area) from most highest }
+    ensures { result ≡ true → EntriesWithin area.now from most highest }
 {
     let mut k = from;
     while k < most {
@@ -205,7 +207,7 @@ fn rest_within(area: &[u8], from: usize, most: usize, highest: u16) -> bool
 // It leaves at the first eight that do not pass, so that the compiler does not gather one entry of each eight.
 pub fn entries_within(area: &[u8], count: u16, highest: u16) -> bool
     requires { count * entry_width ≤ length area.now }
-    ensures { result ≡ true → EntriesWithin (before area) 0 count highest }
+    ensures { result ≡ true → EntriesWithin area.now 0 count highest }
 {
     let most = count as usize;
     let blocks = most / LANES;

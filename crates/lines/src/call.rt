@@ -12,7 +12,7 @@ use characters::utf8::utf8;
 
 // The line and column of an offset.
 pub fn line_column(src: &[u8], byte: Byte) -> LineColumn
-    ensures { result ≡ line_column (before src) byte.0 }
+    ensures { result ≡ line_column src.now byte.0 }
 {
     if src.len() > MOST_SOURCE {
         return LineColumn::LongFile;
@@ -25,7 +25,7 @@ pub fn line_column(src: &[u8], byte: Byte) -> LineColumn
 
 // The offset of a line and column.
 pub fn offset_at(src: &[u8], place: Place) -> OffsetAt
-    ensures { result ≡ offset_at (before src) place }
+    ensures { result ≡ offset_at src.now place }
 {
     if src.len() > MOST_SOURCE {
         return OffsetAt::LongFile;
@@ -39,7 +39,7 @@ pub fn offset_at(src: &[u8], place: Place) -> OffsetAt
 // Writes the line and column that are known; where they are not, what is lent stays as it was.
 pub fn write_place(found: LineColumn, place: &mut [u32; 2])
     requires { SmallPlace found }
-    ensures { after place ≡ place_left found (before place) }
+    ensures { place.new ≡ place_left found place.old }
 {
     match found {
         LineColumn::Known(p) => {

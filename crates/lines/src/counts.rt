@@ -27,7 +27,7 @@ fn one_if(t: bool) -> u8
 // How many lines end there.
 pub fn line_ends(s: &[u8], from: Byte, to: Byte) -> u8
     requires { ShortRange s.now from.0 to.0 }
-    ensures { result ≡ count (ends_line (before s)) from.0 to.0 }
+    ensures { result ≡ count (ends_line s.now) from.0 to.0 }
 {
     let e = to.0;
     let mut k = from.0;
@@ -42,7 +42,7 @@ pub fn line_ends(s: &[u8], from: Byte, to: Byte) -> u8
 // How many characters start there.
 pub fn characters(s: &[u8], from: Byte, to: Byte) -> u8
     requires { ShortRange s.now from.0 to.0 }
-    ensures { result ≡ count (at_edge (before s)) from.0 to.0 }
+    ensures { result ≡ count (at_edge s.now) from.0 to.0 }
 {
     let e = to.0;
     let mut k = from.0;
@@ -57,7 +57,7 @@ pub fn characters(s: &[u8], from: Byte, to: Byte) -> u8
 // The column of an offset whose line starts there.
 pub fn col_num(s: &[u8], start: LineByte, byte: Byte) -> ColNum
     requires { ShortRange s.now start.0 byte.0 }
-    ensures { result.0 ≡ 1 + count (at_edge (before s)) start.0 byte.0 }
+    ensures { result.0 ≡ 1 + count (at_edge s.now) start.0 byte.0 }
 {
     ColNum(1 + characters(s, Byte(start.0), byte) as u64)
 }
@@ -65,7 +65,7 @@ pub fn col_num(s: &[u8], start: LineByte, byte: Byte) -> ColNum
 // Where the line starts that follows the last line end there; 0 where no line ends there.
 pub fn line_byte(s: &[u8], from: Byte, to: Byte) -> LineByte
     requires { ShortRange s.now from.0 to.0 }
-    ensures { result.0 ≡ behind_end (last (ends_line (before s)) from.0 to.0) }
+    ensures { result.0 ≡ behind_end (last (ends_line s.now) from.0 to.0) }
 {
     let i = from.0;
     let mut k = to.0;

@@ -28,7 +28,7 @@ pub fn place_behind(s: &[u8], here: Place, from: Byte, to: Byte) -> Place
     requires short_range { ShortRange s.now from.0 to.0 }
     requires s_len_bound { length s.now ≤ most_source }
     requires here_value { here ≡ place_at s.now from.0 }
-    ensures { result ≡ place_at (before s) to.0 }
+    ensures { result ≡ place_at s.now to.0 }
 {
     let ended = line_ends(s, from, to);
     let line_num = here.line_num;
@@ -51,7 +51,7 @@ pub fn place_behind(s: &[u8], here: Place, from: Byte, to: Byte) -> Place
 fn place_of(s: &[u8], byte: Byte) -> Place
     requires s_len_bound { length s.now ≤ most_source }
     requires byte_in_bounds { byte.0 ≤ length s.now }
-    ensures { result ≡ place_at (before s) byte.0 }
+    ensures { result ≡ place_at s.now byte.0 }
 {
     let e = byte.0;
     let mut k = 0;
@@ -67,7 +67,7 @@ fn place_of(s: &[u8], byte: Byte) -> Place
 // The place of an offset of a text; number 11 above its length and inside a character.
 pub fn place_in(s: &[u8], byte: Byte) -> LineColumn
     requires { length s.now ≤ most_source }
-    ensures { result ≡ place_in (before s) byte.0 }
+    ensures { result ≡ place_in s.now byte.0 }
 {
     let b = byte.0;
     if b > s.len() {

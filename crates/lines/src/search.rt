@@ -10,7 +10,7 @@ use crate::places::{BLOCK, first_place, place_behind};
 use crate::{Byte, OffsetAt, Place};
 
 // An offset, and its place.
-#[derive(Drop)]
+#[derive(Clone, Copy)]
 pub struct Reached {
     pub byte: Byte,
     pub place: Place,
@@ -32,7 +32,7 @@ fn pass_by(s: &[u8], width: usize, reached: Reached, sought: Place) -> Reached
     requires width_nonzero { (0 < width) × (width ≤ 64) }
     requires s_len_bound { length s.now ≤ most_source }
     requires reaches { Reaches s.now sought reached }
-    ensures { Passes (before s) sought width result }
+    ensures { Passes s.now sought width result }
 {
     let start = reached.byte;
     let mut k = start.0;
@@ -58,7 +58,7 @@ fn pass_by(s: &[u8], width: usize, reached: Reached, sought: Place) -> Reached
 // The offset that stands at a place.
 pub fn offset_of(s: &[u8], sought: Place) -> OffsetAt
     requires { length s.now ≤ most_source }
-    ensures { result ≡ offset_in (before s) sought }
+    ensures { result ≡ offset_in s.now sought }
 {
     let start = first_place();
     if is_past(start, sought) {

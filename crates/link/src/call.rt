@@ -47,8 +47,8 @@ fn write_all(
     requires area7_value { fits (unmapped (name_of src.now) (entries_of names.now entries.now) (contents rule_format area2.old rules)) area7.old
         ≡ true }
     requires area8_value { fits (unmarked used.now (entry_count entries.now)) area8.old ≡ true }
-    ensures { link_left result (after area2) (after area7) (after area8)
-        ≡ link_all (rule_names_in src) (Linked unmapped_count unused_count) (rules_in area2 rules) (map_in names entries) (before area2) (before area7) (before area8) }
+    ensures { link_left result area2.new area7.new area8.new
+        ≡ link_all (rule_names_in src.now) (Linked unmapped_count unused_count) (rules_in area2.old rules) (map_in names.now entries.now) area2.old area7.old area8.old }
 {
     clear(area8);
     write_unused(used, entries.len() / MAP_WIDTH, area8);
@@ -72,8 +72,8 @@ fn link_checked(
     requires entry_index { EntryIndex names.now entries.now entry_slots.now }
     requires rules_le_most_rules { (rules ≤ most_rules) × (rules * rule_width ≤ length area2.old) }
     requires entries_bound { entry_count entries.now ≤ most_entries }
-    ensures { link_left result (after area2) (after area7) (after area8)
-        ≡ link_checked (rule_names_in src) (rules_in area2 rules) (map_in names entries) (before area2) (before area7) (before area8) }
+    ensures { link_left result area2.new area7.new area8.new
+        ≡ link_checked (rule_names_in src.now) (rules_in area2.old rules) (map_in names.now entries.now) area2.old area7.old area8.old }
 {
     let mut found = [0; MOST_RULES];
     let mut used = [0; MOST_ENTRIES];
@@ -123,8 +123,8 @@ pub fn set_rule_ids_spanned(
     area7: &mut [u8],
     area8: &mut [u8],
 ) -> LinkAnswer
-    ensures { link_left result (after area2) (after area7) (after area8)
-        ≡ link_call (sheet_in src area1 area2 area3 area4 area5 counts) (before names) (before entries) (before area7) (before area8) }
+    ensures { link_left result area2.new area7.new area8.new
+        ≡ link_call (sheet_in src.now area1.now area2.old area3.now area4.now area5.now counts.now) names.now entries.now area7.old area8.old }
 {
     if !check(src, area1, area2, area3, area4, area5, counts) {
         return LinkAnswer::BrokenSheet;

@@ -16,7 +16,7 @@ use name_map::map::MAP_WIDTH;
 // The entry with a rule's name, or the number of entries.
 fn entry_of(src: &[u8], names: &[u8], entries: &[u8], slots: &[u16], x: Rule) -> usize
     requires { EntryIndex names.now entries.now slots.now }
-    ensures { Between 0 (entry_count (before entries)) (find_entry (map_in names entries) (rule_names_in src x)) result }
+    ensures { Between 0 (entry_count entries.now) (find_entry (map_in names.now entries.now) (rule_names_in src.now x)) result }
 {
     let from = x.name_from as usize;
     find_by(
@@ -45,7 +45,7 @@ pub fn match_rules(
     requires entries_bound { entry_count entries.now ≤ most_entries }
     requires found_len { length found.old ≡ most_rules }
     requires used_value { used.old ≡ replicate most_entries 0 }
-    ensures { Matched (rule_names_in src) (before names) (before entries) (before area) count result (after found) (after used) }
+    ensures { Matched (rule_names_in src.now) names.now entries.now area.now count result found.new used.new }
 {
     let most = entries.len() / MAP_WIDTH;
     let mut n = 0;

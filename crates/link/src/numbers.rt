@@ -18,7 +18,7 @@ pub const NUMBER_WIDTH: usize = 2;
 // Number n of an area.
 fn write_number(into: &mut [u8], n: u16, number: u16)
     requires { n * entry_width + entry_width ≤ length into.old }
-    ensures { after into ≡ sets (before into) (n * entry_width) (entry_bytes number) }
+    ensures { into.new ≡ sets into.old (n * entry_width) (entry_bytes number) }
 {
     write_field(into, n as usize * NUMBER_WIDTH, number);
 }
@@ -34,7 +34,7 @@ pub fn write_unlinked(area: &[u8], count: u16, into: &mut [u8])
     requires rule_width_in_bounds { count * rule_width ≤ length area.now }
     requires into_value { into.old ≡ zeros (length into.old) }
     requires into_value_2 { fits (unlinked (contents rule_format area.now count)) into.old ≡ true }
-    ensures { after into ≡ laid entry_format (length (before into)) (unlinked (rules_in area count)) }
+    ensures { into.new ≡ laid entry_format (length into.old) (unlinked (rules_in area.now count)) }
 {
     let mut n = 0;
     let mut k = 0;
@@ -53,7 +53,7 @@ pub fn write_unlinked(area: &[u8], count: u16, into: &mut [u8])
 // How many of so many entries have no mark.
 pub fn count_unused(used: &[u8], most: usize) -> u16
     requires { (most ≤ most_entries) × (most ≤ length used.now) }
-    ensures { result ≡ length (unmarked (before used) most) }
+    ensures { result ≡ length (unmarked used.now most) }
 {
     let mut n = 0;
     let mut j = 0;
@@ -73,7 +73,7 @@ pub fn write_unused(used: &[u8], most: usize, into: &mut [u8])
     requires most_le_most_entries { (most ≤ most_entries) × (most ≤ length used.now) }
     requires into_value { into.old ≡ zeros (length into.old) }
     requires into_value_2 { fits (unmarked used.now most) into.old ≡ true }
-    ensures { after into ≡ laid entry_format (length (before into)) (unmarked (before used) most) }
+    ensures { into.new ≡ laid entry_format (length into.old) (unmarked used.now most) }
 {
     let mut n = 0;
     let mut j = 0;

@@ -24,7 +24,7 @@ fn with_id(x: Rule, has: u16, id: u16) -> Rule
 
 // A named rule gets the id of entry j of a map, or none where there is no entry j.
 fn link_rule(names: &[u8], entries: &[u8], j: u16, x: Rule) -> Rule
-    ensures { result ≡ link_to (map_in names entries) j x }
+    ensures { result ≡ link_to (map_in names.now entries.now) j x }
 {
     if x.named != 1 {
         return x;
@@ -49,7 +49,7 @@ pub fn link_rules(
 )
     requires count_le_most_rules { (count ≤ most_rules) × (count * rule_width ≤ length area.old) }
     requires entries_found { EntriesFound (name_of src.now) (entries_of names.now entries.now) area.old count found.now }
-    ensures { after area ≡ relaid rule_format (before area) (link_rules (rule_names_in src) (map_in names entries) (rules_in area count)) }
+    ensures { area.new ≡ relaid rule_format area.old (link_rules (rule_names_in src.now) (map_in names.now entries.now) (rules_in area.old count)) }
 {
     let mut k = 0;
     while k < count {

@@ -10,7 +10,7 @@ use std::num::wrapping_add_u32;
 use text::range::part_len;
 
 // The sum of the numbers so far, and the sum of these sums.
-#[derive(Drop)]
+#[derive(Clone, Copy)]
 struct Checksum {
     sum: u32,
     sums: u32,
@@ -29,7 +29,7 @@ fn add_number(c: Checksum, number: u32) -> Checksum
 // Four bytes as a number, the low one first.
 fn word_at(text: &[u8], i: usize) -> u32
     requires { i + 4 ≤ length text.now }
-    ensures { result ≡ word_at (before text) i }
+    ensures { result ≡ word_at text.now i }
 {
     let low = read_field(text, i) as u32;
     let high = read_field(text, i + 2) as u32;
@@ -38,7 +38,7 @@ fn word_at(text: &[u8], i: usize) -> u32
 
 fn add_words(text: &[u8], a: usize, count: usize, c: Checksum) -> Checksum
     requires { 4 * count ≤ length text.now - a }
-    ensures { result ≡ add_words (before text) a count c }
+    ensures { result ≡ add_words text.now a count c }
 {
     let mut x = c;
     let mut k = 0;
@@ -51,7 +51,7 @@ fn add_words(text: &[u8], a: usize, count: usize, c: Checksum) -> Checksum
 
 fn add_bytes(text: &[u8], a: usize, count: usize, c: Checksum) -> Checksum
     requires { count ≤ length text.now - a }
-    ensures { result ≡ add_bytes (before text) a count c }
+    ensures { result ≡ add_bytes text.now a count c }
 {
     let mut x = c;
     let mut k = 0;
@@ -71,7 +71,7 @@ fn mix(h: u32, number: u32) -> u32
 
 // The home of the bytes of a text from a to e: their number, then four bytes at a time, then the rest one by one.
 pub fn home_of(text: &[u8], a: usize, e: usize) -> usize
-    ensures { Home (part (before text) a e) result }
+    ensures { Home (part text.now a e) result }
 {
     let n = part_len(text.len(), a, e);
     let start = Checksum {

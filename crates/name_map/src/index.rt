@@ -19,7 +19,7 @@ pub const SLOTS: usize = 4608;
 pub const MOST_ENTRIES: usize = 2048;
 
 // What the search for a name comes to: a slot that is free for it, the entry that has it, or the end of the slots.
-#[derive(Drop)]
+#[derive(Clone, Copy)]
 enum Probed {
     Free(usize),
     Found(usize),
@@ -28,7 +28,7 @@ enum Probed {
 
 fn read_slot(slots: &[u16], at: usize) -> u16
     requires { at < length slots.now }
-    ensures { result ≡ slice_index (before slots) at }
+    ensures { result ≡ slice_index slots.now at }
 {
     slots[at]
 }
@@ -45,7 +45,7 @@ fn probe(
 ) -> Probed
     requires n_bound { n ≤ entry_count entries.now }
     requires entry_slots { EntrySlots (entries_of names.now entries.now) n slots.now }
-    ensures { Probes (map_in names entries) n (before slots) (part (before text) a e) result }
+    ensures { Probes (map_in names.now entries.now) n slots.now (part text.now a e) result }
 {
     let mut p = home_of(text, a, e);
     while p < SLOTS {
@@ -69,7 +69,7 @@ fn index_entry(names: &[u8], entries: &[u8], slots: &mut [u16], j: usize) -> boo
     requires entries_bound { entry_count entries.now ≤ most_entries }
     requires j_bound { j < entry_count entries.now }
     requires entry_slots { EntrySlots (entries_of names.now entries.now) j slots.old }
-    ensures { EntryIndexed (map_in names entries) j result (after slots) }
+    ensures { EntryIndexed (map_in names.now entries.now) j result slots.new }
 {
     let x = read_map_entry(entries, j);
     let from = x.name_from as usize;
@@ -88,7 +88,7 @@ fn index_entry(names: &[u8], entries: &[u8], slots: &mut [u16], j: usize) -> boo
 fn index_entries(names: &[u8], entries: &[u8], slots: &mut [u16]) -> bool
     requires entries_bound { entry_count entries.now ≤ most_entries }
     requires slots_value { slots.old ≡ replicate slot_count 0 }
-    ensures { EntriesIndexed (before names) (before entries) result (after slots) }
+    ensures { EntriesIndexed names.now entries.now result slots.new }
 {
     let n = entries.len() / MAP_WIDTH;
     let mut j = 0;
@@ -104,7 +104,7 @@ fn index_entries(names: &[u8], entries: &[u8], slots: &mut [u16]) -> bool
 // The map check, and the slots of a map that passes. The number of entries first, so that few names are compared.
 pub fn check_map(names: &[u8], entries: &[u8], slots: &mut [u16]) -> bool
     requires { slots.old ≡ replicate slot_count 0 }
-    ensures { MapChecked (before names) (before entries) result (after slots) }
+    ensures { MapChecked names.now entries.now result slots.new }
 {
     if entries.len() % MAP_WIDTH != 0 {
         return false;
@@ -130,7 +130,7 @@ pub fn find_by(
     e: usize,
 ) -> usize
     requires { EntryIndex names.now entries.now slots.now }
-    ensures { Between 0 (entry_count (before entries)) (find_entry (map_in names entries) (part (before text) a e)) result }
+    ensures { Between 0 (entry_count entries.now) (find_entry (map_in names.now entries.now) (part text.now a e)) result }
 {
     match probe(names, entries, slots, entries.len() / MAP_WIDTH, text, a, e) {
         Probed::Free(_) => entries.len() / MAP_WIDTH,

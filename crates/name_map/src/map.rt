@@ -17,7 +17,7 @@ pub const MAP_WIDTH: usize = 6;
 
 pub fn read_map_entry(entries: &[u8], k: usize) -> MapEntry
     requires { k < entry_count entries.now }
-    ensures { result ≡ map_entry_at (before entries) k }
+    ensures { result ≡ map_entry_at entries.now k }
 {
     let at = k * MAP_WIDTH;
     MapEntry {
@@ -30,7 +30,7 @@ pub fn read_map_entry(entries: &[u8], k: usize) -> MapEntry
 // Whether entry j has the name that stands in a text from a to e.
 pub fn has_name(names: &[u8], entries: &[u8], j: usize, text: &[u8], a: usize, e: usize) -> bool
     requires { j < entry_count entries.now }
-    ensures { result ≡ same_bytes (nth (map_in names entries) j).name (part (before text) a e) }
+    ensures { result ≡ same_bytes (nth (map_in names.now entries.now) j).name (part text.now a e) }
 {
     let x = read_map_entry(entries, j);
     let from = x.name_from as usize;
@@ -39,7 +39,7 @@ pub fn has_name(names: &[u8], entries: &[u8], j: usize, text: &[u8], a: usize, e
 
 // The first entry with the name that stands in a text from a to e, or the number of entries.
 pub fn find_entry(names: &[u8], entries: &[u8], text: &[u8], a: usize, e: usize) -> usize
-    ensures { Between 0 (entry_count (before entries)) (find_entry (map_in names entries) (part (before text) a e)) result }
+    ensures { Between 0 (entry_count entries.now) (find_entry (map_in names.now entries.now) (part text.now a e)) result }
 {
     let n = entries.len() / MAP_WIDTH;
     let mut j = 0;
@@ -61,7 +61,7 @@ fn name_inside(n: usize, x: MapEntry) -> bool
 }
 
 pub fn names_inside(entries: &[u8], n: usize) -> bool
-    ensures { result ≡ all (name_inside n) (contents map_format (before entries) (entry_count (before entries))) }
+    ensures { result ≡ all (name_inside n) (contents map_format entries.now (entry_count entries.now)) }
 {
     let most = entries.len() / MAP_WIDTH;
     let mut good = true;
@@ -76,7 +76,7 @@ pub fn names_inside(entries: &[u8], n: usize) -> bool
 // Whether entry j is the first of its name.
 pub fn is_first(names: &[u8], entries: &[u8], j: usize) -> bool
     requires { j < entry_count entries.now }
-    ensures { result ≡ (find_entry (map_in names entries) (nth (map_in names entries) j).name == j) }
+    ensures { result ≡ (find_entry (map_in names.now entries.now) (nth (map_in names.now entries.now) j).name == j) }
 {
     let x = read_map_entry(entries, j);
     let from = x.name_from as usize;

@@ -1,4 +1,6 @@
 // Names of states and of rules: their form, and the record of a name (01, Declarations and Rules).
+#![tactic(auto)]
+
 pub mod marks; // marks of the names of rules
 
 ghost use Rattle.std.specs.Prelude.{◌≡◌, ◌≤◌, ◌<◌, length};

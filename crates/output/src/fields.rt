@@ -10,7 +10,7 @@ use characters::whitespace::byte_at;
 
 // The field at a place; bytes past the end count as 0.
 pub fn field_at(area: &[u8], at: usize) -> u16
-    ensures { result ≡ field_at (before area) at }
+    ensures { result ≡ field_at area.now at }
 {
     if at >= area.len() {
         return 0;
@@ -23,7 +23,7 @@ pub fn field_at(area: &[u8], at: usize) -> u16
 // The m fields from a place on. Every record that a count of 16 bits tells starts below 65,536 × 28.
 pub fn put_fields(out: &mut [u8], n: usize, area: &[u8], at: usize, m: u16) -> usize
     requires { (at ≤ 1835008) × (m ≤ 14) }
-    ensures { Puts (printed_fields_at (before area) at m) out n result }
+    ensures { Puts (printed_fields_at area.now at m) out n result }
 {
     let mut r = n;
     let mut j = 0;

@@ -1,4 +1,6 @@
 // Text behind the first n bytes of a buffer. What does not fit is cut off, so that no function here asks for room.
+#![tactic(auto)]
+
 pub mod fields;
 
 ghost use Rattle.std.specs.Prelude.{◌∷◌, [], ◌<◌};
@@ -25,7 +27,7 @@ fn put_byte(out: &mut [u8], n: usize, b: u8) -> usize
 
 // The bytes of s from a place up to another, as far as s has them.
 pub fn put_part(out: &mut [u8], n: usize, s: &[u8], from: usize, to: usize) -> usize
-    ensures { Puts (part (before s) from to) out n result }
+    ensures { Puts (part s.now from to) out n result }
 {
     let mut m = n;
     let mut i = from;
@@ -40,7 +42,7 @@ pub fn put_part(out: &mut [u8], n: usize, s: &[u8], from: usize, to: usize) -> u
 }
 
 pub fn put_text(out: &mut [u8], n: usize, s: &[u8]) -> usize
-    ensures { Puts (before s) out n result }
+    ensures { Puts s.now out n result }
 {
     put_part(out, n, s, 0, s.len())
 }

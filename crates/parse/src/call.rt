@@ -24,8 +24,8 @@ fn clear_all(
     area6: &mut [u8],
 )
     ensures { Cleared
-        (length (before area1)) (length (before area2)) (length (before area3)) (length (before area4)) (length (before area5)) (length (before area6))
-        (after area1) (after area2) (after area3) (after area4) (after area5) (after area6) }
+        (length area1.old) (length area2.old) (length area3.old) (length area4.old) (length area5.old) (length area6.old)
+        area1.new area2.new area3.new area4.new area5.new area6.new }
 {
     clear(area1);
     clear(area2);
@@ -51,7 +51,7 @@ fn parse_text(
     requires src_len_bound { length src.now ≤ 65535 }
     requires zeroed { Zeroed area1.old area2.old area3.old area4.old area5.old area6.old }
     requires counts_value { counts.old ≡ zeros 6 }
-    ensures { let room = room_in area1 area2 area3 area4 area5 area6 in left_in result counts area1 area2 area3 area4 area5 area6 ≡ leaves room (file (asked src flags verdicts) room) }
+    ensures { let room = room_in area1 area2 area3 area4 area5 area6 in left_in result counts area1 area2 area3 area4 area5 area6 ≡ leaves room (file (asked src.now flags verdicts.now) room) }
 {
     match parse_sections(
         src, flags, verdicts, area1, area2, area3, area4, area5, area6,
@@ -89,7 +89,7 @@ pub fn parse(
     area6: &mut [u8],
 ) -> Answer
     ensures { left_in result counts area1 area2 area3 area4 area5 area6
-        ≡ parse_call (asked src flags verdicts) (room_in area1 area2 area3 area4 area5 area6) }
+        ≡ parse_call (asked src.now flags verdicts.now) (room_in area1 area2 area3 area4 area5 area6) }
 {
     *counts = [0; 6];
     clear_all(area1, area2, area3, area4, area5, area6);

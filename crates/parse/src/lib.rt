@@ -1,9 +1,11 @@
 // The parse of a lex file (01, Numbers given at the counter, Declarations and Rules).
+#![tactic(auto)]
+
 mod sections; // the file from its start
 pub mod call; // the parse call
 
 // How many records each area has where there are no faults.
-#[derive(Drop)]
+#[derive(Clone, Copy)]
 pub struct FileCounts {
     pub states: u16,
     pub rules: u16,
@@ -13,7 +15,7 @@ pub struct FileCounts {
 }
 
 // What a file comes to: no fault; a number of fault spans; or the area of a number was full.
-#[derive(Drop)]
+#[derive(Clone, Copy)]
 pub enum Parsed {
     Clean(FileCounts),
     Faulty(u16),
@@ -21,7 +23,7 @@ pub enum Parsed {
 }
 
 // The answers of the parse call: accepted, or refused by a number of 01.
-#[derive(Drop)]
+#[derive(Clone, Copy)]
 pub enum Answer {
     Accepted,
     LongFile,

@@ -27,9 +27,9 @@ fn parse_opening(
 ) -> DeclarationProgress
     requires src_len_bound { length src.now ≤ 65535 }
     requires area1_value { (area1.old ≡ zeros (length area1.old)) × ((area5.old ≡ zeros (length area5.old)) × (area6.old ≡ zeros (length area6.old))) }
-    ensures { Does (HeldDeclared (after area1) (after area5) (after area6))
-        (opening (before src) (options flags) (caps_of (length (before area1)) (length (before area5)) (length (before area6)))) undeclared
-        (declared_in (after area1) (after area5) (after area6)) (declaration_progress result) }
+    ensures { Does (HeldDeclared area1.new area5.new area6.new)
+        (opening src.now (options flags) (caps_of (length area1.old) (length area5.old) (length area6.old))) undeclared
+        (declared_in area1.new area5.new area6.new) (declaration_progress result) }
 {
     let initial = State {
         start: 0,
@@ -89,8 +89,8 @@ pub fn parse_sections(
 ) -> Parsed
     requires src_len_bound { length src.now ≤ 65535 }
     requires zeroed { Zeroed area1.old area2.old area3.old area4.old area5.old area6.old }
-    ensures { Parses (file (asked src flags verdicts) (room_in area1 area2 area3 area4 area5 area6))
-        (after area1) (after area2) (after area3) (after area4) (after area5) (after area6) result }
+    ensures { Parses (file (asked src.now flags verdicts.now) (room_in area1 area2 area3 area4 area5 area6))
+        area1.new area2.new area3.new area4.new area5.new area6.new result }
 {
     match parse_opening(src, flags, area1, area5, area6) {
         DeclarationProgress::Go(i, d) => {

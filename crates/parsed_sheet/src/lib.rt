@@ -1,1 +1,2 @@
 // What an accepted parse yields: laws about the definitions, with no code (proofs/).
+#![tactic(auto)]

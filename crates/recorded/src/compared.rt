@@ -9,7 +9,7 @@ use output::fields::field_at;
 use text::range::same_range;
 
 // Whether all is equal, and the place behind what was compared.
-#[derive(Drop)]
+#[derive(Clone, Copy)]
 pub struct Compared {
     pub equal: bool,
     pub next: usize,
@@ -17,7 +17,7 @@ pub struct Compared {
 
 // Whether every byte from a place on is zero.
 fn zero_after(area: &[u8], at: usize) -> bool
-    ensures { WhenTrue (ZeroAfter (before area) at) result }
+    ensures { WhenTrue (ZeroAfter area.now at) result }
 {
     let mut i = at;
     while i < area.len() {
@@ -32,7 +32,7 @@ fn zero_after(area: &[u8], at: usize) -> bool
 // Whether the area has the bytes that start with their length at a place, and zeros behind them.
 fn holds(area: &[u8], answers: &[u8], at: usize) -> bool
     requires { at ≤ length answers.now }
-    ensures { WhenTrue (AreaHolds (before area) (before answers) at) result }
+    ensures { WhenTrue (AreaHolds area.now answers.now at) result }
 {
     let from = skip(answers, at, 4);
     let to = bytes_end(answers, at);
@@ -50,7 +50,7 @@ fn holds(area: &[u8], answers: &[u8], at: usize) -> bool
 fn counted(counts: &[u16], answers: &[u8], at: usize) -> bool
     requires counts_len_bound { length counts.now ≤ 6 }
     requires at_in_bounds { at ≤ length answers.now }
-    ensures { WhenTrue (CountsAre (before counts) (before answers) at (length (before counts))) result }
+    ensures { WhenTrue (CountsAre counts.now answers.now at (length counts.now)) result }
 {
     let mut i = 0;
     while i < counts.len() {
@@ -66,7 +66,7 @@ fn counted(counts: &[u16], answers: &[u8], at: usize) -> bool
 pub fn lent(answers: &[u8], at: usize, k: usize, most: usize) -> usize
     requires at_in_bounds { at ≤ length answers.now }
     requires k_bound { k ≤ 5 }
-    ensures { result ≡ lent_at (before answers) at k most }
+    ensures { result ≡ lent_at answers.now at k most }
 {
     let n = number(answers, skip(answers, at, 4 * k)) as usize;
     if n < most { n } else { most }
@@ -77,7 +77,7 @@ fn same_area(answers: &[u8], lengths: usize, k: usize, area: &[u8], at: usize) -
     requires lengths_in_bounds { lengths ≤ length answers.now }
     requires k_bound { k ≤ 5 }
     requires at_in_bounds { at ≤ length answers.now }
-    ensures { WhenTrue (AreaIs (before area) (before answers) lengths k at) result }
+    ensures { WhenTrue (AreaIs area.now answers.now lengths k at) result }
 {
     let c = lent(answers, lengths, k, area.len());
     holds(&area[0..c], answers, at)
@@ -96,8 +96,8 @@ fn same_three(
     requires lengths_in_bounds { lengths ≤ length answers.now }
     requires k_bound { k ≤ 3 }
     requires at_in_bounds { at ≤ length answers.now }
-    ensures { Compares (ThreeAre (before answers) lengths k at (before first) (before second) (before third))
-        (before answers) at (fourth_at (before answers) at) result }
+    ensures { Compares (ThreeAre answers.now lengths k at first.now second.now third.now)
+        answers.now at (fourth_at answers.now at) result }
 {
     let at2 = bytes_end(answers, at);
     let at3 = bytes_end(answers, at2);
@@ -115,8 +115,8 @@ fn same_three(
 fn same_numbers(answers: &[u8], lengths: usize, word: u64, counts: &[u16]) -> Compared
     requires counts_len_bound { length counts.now ≤ 6 }
     requires lengths_in_bounds { lengths ≤ length answers.now }
-    ensures { Compares (NumbersAre (before answers) lengths word (before counts))
-        (before answers) lengths (areas_at (before answers) lengths) result }
+    ensures { Compares (NumbersAre answers.now lengths word counts.now)
+        answers.now lengths (areas_at answers.now lengths) result }
 {
     let at = skip(answers, lengths, 24);
     let recorded_counts = skip(answers, at, 4);
@@ -144,9 +144,9 @@ pub fn compare(
     requires counts_len_bound { length counts.now ≤ 6 }
     requires lengths_in_bounds { lengths ≤ length answers.now }
     ensures { Compares
-        (LeftIs (before answers) lengths word (before counts)
-        (before area1) (before area2) (before area3) (before area4) (before area5) (before area6))
-        (before answers) lengths (areas_end (before answers) lengths) result }
+        (LeftIs answers.now lengths word counts.now
+        area1.now area2.now area3.now area4.now area5.now area6.now)
+        answers.now lengths (areas_end answers.now lengths) result }
 {
     let numbers = same_numbers(answers, lengths, word, counts);
     let first = same_three(answers, lengths, 0, numbers.next, area1, area2, area3);

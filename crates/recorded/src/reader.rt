@@ -8,7 +8,7 @@ use output::fields::field_at;
 // The place n bytes on.
 pub fn skip(answers: &[u8], at: usize, n: usize) -> usize
     requires { at ≤ length answers.now }
-    ensures { Skips (before answers) at n result }
+    ensures { Skips answers.now at n result }
 {
     if answers.len() - at < n {
         return answers.len();
@@ -19,7 +19,7 @@ pub fn skip(answers: &[u8], at: usize, n: usize) -> usize
 // A number of four bytes, low byte first.
 pub fn number(answers: &[u8], at: usize) -> u32
     requires { at ≤ length answers.now + 4 }
-    ensures { result ≡ number_at (before answers) at }
+    ensures { result ≡ number_at answers.now at }
 {
     let low = field_at(answers, at) as u32;
     let high = field_at(answers, at + 2) as u32;
@@ -29,7 +29,7 @@ pub fn number(answers: &[u8], at: usize) -> u32
 // A number of eight bytes, low byte first.
 pub fn long(answers: &[u8], at: usize) -> u64
     requires { at ≤ length answers.now }
-    ensures { result ≡ long_at (before answers) at }
+    ensures { result ≡ long_at answers.now at }
 {
     let low = number(answers, at) as u64;
     let high = number(answers, at + 4) as u64;
@@ -39,7 +39,7 @@ pub fn long(answers: &[u8], at: usize) -> u64
 // Where the bytes that start with their length at a place end.
 pub fn bytes_end(answers: &[u8], at: usize) -> usize
     requires { at ≤ length answers.now }
-    ensures { Ends (before answers) at result }
+    ensures { Ends answers.now at result }
 {
     skip(answers, skip(answers, at, 4), number(answers, at) as usize)
 }

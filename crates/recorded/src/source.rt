@@ -9,7 +9,7 @@ use crate::reader::{bytes_end, number, skip};
 use output::put_part;
 
 // How many bytes the source has, and where the rest of the record stands.
-#[derive(Drop)]
+#[derive(Clone, Copy)]
 pub struct Source {
     pub length: usize,
     pub next: usize,
@@ -17,7 +17,7 @@ pub struct Source {
 
 // The bytes of a piece, as many times as it stands.
 fn put_times(out: &mut [u8], n: usize, answers: &[u8], from: usize, to: usize, times: u32) -> usize
-    ensures { Puts (repeated times (part (before answers) from to)) out n result }
+    ensures { Puts (repeated times (part answers.now from to)) out n result }
 {
     let mut m = n;
     let mut i = 0;
@@ -31,7 +31,7 @@ fn put_times(out: &mut [u8], n: usize, answers: &[u8], from: usize, to: usize, t
 // The pieces of the source, one behind the other.
 pub fn read_source(answers: &[u8], at: usize, out: &mut [u8]) -> Source
     requires { at ≤ length answers.now }
-    ensures { SourceRead (before answers) at (after out) result }
+    ensures { SourceRead answers.now at out.new result }
 {
     let pieces = number(answers, at);
     let mut n = 0;

@@ -11,7 +11,7 @@ use text::scan::find_byte;
 // The pattern from i to c. An empty one has no list, whatever byte stands behind it.
 pub fn body_of(src: &[u8], i: usize, c: usize) -> Body
     requires { (i ≤ c) × (c ≤ length src.now) }
-    ensures { result ≡ body_of (before src) i c }
+    ensures { result ≡ body_of src.now i c }
 {
     if (i < c) & (byte_at(src, i) == b'<') {
         let g = find_byte(src, i, c, b'>');

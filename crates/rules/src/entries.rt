@@ -16,7 +16,7 @@ use text::scan::{find_byte, trim_end, trim_start};
 fn state_between(src: &[u8], a: usize, e: usize, area1: &[u8], n1: u16) -> usize
     requires a_le_e { (a ≤ e) × (e ≤ length src.now) }
     requires held { Held state_format area1.now n1 }
-    ensures { Between 0 n1 (entry_id (before src) (contents state_format (before area1) n1) a e) result }
+    ensures { Between 0 n1 (entry_id src.now (contents state_format area1.now n1) a e) result }
 {
     let x = trim_start(src, a, e);
     get_start_state_by_name(src, x, trim_end(src, x, e), area1, n1)
@@ -36,7 +36,7 @@ fn next_entry(
     requires a_le_g { (a ≤ g) × (g < length src.now) }
     requires held { Held state_format area1.now n1 }
     requires held_2 { Held entry_format area3.old n3 }
-    ensures { DoesRecords entry_format (λ c3. next_entry (before src) c3 (contents state_format (before area1) n1) i g a) area3 n3 result }
+    ensures { DoesRecords entry_format (λ c3. next_entry src.now c3 (contents state_format area1.now n1) i g a) area3 n3 result }
 {
     let e = find_byte(src, a, g, b',');
     let j = state_between(src, a, e, area1, n1);
@@ -62,7 +62,7 @@ pub fn parse_start_states(
     requires i_le_g { ((i ≤ g) × (g < length src.now)) × (length src.now ≤ 65535) }
     requires held { Held state_format area1.now n1 }
     requires held_2 { Held entry_format area3.old n3 }
-    ensures { DoesRecords entry_format (λ c3. entries (before src) c3 (contents state_format (before area1) n1) i g) area3 n3 result }
+    ensures { DoesRecords entry_format (λ c3. entries src.now c3 (contents state_format area1.now n1) i g) area3 n3 result }
 {
     let mut a = i + 1;
     let mut count = n3;

@@ -35,7 +35,7 @@ fn parse_start_state_ops(x: u8) -> u16
 // The operation of a target.
 fn target_operation(src: &[u8], r: usize) -> u16
     requires { r < 65535 }
-    ensures { result ≡ target_operation (before src) r }
+    ensures { result ≡ target_operation src.now r }
 {
     parse_start_state_ops(byte_at(src, r + 2))
 }
@@ -45,7 +45,7 @@ fn target_id(src: &[u8], r: usize, g: usize, operation: u16, area1: &[u8], n1: u
     requires r_le_g { ((r ≤ g) × (g < length src.now)) × (length src.now ≤ 65535) }
     requires operation_value { operation ≡ target_operation src.now r }
     requires held { Held state_format area1.now n1 }
-    ensures { Between 0 n1 (find_state (before src) (target_name (before src) r) g (contents state_format (before area1) n1)) result }
+    ensures { Between 0 n1 (find_state src.now (target_name src.now r) g (contents state_format area1.now n1)) result }
 {
     if operation == 1 {
         return get_start_state_by_name(src, r + 2, g, area1, n1);
@@ -56,7 +56,7 @@ fn target_id(src: &[u8], r: usize, g: usize, operation: u16, area1: &[u8], n1: u
 fn target_of(src: &[u8], r: usize, t: usize, area1: &[u8], n1: u16) -> Target
     requires r_lt_t { ((r < t) × (t ≤ length src.now)) × (length src.now ≤ 65535) }
     requires held { Held state_format area1.now n1 }
-    ensures { result ≡ target_of (before src) r t (contents state_format (before area1) n1) }
+    ensures { result ≡ target_of src.now r t (contents state_format area1.now n1) }
 {
     if byte_at(src, r + 1) != b'<' {
         return Target::To(
@@ -104,7 +104,7 @@ fn label_by(n: usize, x: u8, y: u8) -> Label
 // What stands from p to t.
 fn label_of(src: &[u8], p: usize, t: usize) -> Label
     requires { (1 ≤ t) × (p ≤ t) }
-    ensures { result ≡ label_of (before src) (span p t) }
+    ensures { result ≡ label_of src.now (span p t) }
 {
     label_by(t - p, byte_at(src, p), byte_at(src, t - 1))
 }
@@ -158,7 +158,7 @@ fn heading_named(
     requires t_value { label_of src.now (span p t) ≡ Named }
     requires held { Held rule_format area2.now n2 }
     requires names_held { NamesHeld src.now (contents rule_format area2.now n2) marks.now }
-    ensures { result ≡ heading_behind (before src) r x (span p t) (contents rule_format (before area2) n2) }
+    ensures { result ≡ heading_behind src.now r x (span p t) (contents rule_format area2.now n2) }
 {
     let h = head_named(r, p, t, x);
     let j = find_rule(src, p + 1, t - 1, area2, n2, marks);
@@ -183,7 +183,7 @@ fn heading_behind(
     requires r_lt_p { ((r < p) × (p ≤ t)) × ((t ≤ length src.now) × (length src.now ≤ 65535)) }
     requires held { Held rule_format area2.now n2 }
     requires names_held { NamesHeld src.now (contents rule_format area2.now n2) marks.now }
-    ensures { result ≡ heading_behind (before src) r x (span p t) (contents rule_format (before area2) n2) }
+    ensures { result ≡ heading_behind src.now r x (span p t) (contents rule_format area2.now n2) }
 {
     match label_of(src, p, t) {
         Label::Unnamed => Heading::Fresh(r, head_unnamed(r, x)),
@@ -207,7 +207,7 @@ pub fn heading_of(
     requires held { Held state_format area1.now n1 }
     requires held_2 { Held rule_format area2.now n2 }
     requires names_held { NamesHeld src.now (contents rule_format area2.now n2) marks.now }
-    ensures { result ≡ heading_of (before src) i t (contents state_format (before area1) n1) (contents rule_format (before area2) n2) }
+    ensures { result ≡ heading_of src.now i t (contents state_format area1.now n1) (contents rule_format area2.now n2) }
 {
     match last_blank(src, i, t) {
         Found::Nothing => Heading::Faulty(MISSING_SPACE, i as u16),

@@ -1,25 +1,27 @@
 // The rules of a lex file (01, Rules).
+#![tactic(auto)]
+
 pub mod bodies; // what a pattern is
 pub mod entries; // the list of states in front of a pattern
 pub mod headings; // what stands behind the last blank of a line
 pub mod record; // the record of a rule
 
 // What a rule does with the stack of states, and with which of them: both 0 where the rule has no target.
-#[derive(Drop)]
+#[derive(Clone, Copy)]
 pub struct TargetState {
     pub operation: u16,
     pub id: u16,
 }
 
 // A target, or none, and the place behind it; or the kind and the place of its fault.
-#[derive(Drop)]
+#[derive(Clone, Copy)]
 pub enum Target {
     To(TargetState, usize),
     Wrong(u16, u16),
 }
 
 // What a rule's name part is.
-#[derive(Drop)]
+#[derive(Clone, Copy)]
 pub enum Label {
     Unnamed,
     Named,
@@ -27,7 +29,7 @@ pub enum Label {
 }
 
 // What stands behind a rule's last blank: seven of the rule's fields.
-#[derive(Drop)]
+#[derive(Clone, Copy)]
 pub struct Head {
     pub named: u16,
     pub span_start: u16,
@@ -40,7 +42,7 @@ pub struct Head {
 
 // What a rule's line says but for its pattern: the kind and the place of a fault; a repeated name (the span of the first, its own);
 // or the place of the last blank and what stands behind it.
-#[derive(Drop)]
+#[derive(Clone, Copy)]
 pub enum Heading {
     Faulty(u16, u16),
     Repeated(u16, u16, u16, u16),
@@ -48,7 +50,7 @@ pub enum Heading {
 }
 
 // A pattern: a list of states that is not closed, one that is closed at a place, text to rewrite, or text as it stands.
-#[derive(Drop)]
+#[derive(Clone, Copy)]
 pub enum Body {
     Unclosed,
     Listed(usize),

@@ -12,7 +12,7 @@ use fault::kinds::REGEX_ERROR;
 
 // Whether the engine refuses the rule at the position k. Past the end of the verdicts it passes.
 fn refuses(verdicts: &[u8], k: usize) -> bool
-    ensures { result ≡ refuses (before verdicts) k }
+    ensures { result ≡ refuses verdicts.now k }
 {
     byte_at(verdicts, k) != 0
 }
@@ -27,7 +27,7 @@ pub fn record_rule(
     n2: u16,
 ) -> Progress
     requires { Held rule_format area2.old n2 }
-    ensures { DoesRecords rule_format (λ c2. record_rule (before verdicts) c2 i e x) area2 n2 result }
+    ensures { DoesRecords rule_format (λ c2. record_rule verdicts.now c2 i e x) area2 n2 result }
 {
     if refuses(verdicts, n2 as usize) {
         return Progress::Bad(REGEX_ERROR, i, n2);

@@ -1,5 +1,5 @@
 -- Short words for contracts: what is asked, and a step over what the areas of the rules hold (01, Areas).
-use Rattle.std.specs.Prelude.{ℕ, length}
+use Rattle.std.specs.Prelude.{ℕ, List, length}
 use Rattle.area.specs.Phrases.{Bytes, before, after}
 use Rattle.fault.specs.Step.{Out, Does}
 use Rattle.section.specs.Request.{Request, request, options}
@@ -11,8 +11,8 @@ use Rattle.rules_section.specs.RulesSection.{Caps, Sheet, Ruled}
 use Rattle.rules_section.specs.Answers.{sheet_progress, rules_sheet_in, HeldSheet, rule_progress, ruled_in, HeldRuled, rule_caps_of}
 
 -- what these parameters ask
-abbrev pub asked : Bytes → ℕ → Bytes → Request
-asked src flags verdicts = request (before src) (options flags) (before verdicts)
+abbrev pub asked : List ℕ → ℕ → List ℕ → Request
+asked src flags verdicts = request src (options flags) verdicts
 
 -- the step f, over areas 2, 3 and 4 with so many bytes, does to what they hold by the counts q what r tells
 abbrev pub DoesSheet : (Caps → Sheet → Out Sheet) → Bytes → Bytes → Bytes → SheetCounts → SheetProgress → Type 0

@@ -1,10 +1,12 @@
 // The rules section: its lines, their patterns, and the records of the rules (01, Rules).
+#![tactic(auto)]
+
 mod pattern; // the pattern of a rule, and the rule's record
 mod line; // a line of the rules section
 pub mod lines; // the rules section
 
 // How many rules, list entries and bytes of rewritten text there are.
-#[derive(Drop)]
+#[derive(Clone, Copy)]
 pub struct SheetCounts {
     pub rules: u16,
     pub entries: u16,
@@ -12,7 +14,7 @@ pub struct SheetCounts {
 }
 
 // What a step over areas 2, 3 and 4 comes to.
-#[derive(Drop)]
+#[derive(Clone, Copy)]
 pub enum SheetProgress {
     Go(usize, SheetCounts),
     Bad(u16, u16, SheetCounts),
@@ -20,7 +22,7 @@ pub enum SheetProgress {
 }
 
 // The same with the number of fault spans.
-#[derive(Drop)]
+#[derive(Clone, Copy)]
 pub struct RuleCounts {
     pub rules: u16,
     pub entries: u16,
@@ -29,7 +31,7 @@ pub struct RuleCounts {
 }
 
 // What a step over areas 2, 3, 4 and 6 comes to.
-#[derive(Drop)]
+#[derive(Clone, Copy)]
 pub enum RuleProgress {
     Go(usize, RuleCounts),
     Bad(u16, u16, RuleCounts),

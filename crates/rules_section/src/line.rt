@@ -84,7 +84,7 @@ fn parse_rule(
     requires held { Held state_format area1.now n1 }
     requires held_ruled { HeldRuled area2.old area3.old area4.old area6.old q }
     requires names_held { NamesHeld src.now (contents rule_format area2.old q.rules) marks.now }
-    ensures { DoesRuled (λ k c6. rule (asked src flags verdicts) (contents state_format (before area1) n1) k c6 i e) area2 area3 area4 area6 q result }
+    ensures { DoesRuled (λ k c6. rule (asked src.now flags verdicts.now) (contents state_format area1.now n1) k c6 i e) area2 area3 area4 area6 q result }
 {
     let faults = q.faults;
     let w = SheetCounts {
@@ -136,7 +136,7 @@ pub fn parse_line(
     requires held { Held state_format area1.now n1 }
     requires held_ruled { HeldRuled area2.old area3.old area4.old area6.old q }
     requires names_held { NamesHeld src.now (contents rule_format area2.old q.rules) marks.now }
-    ensures { DoesRuled (λ k c6. line (asked src flags verdicts) (contents state_format (before area1) n1) k c6 i e) area2 area3 area4 area6 q result }
+    ensures { DoesRuled (λ k c6. line (asked src.now flags verdicts.now) (contents state_format area1.now n1) k c6 i e) area2 area3 area4 area6 q result }
 {
     if matches_whitespace(src, i) {
         let faults = q.faults;

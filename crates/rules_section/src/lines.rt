@@ -32,7 +32,7 @@ pub fn parse_rules(
     requires held { Held state_format area1.now n1 }
     requires held_ruled { HeldRuled area2.old area3.old area4.old area6.old q }
     requires distinct_names { DistinctNames src.now (contents rule_format area2.old q.rules) }
-    ensures { DoesRuled (λ k c6. rules_section (asked src flags verdicts) (contents state_format (before area1) n1) k c6 i) area2 area3 area4 area6 q result }
+    ensures { DoesRuled (λ k c6. rules_section (asked src.now flags verdicts.now) (contents state_format area1.now n1) k c6 i) area2 area3 area4 area6 q result }
 {
     let mut line = next_rule(src, flags, i);
     let mut counts = q;

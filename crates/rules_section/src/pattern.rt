@@ -18,7 +18,7 @@ use rules::record::record_rule;
 use rules::{Body, Head};
 
 // Where a rule's text and list stand: five of the rule's fields.
-#[derive(Drop)]
+#[derive(Clone, Copy)]
 pub struct Text {
     pub place: u16,
     pub from: u16,
@@ -105,7 +105,7 @@ pub fn parse_pattern(
     requires i_le_c { ((i ≤ c) × (c ≤ length src.now)) × (length src.now ≤ 65535) }
     requires held { Held state_format area1.now n1 }
     requires held_sheet { HeldSheet area2.old area3.old area4.old q }
-    ensures { DoesSheet (λ k. pattern (asked src flags verdicts) k i e h c (contents state_format (before area1) n1)) area2 area3 area4 q result }
+    ensures { DoesSheet (λ k. pattern (asked src.now flags verdicts.now) k i e h c (contents state_format area1.now n1)) area2 area3 area4 q result }
 {
     let place = i as u16;
     let rules = q.rules;

@@ -15,7 +15,7 @@ use winner::winner;
 
 // Begins a run over an entry of n bytes.
 pub fn start(n: u64, r: Run, stack: &mut [u8]) -> BegunRun
-    ensures { run_left result.answer result.run (after stack) ≡ start_call n (running r (before stack)) }
+    ensures { run_left result.answer result.run stack.new ≡ start_call n (running r stack.old) }
 {
     if n > MOST_BYTES {
         return BegunRun {
@@ -58,8 +58,8 @@ fn step_row(
     requires stack_value { good_run states (running r stack.old) ≡ true }
     requires position_lt_n { r.position < r.n }
     requires row_fits { RowFits (fits_in r) rules row.now top }
-    ensures { run_left result.answer result.run (after stack)
-        ≡ step_row (lexer_in area1 area2 area3 states rules entries) (running r (before stack)) (input (before row)) }
+    ensures { run_left result.answer result.run stack.new
+        ≡ step_row (lexer_in area1.now area2.now area3.now states rules entries) (running r stack.old) (input row.now) }
 {
     let state = read_entry(stack, r.depth as usize - 1);
     let b = winner(area1, area2, area3, states, rules, entries, state, row, top);
@@ -86,8 +86,8 @@ fn step_run(
     row: &[u8],
 ) -> Stepped
     requires { Readable area1.now area2.now area3.now states rules entries }
-    ensures { run_left result.answer result.run (after stack)
-        ≡ step_run (lexer_in area1 area2 area3 states rules entries) (running r (before stack)) (input (before row)) }
+    ensures { run_left result.answer result.run stack.new
+        ≡ step_run (lexer_in area1.now area2.now area3.now states rules entries) (running r stack.old) (input row.now) }
 {
     if good_run(states, r, stack) {
         if r.position == r.n {
@@ -125,8 +125,8 @@ pub fn step(
     stack: &mut [u8],
     row: &[u8],
 ) -> Stepped
-    ensures { run_left result.answer result.run (after stack)
-        ≡ step_call (sheet_in src area1 area2 area3 area4 area5 counts) (running r (before stack)) (input (before row)) }
+    ensures { run_left result.answer result.run stack.new
+        ≡ step_call (sheet_in src.now area1.now area2.now area3.now area4.now area5.now counts.now) (running r stack.old) (input row.now) }
 {
     if quick_check(src, area1, area2, area3, area4, area5, counts) {
         return step_run(

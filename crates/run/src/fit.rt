@@ -11,7 +11,7 @@ use winner::greatest_length;
 
 // The sums are wider than a field, so that they cannot wrap.
 fn good_numbers(r: Run, stack: &[u8]) -> bool
-    ensures { result ≡ good_numbers (running r (before stack)) }
+    ensures { result ≡ good_numbers (running r stack.now) }
 {
     (r.n as u64 <= MOST_BYTES)
         & (r.position <= r.n)
@@ -23,7 +23,7 @@ fn good_numbers(r: Run, stack: &[u8]) -> bool
 
 // The numbers first, so that the entries in use may be read.
 pub fn good_run(states: u16, r: Run, stack: &[u8]) -> bool
-    ensures { result ≡ good_run states (running r (before stack)) }
+    ensures { result ≡ good_run states (running r stack.now) }
 {
     if good_numbers(r, stack) {
         return good_entries(stack, r.depth, states);
@@ -33,7 +33,7 @@ pub fn good_run(states: u16, r: Run, stack: &[u8]) -> bool
 
 // Every length is at most the bytes left where the greatest is.
 pub fn row_top(rules: u16, left: u16, row: &[u8]) -> RowTop
-    ensures { RowTopIs (λ x. leb x left) rules (before row) result }
+    ensures { RowTopIs (λ x. leb x left) rules row.now result }
 {
     if row.len() != rules as usize * ENTRY_WIDTH {
         return RowTop::Misfit;

@@ -17,7 +17,7 @@ const POP: u16 = 3;
 
 pub fn put_state(stack: &mut [u8], k: u16, id: u16)
     requires { k * entry_width + entry_width ≤ length stack.old }
-    ensures { after stack ≡ put_state (before stack) k id }
+    ensures { stack.new ≡ put_state stack.old k id }
 {
     write_field(stack, k as usize * ENTRY_WIDTH, id);
 }
@@ -25,7 +25,7 @@ pub fn put_state(stack: &mut [u8], k: u16, id: u16)
 // Does the operation of a rule, and answers how many entries are in use then.
 fn operate(x: Rule, r: Run, stack: &mut [u8]) -> u16
     requires { HasRoom r (length stack.old) }
-    ensures { running (with_depth r result) (after stack) ≡ operated (running r (before stack)) x }
+    ensures { running (with_depth r result) stack.new ≡ operated (running r stack.old) x }
 {
     if x.operation == REPLACE {
         put_state(stack, 0, x.target);
@@ -48,7 +48,7 @@ fn operate(x: Rule, r: Run, stack: &mut [u8]) -> u16
 // A move by the winner: the run's numbers after it.
 fn move_by(x: Rule, bytes: u16, r: Run, stack: &mut [u8]) -> Run
     requires { Inside r bytes (length stack.old) }
-    ensures { running result (after stack) ≡ move_by (running r (before stack)) x bytes }
+    ensures { running result stack.new ≡ move_by (running r stack.old) x bytes }
 {
     let depth = operate(x, r, stack);
     Run {
@@ -62,7 +62,7 @@ fn move_by(x: Rule, bytes: u16, r: Run, stack: &mut [u8]) -> Run
 // The winner, by so many bytes.
 pub fn won_by(x: Rule, bytes: u16, r: Run, stack: &mut [u8]) -> Stepped
     requires { Inside r bytes (length stack.old) }
-    ensures { run_left result.answer result.run (after stack) ≡ won_by (running r (before stack)) x bytes }
+    ensures { run_left result.answer result.run stack.new ≡ won_by (running r stack.old) x bytes }
 {
     if x.named == 1 {
         if x.has_id == 1 {

@@ -1,4 +1,6 @@
 // Lines that are skipped between what is read, and where a section ends (01, Declarations and Rules).
+#![tactic(auto)]
+
 pub mod reader; // the source and a place in it
 
 ghost use Rattle.std.specs.Prelude.{◌≡◌, true, ◌+◌, ◌≤◌, length};

@@ -9,14 +9,14 @@ ghost use Rattle.section.specs.Reader.{reader_at, reader_moved, reader_moved_by,
 use crate::{to_declaration, to_rule};
 use text::scan::{line_end, parse_spaces};
 
-#[derive(Drop)]
+#[derive(Clone, Copy)]
 pub struct Reader<'a> {
     pub source: &'a [u8],
     pub offset: usize,
 }
 
 // A line that is read: where it starts and where it ends.
-#[derive(Drop)]
+#[derive(Clone, Copy)]
 pub struct Line {
     pub start: usize,
     pub end: usize,

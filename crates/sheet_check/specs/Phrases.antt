@@ -1,14 +1,13 @@
 -- Short words for contracts: the sheet that is lent.
 use Rattle.std.specs.Prelude.{ℕ, ◌*◌, ◌≤◌, List, length}
-use Rattle.area.specs.Phrases.{Bytes, before}
 use Rattle.area.specs.Records.{state_width, rule_width, entry_width, expected_width}
 use Rattle.sheet_check.specs.declared.Sizes.{Sizes}
 use Rattle.sheet_check.specs.SheetCheck.{SheetBytes, sheet_bytes}
 
 -- the sheet, as it is lent
-abbrev pub sheet_in : Bytes → Bytes → Bytes → Bytes → Bytes → Bytes → Bytes → SheetBytes
+abbrev pub sheet_in : List ℕ → List ℕ → List ℕ → List ℕ → List ℕ → List ℕ → List ℕ → SheetBytes
 sheet_in src area1 area2 area3 area4 area5 counts =
-    sheet_bytes (before src) (before area1) (before area2) (before area3) (before area4) (before area5) (before counts)
+    sheet_bytes src area1 area2 area3 area4 area5 counts
 
 -- the areas that are read are long enough for sizes that count their records
 pub record AreasLong (z : Sizes) (area1 area2 area3 area5 : List ℕ) : Type 0 where

@@ -76,7 +76,7 @@ fn good_expected(sizes: Sizes, x: Expected) -> bool
 
 fn good_states(sizes: Sizes, area: &[u8]) -> bool
     requires { sizes.states * state_width ≤ length area.now }
-    ensures { result ≡ all (good_state sizes) (contents state_format (before area) sizes.states) }
+    ensures { result ≡ all (good_state sizes) (contents state_format area.now sizes.states) }
 {
     let most = sizes.states as usize;
     let mut k = 0;
@@ -91,7 +91,7 @@ fn good_states(sizes: Sizes, area: &[u8]) -> bool
 
 fn good_rules(sizes: Sizes, area: &[u8]) -> bool
     requires { sizes.rules * rule_width ≤ length area.now }
-    ensures { result ≡ all (good_rule sizes) (contents rule_format (before area) sizes.rules) }
+    ensures { result ≡ all (good_rule sizes) (contents rule_format area.now sizes.rules) }
 {
     let most = sizes.rules as usize;
     let mut good = true;
@@ -119,7 +119,7 @@ fn sum_limit(n: usize) -> u16
 fn rules_pass(sizes: Sizes, area: &[u8]) -> bool
     requires rule_width_in_bounds { sizes.rules * rule_width ≤ length area.now }
     requires le_states { 1 ≤ sizes.states }
-    ensures { result ≡ all (good_rule sizes) (contents rule_format (before area) sizes.rules) }
+    ensures { result ≡ all (good_rule sizes) (contents rule_format area.now sizes.rules) }
 {
     if quick_rules(
         area,
@@ -137,7 +137,7 @@ fn rules_pass(sizes: Sizes, area: &[u8]) -> bool
 // Also whether the ids in use on the stack of a run are declared.
 pub fn good_entries(area: &[u8], count: u16, states: u16) -> bool
     requires { count * entry_width ≤ length area.now }
-    ensures { result ≡ all (declared states) (contents entry_format (before area) count) }
+    ensures { result ≡ all (declared states) (contents entry_format area.now count) }
 {
     let most = count as usize;
     let mut good = true;
@@ -151,7 +151,7 @@ pub fn good_entries(area: &[u8], count: u16, states: u16) -> bool
 
 fn good_names(sizes: Sizes, area: &[u8]) -> bool
     requires { sizes.expected * expected_width ≤ length area.now }
-    ensures { result ≡ all (good_expected sizes) (contents expected_format (before area) sizes.expected) }
+    ensures { result ≡ all (good_expected sizes) (contents expected_format area.now sizes.expected) }
 {
     let most = sizes.expected as usize;
     let mut good = true;
@@ -196,10 +196,10 @@ fn good_records(sizes: Sizes, area1: &[u8], area2: &[u8], area3: &[u8], area5: &
     requires areas_long { AreasLong sizes area1.now area2.now area3.now area5.now }
     requires le_states { 1 ≤ sizes.states }
     ensures { result ≡ good_records sizes
-        (contents state_format (before area1) sizes.states)
-        (contents rule_format (before area2) sizes.rules)
-        (contents entry_format (before area3) sizes.entries)
-        (contents expected_format (before area5) sizes.expected) }
+        (contents state_format area1.now sizes.states)
+        (contents rule_format area2.now sizes.rules)
+        (contents entry_format area3.now sizes.entries)
+        (contents expected_format area5.now sizes.expected) }
 {
     if !good_states(sizes, area1) {
         return false;
@@ -222,7 +222,7 @@ fn sizes_of(
     area5: &[u8],
     counts: &[u16; 6],
 ) -> Sizes
-    ensures { result ≡ sizes_of (sheet_in src area1 area2 area3 area4 area5 counts) }
+    ensures { result ≡ sizes_of (sheet_in src.now area1.now area2.now area3.now area4.now area5.now counts.now) }
 {
     Sizes {
         source: src.len(),
@@ -249,7 +249,7 @@ pub fn check(
     area5: &[u8],
     counts: &[u16; 6],
 ) -> bool
-    ensures { result ≡ sheet_check (sheet_in src area1 area2 area3 area4 area5 counts) }
+    ensures { result ≡ sheet_check (sheet_in src.now area1.now area2.now area3.now area4.now area5.now counts.now) }
 {
     let sizes = sizes_of(src, area1, area2, area3, area4, area5, counts);
     if good_sizes(sizes) {
@@ -267,10 +267,10 @@ fn quick_records(sizes: Sizes, area1: &[u8], area2: &[u8], area3: &[u8], area5: 
     requires le_states { 1 ≤ sizes.states }
     ensures { result ≡ true
         → good_records sizes
-        (contents state_format (before area1) sizes.states)
-        (contents rule_format (before area2) sizes.rules)
-        (contents entry_format (before area3) sizes.entries)
-        (contents expected_format (before area5) sizes.expected)
+        (contents state_format area1.now sizes.states)
+        (contents rule_format area2.now sizes.rules)
+        (contents entry_format area3.now sizes.entries)
+        (contents expected_format area5.now sizes.expected)
         ≡ true }
 {
     if !good_states(sizes, area1) {
@@ -303,7 +303,7 @@ pub fn quick_check(
     area5: &[u8],
     counts: &[u16; 6],
 ) -> bool
-    ensures { result ≡ sheet_check (sheet_in src area1 area2 area3 area4 area5 counts) }
+    ensures { result ≡ sheet_check (sheet_in src.now area1.now area2.now area3.now area4.now area5.now counts.now) }
 {
     let sizes = sizes_of(src, area1, area2, area3, area4, area5, counts);
     if good_sizes(sizes) {

@@ -1,9 +1,11 @@
 // A sheet's bytes, handed in by the host: the sheet check, and the pattern of a rule (01, Linking and Areas, 4).
+#![tactic(auto)]
+
 pub mod check;
 pub mod pattern;
 
 // Where a rule's text stands: its place, from where, and its length; or number 6.
-#[derive(Drop)]
+#[derive(Clone, Copy)]
 pub enum Located {
     Part(u16, u16, u16),
     BrokenSheet,
@@ -11,7 +13,7 @@ pub enum Located {
 
 // The lengths of the source and of areas 1 to 5, and the counts of the areas. They are handed on by value, so that the check gets only the
 // areas that it reads, and products of counts are known to fit.
-#[derive(Drop)]
+#[derive(Clone, Copy)]
 pub struct Sizes {
     pub source: usize,
     pub area1: usize,

@@ -19,7 +19,7 @@ pub fn locate(
     counts: &[u16; 6],
     rule: u64,
 ) -> Located
-    ensures { result ≡ pattern_part (sheet_in src area1 area2 area3 area4 area5 counts) rule }
+    ensures { result ≡ pattern_part (sheet_in src.now area1.now area2.now area3.now area4.now area5.now counts.now) rule }
 {
     if check(src, area1, area2, area3, area4, area5, counts) {
         if rule < wide(counts[1]) {
@@ -48,7 +48,7 @@ pub fn pattern<'a>(
     rule: u64,
 ) -> &'a [u8]
     ensures { handed result.ref_ptr result.now
-        ≡ pattern_call src.entry.ref_ptr area4.entry.ref_ptr (sheet_in src area1 area2 area3 area4 area5 counts) rule }
+        ≡ pattern_call src.entry.ref_ptr area4.entry.ref_ptr (sheet_in src.now area1.now area2.now area3.now area4.now area5.now counts.now) rule }
 {
     match locate(src, area1, area2, area3, area4, area5, counts, rule) {
         Located::Part(place, from, length) => {
@@ -74,7 +74,7 @@ pub fn pattern_test(
     counts: &[u16; 6],
     rule: u64,
 ) -> u64
-    ensures { result ≡ number_of (pattern_part (sheet_in src area1 area2 area3 area4 area5 counts) rule) }
+    ensures { result ≡ number_of (pattern_part (sheet_in src.now area1.now area2.now area3.now area4.now area5.now counts.now) rule) }
 {
     match locate(src, area1, area2, area3, area4, area5, counts, rule) {
         Located::Part(place, from, length) => ACCEPTED as u64,

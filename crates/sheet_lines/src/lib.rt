@@ -1,4 +1,6 @@
 // Lines of text: a word, then numbers, with a blank before each. The records of a sheet's areas, and refusals.
+#![tactic(auto)]
+
 ghost use Rattle.std.specs.Prelude.{◌≡◌};
 ghost use Rattle.area.specs.Records.{state_at, rule_at, fault_at};
 ghost use Rattle.area.specs.Phrases.{before};
@@ -13,7 +15,7 @@ use output::{put_blank, put_field, put_line_end, put_part, put_text};
 
 // INITIAL is not in the source.
 fn put_name(out: &mut [u8], n: usize, src: &[u8], k: u16, start: u16, end: u16) -> usize
-    ensures { Puts (state_name (before src) k start end) out n result }
+    ensures { Puts (state_name src.now k start end) out n result }
 {
     if k == 0 {
         return put_text(out, n, b"INITIAL");
@@ -22,7 +24,7 @@ fn put_name(out: &mut [u8], n: usize, src: &[u8], k: u16, start: u16, end: u16) 
 }
 
 fn state_at(area: &[u8], k: u16) -> State
-    ensures { result ≡ state_at (before area) k }
+    ensures { result ≡ state_at area.now k }
 {
     let at = k as usize * STATE_WIDTH;
     State {
@@ -34,7 +36,7 @@ fn state_at(area: &[u8], k: u16) -> State
 
 // A state's line up to its name.
 fn put_state_head(out: &mut [u8], n: usize, src: &[u8], k: u16, start: u16, end: u16) -> usize
-    ensures { Puts (state_head (before src) k start end) out n result }
+    ensures { Puts (state_head src.now k start end) out n result }
 {
     let n = put_text(out, n, b"state");
     let n = put_field(out, n, k);
@@ -43,7 +45,7 @@ fn put_state_head(out: &mut [u8], n: usize, src: &[u8], k: u16, start: u16, end:
 }
 
 fn put_state(out: &mut [u8], n: usize, src: &[u8], k: u16, x: State) -> usize
-    ensures { Puts (state_line (before src) k x) out n result }
+    ensures { Puts (state_line src.now k x) out n result }
 {
     let n = put_state_head(out, n, src, k, x.start, x.end);
     let n = put_field(out, n, x.exclusive);
@@ -53,7 +55,7 @@ fn put_state(out: &mut [u8], n: usize, src: &[u8], k: u16, x: State) -> usize
 }
 
 fn put_rule(out: &mut [u8], n: usize, area: &[u8], k: u16) -> usize
-    ensures { Puts (rule_line k (rule_at (before area) k)) out n result }
+    ensures { Puts (rule_line k (rule_at area.now k)) out n result }
 {
     let n = put_text(out, n, b"rule");
     let n = put_field(out, n, k);
@@ -62,7 +64,7 @@ fn put_rule(out: &mut [u8], n: usize, area: &[u8], k: u16) -> usize
 }
 
 fn put_fault(out: &mut [u8], n: usize, area: &[u8], k: u16) -> usize
-    ensures { Puts (fault_line (fault_at (before area) k)) out n result }
+    ensures { Puts (fault_line (fault_at area.now k)) out n result }
 {
     let n = put_text(out, n, b"fault");
     let n = put_fields(out, n, area, k as usize * FAULT_WIDTH, 4);
@@ -70,7 +72,7 @@ fn put_fault(out: &mut [u8], n: usize, area: &[u8], k: u16) -> usize
 }
 
 pub fn put_states(out: &mut [u8], n: usize, src: &[u8], area: &[u8], count: u16) -> usize
-    ensures { Puts (state_lines (before src) (before area) count) out n result }
+    ensures { Puts (state_lines src.now area.now count) out n result }
 {
     let mut r = n;
     let mut k = 0;
@@ -82,7 +84,7 @@ pub fn put_states(out: &mut [u8], n: usize, src: &[u8], area: &[u8], count: u16)
 }
 
 pub fn put_rules(out: &mut [u8], n: usize, area: &[u8], count: u16) -> usize
-    ensures { Puts (rule_lines (before area) count) out n result }
+    ensures { Puts (rule_lines area.now count) out n result }
 {
     let mut r = n;
     let mut k = 0;
@@ -94,7 +96,7 @@ pub fn put_rules(out: &mut [u8], n: usize, area: &[u8], count: u16) -> usize
 }
 
 pub fn put_faults(out: &mut [u8], n: usize, area: &[u8], count: u16) -> usize
-    ensures { Puts (fault_lines (before area) count) out n result }
+    ensures { Puts (fault_lines area.now count) out n result }
 {
     let mut r = n;
     let mut k = 0;
@@ -131,7 +133,7 @@ pub fn put_sheet(
     rules: u16,
     area2: &[u8],
 ) -> usize
-    ensures { Puts (sheet_lines (before src) (before area1) states (before area2) rules) out n result }
+    ensures { Puts (sheet_lines src.now area1.now states area2.now rules) out n result }
 {
     let n = put_states(out, n, src, area1, states);
     put_rules(out, n, area2, rules)

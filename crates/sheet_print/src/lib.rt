@@ -1,4 +1,6 @@
 // What the parse call makes of a file, as lines of text (01, Files to try, the end).
+#![tactic(auto)]
+
 ghost use Rattle.std.specs.Prelude.{◌≤◌, length, get_or};
 ghost use Rattle.area.specs.Phrases.{before, after};
 ghost use Rattle.output.specs.Output.{Written, AllWritten};
@@ -22,8 +24,8 @@ fn put_answer(
     area2: &[u8],
     area6: &[u8],
 ) -> usize
-    ensures { Written (answer_text (before src) answer (get_or counts 0 0) (get_or counts 1 0) (before area1) (before area2) (before area6))
-        (after out) result }
+    ensures { Written (answer_text src.now answer (get_or counts 0 0) (get_or counts 1 0) area1.now area2.now area6.now)
+        out.new result }
 {
     match answer {
         Answer::Accepted => put_sheet(out, 0, src, counts[0], area1, counts[1], area2),
@@ -38,7 +40,7 @@ fn put_answer(
 // All lines of a file with flags 0 and no verdicts, and how many bytes they have.
 pub fn sheet(src: &[u8], out: &mut [u8]) -> usize
     requires { sheet_room ≤ length out.old }
-    ensures { AllWritten (sheet_text (before src)) (after out) result }
+    ensures { AllWritten (sheet_text src.now) out.new result }
 {
     let mut counts = [0u16; 6];
     let mut area1 = [0u8; 384];

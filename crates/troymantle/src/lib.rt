@@ -1,4 +1,7 @@
-// The calls of the host, as C functions (01, Numbers given at the counter). An answer is one word of four two-byte fields: its number, then its values.
+// The calls of the host (01, Numbers given at the counter), which crate troymantle_c hands on to C. An answer is one word of four two-byte fields:
+// its number, then its values.
+#![tactic(auto)]
+
 ghost use Rattle.std.specs.Prelude.{◌≡◌};
 ghost use Rattle.rules_section.specs.Phrases.{asked};
 ghost use Rattle.parse.specs.Parse.{parse_call};
@@ -9,14 +12,13 @@ ghost use Rattle.troymantle.specs.Phrases.{words_left_in};
 use parse::call::parse;
 use words::parse_word;
 
-mod linking;
-mod pattern;
-mod places;
-mod running;
+pub mod linking;
+pub mod pattern;
+pub mod places;
+pub mod running;
 
 // Reads a lex file into six areas. On refusal the areas and counts are zero, but for the fault spans of number 5.
-#[unsafe(no_mangle)]
-pub extern "C" fn troymantle_parse(
+pub fn troymantle_parse(
     src: &[u8],
     flags: u64,
     verdicts: &[u8],
@@ -29,7 +31,7 @@ pub extern "C" fn troymantle_parse(
     counts: &mut [u16; 6],
 ) -> u64
     ensures { words_left_in result counts area1 area2 area3 area4 area5 area6
-        ≡ in_words (parse_call (asked src flags verdicts) (room_in area1 area2 area3 area4 area5 area6)) }
+        ≡ in_words (parse_call (asked src.now flags verdicts.now) (room_in area1 area2 area3 area4 area5 area6)) }
 {
     parse_word(parse(
         src, flags, verdicts, counts, area1, area2, area3, area4, area5, area6,

@@ -7,8 +7,7 @@ use sheet_check::pattern::{locate, pattern_test};
 use words::pattern_word;
 
 // Where the text of a rule stands: its place, from where, and its length; or number 6.
-#[unsafe(no_mangle)]
-pub extern "C" fn troymantle_pattern(
+pub fn troymantle_pattern(
     src: &[u8],
     area1: &[u8],
     area2: &[u8],
@@ -18,14 +17,13 @@ pub extern "C" fn troymantle_pattern(
     counts: &[u16; 6],
     rule: u64,
 ) -> u64
-    ensures { result ≡ pattern_word (pattern_part (sheet_in src area1 area2 area3 area4 area5 counts) rule) }
+    ensures { result ≡ pattern_word (pattern_part (sheet_in src.now area1.now area2.now area3.now area4.now area5.now counts.now) rule) }
 {
     pattern_word(locate(src, area1, area2, area3, area4, area5, counts, rule))
 }
 
 // 0 where the rule has a text, and 6 where it has none.
-#[unsafe(no_mangle)]
-pub extern "C" fn troymantle_pattern_test(
+pub fn troymantle_pattern_test(
     src: &[u8],
     area1: &[u8],
     area2: &[u8],
@@ -35,7 +33,7 @@ pub extern "C" fn troymantle_pattern_test(
     counts: &[u16; 6],
     rule: u64,
 ) -> u64
-    ensures { result ≡ number_of (pattern_part (sheet_in src area1 area2 area3 area4 area5 counts) rule) }
+    ensures { result ≡ number_of (pattern_part (sheet_in src.now area1.now area2.now area3.now area4.now area5.now counts.now) rule) }
 {
     pattern_test(src, area1, area2, area3, area4, area5, counts, rule)
 }

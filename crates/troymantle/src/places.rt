@@ -1,4 +1,4 @@
-// The line and column of an offset, and back, as C functions (02, 1/13).
+// The line and column of an offset, and back (02, 1/13).
 ghost use Rattle.std.specs.Prelude.{◌≡◌};
 ghost use Rattle.area.specs.Phrases.{before, after};
 ghost use Rattle.lines.specs.Lines.{place, line_column_left, line_column_call, offset_at, offset_word};
@@ -8,9 +8,8 @@ use lines::{Byte, ColNum, LineNum, Place};
 use words::{line_column_word, offset_word};
 
 // Writes the line and column of an offset of a source, both from 1. A refusal changes nothing.
-#[unsafe(no_mangle)]
-pub extern "C" fn troymantle_line_column(src: &[u8], offset: u64, place: &mut [u32; 2]) -> u64
-    ensures { line_column_left result (after place) ≡ line_column_call (before src) offset (before place) }
+pub fn troymantle_line_column(src: &[u8], offset: u64, place: &mut [u32; 2]) -> u64
+    ensures { line_column_left result place.new ≡ line_column_call src.now offset place.old }
 {
     let found = line_column(src, Byte(offset as usize));
     write_place(found, place);
@@ -18,9 +17,8 @@ pub extern "C" fn troymantle_line_column(src: &[u8], offset: u64, place: &mut [u
 }
 
 // The offset that has a line and a column.
-#[unsafe(no_mangle)]
-pub extern "C" fn troymantle_offset_at(src: &[u8], line: u64, column: u64) -> u64
-    ensures { result ≡ offset_word (offset_at (before src) (place line column)) }
+pub fn troymantle_offset_at(src: &[u8], line: u64, column: u64) -> u64
+    ensures { result ≡ offset_word (offset_at src.now (place line column)) }
 {
     let sought = Place {
         line_num: LineNum(line),

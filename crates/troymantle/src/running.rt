@@ -1,4 +1,4 @@
-// The start call and the step call as C functions (01, The run).
+// The start call and the step call (01, The run).
 ghost use Rattle.std.specs.Prelude.{◌≡◌};
 ghost use Rattle.run.specs.Run.{running, input, run_left, start_call, step_call};
 ghost use Rattle.sheet_check.specs.Phrases.{sheet_in};
@@ -10,7 +10,7 @@ use run::call::{start, step};
 use words::{start_word, step_word};
 
 // An answer's word, and the run's numbers after the call.
-#[derive(Drop)]
+#[derive(Clone, Copy)]
 pub struct Worded {
     pub word: u64,
     pub run: Run,
@@ -18,7 +18,7 @@ pub struct Worded {
 
 // The start call on a run by value.
 fn start_by_value(n: u64, r: Run, stack: &mut [u8]) -> Worded
-    ensures { run_left result.word result.run (after stack) ≡ start_in_words (start_call n (running r (before stack))) }
+    ensures { run_left result.word result.run stack.new ≡ start_in_words (start_call n (running r stack.old)) }
 {
     let begun = start(n, r, stack);
     let answer = begun.answer;
@@ -30,9 +30,8 @@ fn start_by_value(n: u64, r: Run, stack: &mut [u8]) -> Worded
 }
 
 // Begins a run over an entry of n bytes. A refusal changes nothing.
-#[unsafe(no_mangle)]
-pub extern "C" fn troymantle_start(n: u64, run: &mut Run, stack: &mut [u8]) -> u64
-    ensures { run_left result run.new (after stack) ≡ start_in_words (start_call n (running run.old (before stack))) }
+pub fn troymantle_start(n: u64, run: &mut Run, stack: &mut [u8]) -> u64
+    ensures { run_left result run.new stack.new ≡ start_in_words (start_call n (running run.old stack.old)) }
 {
     let worded = start_by_value(n, *run, stack);
     *run = worded.run;
@@ -52,8 +51,8 @@ fn step_by_value(
     stack: &mut [u8],
     row: &[u8],
 ) -> Worded
-    ensures { run_left result.word result.run (after stack)
-        ≡ step_in_words (step_call (sheet_in src area1 area2 area3 area4 area5 counts) (running r (before stack)) (input (before row))) }
+    ensures { run_left result.word result.run stack.new
+        ≡ step_in_words (step_call (sheet_in src.now area1.now area2.now area3.now area4.now area5.now counts.now) (running r stack.old) (input row.now)) }
 {
     let stepped = step(
         src, area1, area2, area3, area4, area5, counts, r, stack, row,
@@ -67,8 +66,7 @@ fn step_by_value(
 }
 
 // Moves a run on by a row, one length for each rule. A refusal changes nothing.
-#[unsafe(no_mangle)]
-pub extern "C" fn troymantle_step(
+pub fn troymantle_step(
     src: &[u8],
     area1: &[u8],
     area2: &[u8],
@@ -80,8 +78,8 @@ pub extern "C" fn troymantle_step(
     stack: &mut [u8],
     row: &[u8],
 ) -> u64
-    ensures { run_left result run.new (after stack)
-        ≡ step_in_words (step_call (sheet_in src area1 area2 area3 area4 area5 counts) (running run.old (before stack)) (input (before row))) }
+    ensures { run_left result
+        run.new stack.new ≡ step_in_words (step_call (sheet_in src.now area1.now area2.now area3.now area4.now area5.now counts.now) (running run.old stack.old) (input row.now)) }
 {
     let worded = step_by_value(
         src, area1, area2, area3, area4, area5, counts, *run, stack, row,

@@ -2,7 +2,6 @@
 use Rattle.std.specs.Prelude.{ℕ, ◌+◌, ◌*◌, ◌≤◌, ◌<◌, List, length}
 use Rattle.area.specs.Records.{state_width, rule_width, entry_width, rule_at}
 use Rattle.area.specs.Contents.{contents, state_format, rule_format, entry_format}
-use Rattle.area.specs.Phrases.{Bytes, before}
 use Rattle.winner.specs.Winner.{Lexer}
 
 -- what areas 1, 2 and 3 hold, with so many states, rules and list entries
@@ -11,8 +10,8 @@ lexer_at area1 area2 area3 states rules entries =
     record { states = contents state_format area1 states; rules = contents rule_format area2 rules; lists = contents entry_format area3 entries }
 
 -- the same, as they are lent
-abbrev pub lexer_in : Bytes → Bytes → Bytes → ℕ → ℕ → ℕ → Lexer
-lexer_in area1 area2 area3 = lexer_at (before area1) (before area2) (before area3)
+abbrev pub lexer_in : List ℕ → List ℕ → List ℕ → ℕ → ℕ → ℕ → Lexer
+lexer_in area1 area2 area3 = lexer_at area1 area2 area3
 
 -- areas 1, 2 and 3 are long enough for so many states, rules and list entries, and the list of each rule lies inside the entries
 pub record Readable (area1 area2 area3 : List ℕ) (states rules entries : ℕ) : Type 0 where

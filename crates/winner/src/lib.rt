@@ -1,4 +1,6 @@
 // The rule that wins: of those that are live the one with the greatest length, the earlier at a tie (01, The run).
+#![tactic(auto)]
+
 ghost use Rattle.std.specs.Prelude.{◌≡◌, cond, ◌+◌, ◌*◌, ◌≤◌, ◌<◌, max, length};
 ghost use Rattle.area.specs.Records.{state_width, entry_width};
 ghost use Rattle.area.specs.Contents.{contents, state_format, entry_format};
@@ -9,7 +11,7 @@ ghost use Rattle.winner.specs.Phrases.{lexer_in, Readable};
 use area::{Rule, read_entry, read_rule, read_state};
 
 // The greatest length among live rules, and the first rule that has it.
-#[derive(Drop)]
+#[derive(Clone, Copy)]
 pub struct Best {
     pub length: u16,
     pub rule: usize,
@@ -20,7 +22,7 @@ pub struct Best {
 // Where a state stands among the list entries from one place to before another.
 fn find_in_list(area3: &[u8], entries: u16, from: usize, end: usize, state: u16) -> usize
     requires { (from ≤ end) × (end ≤ entries) × (entries * entry_width ≤ length area3.now) }
-    ensures { result ≡ find_in_list (contents entry_format (before area3) entries) from end state }
+    ensures { result ≡ find_in_list (contents entry_format area3.now entries) from end state }
 {
     let mut i = from;
     while i < end {
@@ -36,7 +38,7 @@ fn is_live(area1: &[u8], area3: &[u8], states: u16, entries: u16, state: u16, x:
     requires list_count_bound { x.list_from + x.list_count ≤ entries }
     requires entry_width_in_bounds { entries * entry_width ≤ length area3.now }
     requires state_lt_states { (state < states) × (states * state_width ≤ length area1.now) }
-    ensures { result ≡ live (contents state_format (before area1) states) (contents entry_format (before area3) entries) state x }
+    ensures { result ≡ live (contents state_format area1.now states) (contents entry_format area3.now entries) state x }
 {
     if x.list_count == 0 {
         let s = read_state(area1, state as usize);
@@ -64,7 +66,7 @@ fn better_of(
     requires list_count_bound { x.list_from + x.list_count ≤ entries }
     requires entry_width_in_bounds { entries * entry_width ≤ length area3.now }
     requires state_lt_states { (state < states) × (states * state_width ≤ length area1.now) }
-    ensures { result ≡ better b k (cond (live (contents state_format (before area1) states) (contents entry_format (before area3) entries) state x) bytes 0) }
+    ensures { result ≡ better b k (cond (live (contents state_format area1.now states) (contents entry_format area3.now entries) state x) bytes 0) }
 {
     if b.length < bytes {
         if is_live(area1, area3, states, entries, state, x) {
@@ -90,7 +92,7 @@ fn longest(
     requires readable { Readable area1.now area2.now area3.now states rules entries }
     requires state_lt_states { state < states }
     requires entry_width_in_bounds { rules * entry_width ≤ length row.now }
-    ensures { result ≡ best (weight (lexer_in area1 area2 area3 states rules entries) state (before row)) rules }
+    ensures { result ≡ best (weight (lexer_in area1.now area2.now area3.now states rules entries) state row.now) rules }
 {
     let most = rules as usize;
     let mut b = Best { length: 0, rule: 0 };
@@ -117,7 +119,7 @@ fn max(x: u16, y: u16) -> u16
 
 pub fn greatest_length(row: &[u8], rules: u16) -> u16
     requires { rules * entry_width ≤ length row.now }
-    ensures { result ≡ greatest (length_in (before row)) rules }
+    ensures { result ≡ greatest (length_in row.now) rules }
 {
     let most = rules as usize;
     let mut top = 0;
@@ -134,7 +136,7 @@ pub fn greatest_length(row: &[u8], rules: u16) -> u16
 // The first rule that has a length, from one rule to before another.
 fn find_length(row: &[u8], from: usize, end: usize, bytes: u16) -> usize
     requires { end * entry_width ≤ length row.now }
-    ensures { result ≡ first_with (length_in (before row)) bytes from end }
+    ensures { result ≡ first_with (length_in row.now) bytes from end }
 {
     let mut k = from;
     while k < end {
@@ -162,7 +164,7 @@ fn first_longest(
     requires state_lt_states { state < states }
     requires entry_width_in_bounds { rules * entry_width ≤ length row.now }
     requires top_nonzero { 0 < top }
-    ensures { result ≡ first_with (weight (lexer_in area1 area2 area3 states rules entries) state (before row)) top 0 rules }
+    ensures { result ≡ first_with (weight (lexer_in area1.now area2.now area3.now states rules entries) state row.now) top 0 rules }
 {
     let most = rules as usize;
     let mut k = find_length(row, 0, most, top);
@@ -179,6 +181,7 @@ fn first_longest(
 // ---- the winner
 
 // The winner, by the greatest length of the row. Mostly a live rule has it; where none has, all rules are looked at.
+#[tactic(auto, using(crate::proofs::Topping::winner_none))]
 pub fn winner(
     area1: &[u8],
     area2: &[u8],
@@ -194,7 +197,7 @@ pub fn winner(
     requires state_lt_states { state < states }
     requires entry_width_in_bounds { rules * entry_width ≤ length row.now }
     requires top_value { top ≡ greatest (length_in row.now) rules }
-    ensures { result ≡ best (weight (lexer_in area1 area2 area3 states rules entries) state (before row)) rules }
+    ensures { result ≡ best (weight (lexer_in area1.now area2.now area3.now states rules entries) state row.now) rules }
 {
     if top == 0 {
         return Best { length: 0, rule: 0 };

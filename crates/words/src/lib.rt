@@ -1,4 +1,6 @@
 // Each call's answer as one word: its number, then its values (01, Numbers given at the counter).
+#![tactic(auto)]
+
 ghost use Rattle.std.specs.Prelude.{◌≡◌};
 ghost use Rattle.parse.specs.Parse.{parse_word};
 ghost use Rattle.sheet_check.specs.Pattern.{pattern_word};
