@@ -132,8 +132,8 @@ module _ {A : Type 0} (F : Format A) (test : A → Bool) (l : List ℕ) (count :
     record_asked : passes_at k ≡ r
     record_asked = ap test (contents_read F l count k h ∙ sym is) ∙ sym says
 
-    pub record_fails : not r ≡ true → passes_at k ≡ false
-    record_fails e = record_asked ∙ not-true r e
+    pub record_fails : r ≡ false → passes_at k ≡ false
+    record_fails e = record_asked ∙ e
 
-    pub record_passes : not r ≡ false → passes_at k ≡ true
-    record_passes e = record_asked ∙ not-false r e
+    pub record_passes : r ≡ true → passes_at k ≡ true
+    record_passes e = record_asked ∙ e

@@ -1,4 +1,4 @@
--- What walks by hand share: the borrow checker covers no function that has a reference to a struct, or a struct with a reference in it.
+-- What walks by hand share, of functions whose proof is not generated.
 -- The lifetimes' tokens, what the parameters own and what is had of them at exit are lists of formulas. A call's promise is taken apart.
 -- A walk names what it has by its place. Once n locals are allocated, local i stands at 2 * (n - 1 - i), the right to free it behind it, and
 -- what is put in front moves all places on.
@@ -7,8 +7,8 @@ use Prim.Native.Nat.{ℕ, zero, suc}
 use mathlib.Core.List.{List, [], ◌∷◌}
 use lib.Dec.{T}
 use seplogic.Ra.Ura.{Ura}
-use seplogic.Ra.TreeShare.{full_share}
-use mir.Syntax.{Ty, Name, Place, place, Opd as Operand, copy, Body as Code, Local, local, seq, call}
+use base.Fraction.{full_share}
+use mir.Syntax.{Ty, Callee, Place, place, Opd as Operand, copy, Body as Code, Local, local, seq, call}
 use mir.Val.{Val, WT, has_ty}
 use base.Logic.{ent, sep, via, mono_l, mono_r, id⊢}
 use base.Fml.{Fml, Share, ftrue, fsep, fat, froom, fdies, flft}
@@ -89,10 +89,10 @@ module _ {M : Type 1} {𝓤 : Ura M} {𝓛 : Logic 𝓤} {K : Type 0} {Γ : List
         (mono_r 𝓤 (H.room τ b zero)
         (subst (λ (j : Item 𝓤). ent 𝓤 (⋆ 𝓛 (del 𝓛 n Γ)) (sep 𝓤 (mean 𝓛 j) (⋆ 𝓛 rest))) d (pull 𝓛 n (del 𝓛 n Γ))))
         (via 𝓤 (sep 𝓤 (H.room τ b zero) (⋆ 𝓛 (‵ (fdies τ b) ∷ rest))) (mono_r 𝓤 (H.room τ b zero) (push 𝓛 (‵ (fdies τ b)) rest))
-        ((free1 {W = 𝓛} t {τ = τ} {b = b} {E = E} {g = g}).go s).prf)));
+        ((free1 {𝓛 = 𝓛} t {τ = τ} {b = b} {E = E} {g = g}).go s).prf)));
   })
 
-  module _ {C : Calls 𝓤 H} {Λ : Loops 𝓤 H} {E : Env 𝓤 H} {q : Post 𝓤 H} {f : Name} {xs : List Operand} {d : Place} {rest : Code} where
+  module _ {C : Calls 𝓤 H} {Λ : Loops 𝓤 H} {E : Env 𝓤 H} {q : Post 𝓤 H} {f : Callee} {xs : List Operand} {d : Place} {rest : Code} where
     -- a call: the context begins with what the callee asks, and then with what the result owns, the tokens, what is said of the last values, and
     -- the `ensures`
     pub called : K → FmC 𝓤 H 𝓛.laws C → (T : Ended) (c : Clauses 𝓤 T) → Triple 𝓤 (C f) (triple_of 𝓛 T.signature (closing 𝓛 T c))

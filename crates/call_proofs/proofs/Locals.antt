@@ -4,7 +4,7 @@ use mathlib.Core.Path.{◌≡◌, ap, sym, subst}
 use Prim.Native.Nat.{ℕ, zero, suc, ◌-◌, ◌*◌}
 use mathlib.Core.List.{List, [], ◌∷◌}
 use seplogic.Ra.Ura.{Ura}
-use seplogic.Ra.TreeShare.{full_share}
+use base.Fraction.{full_share}
 use mir.Syntax.{Ty, place, Opd as Operand, copy, Local, local}
 use mir.Val.{Val}
 use base.Fml.{Share, ftrue, fat, froom, fdies}

@@ -55,7 +55,7 @@ module _ (a b d : ℕ) where
   value_3 : ℕ
   value_3 = (a - 0xe0) * 0x1000 + (b - 0x80) * 0x40 + (d - 0x80)
 
-  build-3 :
+  build_3 :
       (0xe0 ≤ a) × (a ≤ 0xef)
       → (0x80 ≤ b) × (b ≤ 0xbf)
       → (0x80 ≤ d) × (d ≤ 0xbf)
@@ -63,31 +63,31 @@ module _ (a b d : ℕ) where
       → is_scalar value_3 ≡ true
       → Decoded (a ∷ b ∷ d ∷ [])
   unfolding value_3
-  build-3 ra rb rd big ok =
+  build_3 ra rb rd big ok =
       let p : 0xe0 + value_3 / 0x1000 ≡ a = omega arith in
       let q : 0x80 + value_3 / 0x40 % 0x40 ≡ b = omega arith in
       let r : 0x80 + value_3 % 0x40 ≡ d = omega arith in
       record { value = value_3; scalar = ok; bytes = encode_3 value_3 big (omega arith) ∙ rw (p, q, r) }
 
   -- a row with a range of first bytes, and one with a single first byte
-  row-3 :
+  row_3 :
       (la ha lb hb : ℕ)
       → within la ha a && (within lb hb b && is_continuation d) ≡ true
       → ((la ≤ a) × (a ≤ ha) × (lb ≤ b) × (b ≤ hb) × (0x80 ≤ d) × (d ≤ 0xbf) → Decoded (a ∷ b ∷ d ∷ []))
       → Decoded (a ∷ b ∷ d ∷ [])
-  row-3 la ha lb hb e f =
+  row_3 la ha lb hb e f =
       let t = both (within la ha a) (within lb hb b) (is_continuation d) e in
       let ra = range_of la ha a t.0 in
       let rb = range_of lb hb b t.1 in
       let rd = range_of 0x80 0xbf d t.2 in
       f (ra.0, ra.1, rb.0, rb.1, rd.0, rd.1)
 
-  one-row-3 :
+  one_row_3 :
       (x lb hb : ℕ)
       → eqb a x && (within lb hb b && is_continuation d) ≡ true
       → ((a ≡ x) × (lb ≤ b) × (b ≤ hb) × (0x80 ≤ d) × (d ≤ 0xbf) → Decoded (a ∷ b ∷ d ∷ []))
       → Decoded (a ∷ b ∷ d ∷ [])
-  one-row-3 x lb hb e f =
+  one_row_3 x lb hb e f =
       let t = both (eqb a x) (within lb hb b) (is_continuation d) e in
       let rb = range_of lb hb b t.1 in
       let rd = range_of 0x80 0xbf d t.2 in
@@ -101,12 +101,12 @@ module _ (a b d : ℕ) where
       let r3 = eqb a 0xed && (within 0x80 0x9f b && is_continuation d) in
       let r4 = within 0xee 0xef a && (is_continuation b && is_continuation d) in
       or_cases r1 (r2 || (r3 || r4)) e
-      (λ t. one-row-3 0xe0 0xa0 0xbf t (λ h. build-3 (omega arith) (omega arith) (omega arith) (omega arith) (low value_3 (omega arith))))
+      (λ t. one_row_3 0xe0 0xa0 0xbf t (λ h. build_3 (omega arith) (omega arith) (omega arith) (omega arith) (low value_3 (omega arith))))
       (λ u. or_cases r2 (r3 || r4) u
-      (λ t. row-3 0xe1 0xec 0x80 0xbf t (λ h. build-3 (omega arith) (omega arith) (omega arith) (omega arith) (low value_3 (omega arith))))
+      (λ t. row_3 0xe1 0xec 0x80 0xbf t (λ h. build_3 (omega arith) (omega arith) (omega arith) (omega arith) (low value_3 (omega arith))))
       (λ v. or_cases r3 r4 v
-      (λ t. one-row-3 0xed 0x80 0x9f t (λ h. build-3 (omega arith) (omega arith) (omega arith) (omega arith) (low value_3 (omega arith))))
-      (λ t. row-3 0xee 0xef 0x80 0xbf t (λ h. build-3 (omega arith) (omega arith) (omega arith) (omega arith) (high value_3 (omega arith) (omega arith))))))
+      (λ t. one_row_3 0xed 0x80 0x9f t (λ h. build_3 (omega arith) (omega arith) (omega arith) (omega arith) (low value_3 (omega arith))))
+      (λ t. row_3 0xee 0xef 0x80 0xbf t (λ h. build_3 (omega arith) (omega arith) (omega arith) (omega arith) (high value_3 (omega arith) (omega arith))))))
 
 low_six_2 : (x y : ℕ) → y < 0x40 → (x * 0x40 + y) % 0x40 ≡ y
 low_six_2 x y h = omega arith
@@ -118,14 +118,14 @@ module _ (a b d f : ℕ) where
   value_4 : ℕ
   value_4 = (a - 0xf0) * 0x40000 + (b - 0x80) * 0x1000 + (d - 0x80) * 0x40 + (f - 0x80)
 
-  build-4 :
+  build_4 :
       (0xf0 ≤ a) × (a ≤ 0xf4)
       → (0x80 ≤ b) × (b ≤ 0xbf)
       → is_continuation d && is_continuation f ≡ true
       → (0x10000 ≤ (a - 0xf0) * 0x40000 + (b - 0x80) * 0x1000) × ((a - 0xf0) * 0x40000 + (b - 0x80) * 0x1000 ≤ 0x10f000)
       → Decoded (a ∷ b ∷ d ∷ f ∷ [])
   unfolding value_4
-  build-4 ra rb t big =
+  build_4 ra rb t big =
       let rd = range_of 0x80 0xbf d (and_left (is_continuation d) (is_continuation f) t) in
       let rf = range_of 0x80 0xbf f (and_right (is_continuation d) (is_continuation f) t) in
       let p : 0xf0 + value_4 / 0x40000 ≡ a = omega arith in
@@ -147,18 +147,18 @@ module _ (a b d f : ℕ) where
       let k = both (eqb a 0xf0) (within 0x90 0xbf b) rest t in
       let x = eqb-true a 0xf0 k.0 in
       let y = range_of 0x90 0xbf b k.1 in
-      build-4 (omega arith) (omega arith) k.2 (omega arith))
+      build_4 (omega arith) (omega arith) k.2 (omega arith))
       (λ u. or_cases r2 r3 u
       (λ t.
       let k = both (within 0xf1 0xf3 a) (is_continuation b) rest t in
       let x = range_of 0xf1 0xf3 a k.0 in
       let y = range_of 0x80 0xbf b k.1 in
-      build-4 (omega arith) (omega arith) k.2 (omega arith))
+      build_4 (omega arith) (omega arith) k.2 (omega arith))
       (λ t.
       let k = both (eqb a 0xf4) (within 0x80 0x8f b) rest t in
       let x = eqb-true a 0xf4 k.0 in
       let y = range_of 0x80 0x8f b k.1 in
-      build-4 (omega arith) (omega arith) k.2 (omega arith)))
+      build_4 (omega arith) (omega arith) k.2 (omega arith)))
 
 -- ---- the character that the walk passes at k
 

@@ -307,12 +307,12 @@ module _ (s : List ℕ) (n : ℕ) (e : n + 3 ≡ length s) where
   none_behind k h = get_or-eq_default s 0 h
 
   module _ (ends : ends_out_of_place (byte s n) (byte s (n + 1)) (byte s (n + 2)) ≡ false) where
-    last-three :
+    last_three :
         (out_of_place (byte s n) (byte s (n + 1)) (byte s (n + 2)) 0 ≡ false)
         × (out_of_place (byte s (n + 1)) (byte s (n + 2)) 0 0 ≡ false)
         × (out_of_place (byte s (n + 2)) 0 0 0 ≡ false)
     unfolding ends_out_of_place
-    last-three =
+    last_three =
         all_fail
         (out_of_place (byte s n) (byte s (n + 1)) (byte s (n + 2)) 0)
         (out_of_place (byte s (n + 1)) (byte s (n + 2)) 0 0)
@@ -320,15 +320,15 @@ module _ (s : List ℕ) (n : ℕ) (e : n + 3 ≡ length s) where
         ends
 
     behind_0 : out_of_place_behind s n ≡ false
-    behind_0 = rw (none_behind (n + 3) (omega arith)) last-three.0
+    behind_0 = rw (none_behind (n + 3) (omega arith)) last_three.0
 
     behind_1 : out_of_place_behind s (n + 1) ≡ false
-    behind_1 = rw (add_assoc n 1 1, none_behind (n + 1 + 2) (omega arith), none_behind (n + 1 + 3) (omega arith)) last-three.1
+    behind_1 = rw (add_assoc n 1 1, none_behind (n + 1 + 2) (omega arith), none_behind (n + 1 + 3) (omega arith)) last_three.1
 
     behind_2 : out_of_place_behind s (n + 2) ≡ false
     behind_2 =
         rw (none_behind (n + 2 + 1) (omega arith), none_behind (n + 2 + 2) (omega arith), none_behind (n + 2 + 3) (omega arith))
-        last-three.2
+        last_three.2
 
     all_behind : any (out_of_place_behind s) n ≡ false → (k : ℕ) → k < length s → out_of_place_behind s k ≡ false
     all_behind f k h =

@@ -65,7 +65,7 @@ byte_is_small a e =
     whitespace_bytes (λ n. n ≤ 0x20) a e (omega arith, (omega arith, (omega arith, tt))) (omega arith, (omega arith, tt)) (omega arith)
 
 -- the three ways in which bytes are measured
-measured-by :
+measured_by :
     {A : Type 0} (a b d : ℕ)
     → 0 < whitespace_of a b d
     → (is_whitespace_byte a ≡ true → A)
@@ -73,7 +73,7 @@ measured-by :
     → (a ≡ 0xe2 → b ≡ 0x80 → is_pattern_white_space (0x1f80 + d) ≡ true → A)
     → A
 unfolding whitespace_of is_pattern_white_space
-measured-by {A} a b d h one two three =
+measured_by {A} a b d h one two three =
     let P : ℕ → Type 0 = λ n. 0 < n → A in
     by_test P (is_whitespace_byte a) 1 _ (λ e _. one e)
     (λ _. by_test P (is_next_line a b) 2 _ (λ e _. two (eqb-true a 0xc2 (and_left (eqb a 0xc2) (eqb b 0x85) e)) (eqb-true b 0x85 (and_right (eqb a 0xc2) (eqb b 0x85) e)))
@@ -94,16 +94,16 @@ measured_is_white : (c : ℕ) (t : List ℕ) → 0 < whitespace_len (encode c ++
 unfolding whitespace_len is_pattern_white_space
 measured_is_white c t h =
     by_size c
-    (λ r. measured-by c (byte t 0) (byte t 1) (rw (encode_1 c r) at h) (λ e. byte_is_white c e) (λ a b. absurd (omega arith)) (λ a b d. absurd (omega arith)))
-    (λ l r. measured-by (0xc0 + c / 0x40) (0x80 + c % 0x40) (byte t 0) (rw (encode_2 c l r) at h)
+    (λ r. measured_by c (byte t 0) (byte t 1) (rw (encode_1 c r) at h) (λ e. byte_is_white c e) (λ a b. absurd (omega arith)) (λ a b d. absurd (omega arith)))
+    (λ l r. measured_by (0xc0 + c / 0x40) (0x80 + c % 0x40) (byte t 0) (rw (encode_2 c l r) at h)
     (λ e. absurd (omega (arith, byte_is_small (0xc0 + c / 0x40) e)))
     (λ a b. is_white c 0x85 (omega arith) refl)
     (λ a b d. absurd (omega arith)))
-    (λ l r. measured-by (0xe0 + c / 0x1000) (0x80 + c / 0x40 % 0x40) (0x80 + c % 0x40) (rw (encode_3 c l r) at h)
+    (λ l r. measured_by (0xe0 + c / 0x1000) (0x80 + c / 0x40 % 0x40) (0x80 + c % 0x40) (rw (encode_3 c l r) at h)
     (λ e. absurd (omega (arith, byte_is_small (0xe0 + c / 0x1000) e)))
     (λ a b. absurd (omega arith))
     (λ a b d. is_white c (0x1f80 + (0x80 + c % 0x40)) (omega arith) d))
-    (λ l. measured-by (0xf0 + c / 0x40000) (0x80 + c / 0x1000 % 0x40) (0x80 + c / 0x40 % 0x40) (rw (encode_4 c l) at h)
+    (λ l. measured_by (0xf0 + c / 0x40000) (0x80 + c / 0x1000 % 0x40) (0x80 + c / 0x40 % 0x40) (rw (encode_4 c l) at h)
     (λ e. absurd (omega (arith, byte_is_small (0xf0 + c / 0x40000) e)))
     (λ a b. absurd (omega arith))
     (λ a b d. absurd (omega arith)))

@@ -15,7 +15,6 @@ use Rattle.text.specs.Scan.{find_whitespace}
 use Rattle.characters.proofs.Tests.{and_left}
 use Rattle.area.specs.declared.State.{State}
 use Rattle.area.specs.declared.Appended.{Appended}
-use Rattle.area.specs.declared.Appended.TheVariants as Appended
 use Rattle.area.specs.declared.Appended.TheVariants.{Next}
 use Rattle.area.specs.Areas.{Pushed}
 use Rattle.area.specs.Records.{nth_state, state_at, state_bytes, state_width, most_states}

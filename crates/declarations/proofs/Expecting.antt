@@ -22,7 +22,6 @@ use Rattle.area.specs.Records.{expected_bytes, expected_width, most_others}
 use Rattle.area.specs.Contents.{append, contents, expected_format, Grows, Held}
 use Rattle.area.proofs.Contents.{expected_sound, held_push}
 use Rattle.fault.specs.declared.Progress.{Progress}
-use Rattle.fault.specs.declared.Progress.TheVariants as Progress
 use Rattle.fault.specs.declared.Progress.TheVariants.{Go, Bad}
 use Rattle.fault.specs.Step.{Out, go, bad, full, Does, progress, written}
 use Rattle.fault.specs.Faults.{InvalidName}

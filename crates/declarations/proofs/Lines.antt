@@ -21,7 +21,6 @@ use Rattle.characters.proofs.Spaces.{end_none_of_white}
 use Rattle.area.specs.declared.Expected.{Expected}
 use Rattle.area.specs.Contents.{contents, expected_format, Held}
 use Rattle.fault.specs.declared.Progress.{Progress}
-use Rattle.fault.specs.declared.Progress.TheVariants as Progress
 use Rattle.fault.specs.Step.{Out, go, bad, full, next, onto, loop, Does, progress}
 use Rattle.fault.specs.Faults.{UnknownDeclaration, PrematureEnd}
 use Rattle.fault.proofs.Steps.{Loops, loops_stop, loops_next, loops_bad, loops_full, going_start, does_go, does_bad, does_full, was_go, was_bad}

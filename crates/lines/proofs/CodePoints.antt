@@ -3,7 +3,7 @@
 use mathlib.Core.Path.{◌≡◌, refl, sym, ap, ◌∙◌}
 use mathlib.Core.Bool.{Bool, true, false, cond}
 use mathlib.Core.List.{List, [], ◌∷◌, ◌++◌, append_assoc, append-nil}
-use mathlib.Core.Logic.{◌⊎◌, ⊎_elim}
+use mathlib.Core.Logic.{⊎_elim}
 use Prim.Native.Nat.{ℕ, ◌+◌, ◌-◌, ◌≤◌, ◌<◌}
 use native.Mathlib.Nat.{eq-or-lt_of_le}
 use native.Mathlib.Omega.{arith}
@@ -89,12 +89,12 @@ module _ (ws : List ℕ) (x : ℕ) (ys : List ℕ) where
 
 -- ---- the characters one after the other, behind the characters ws
 
-behind-from :
+behind_from :
     (ws xs ys : List ℕ)
     → place_at (encode_all (ws ++ (xs ++ ys))) (length (encode_all (ws ++ xs))) ≡ behind_all (place_at (encode_all (ws ++ (xs ++ ys))) (length (encode_all ws))) xs
 unfolding behind_all
-behind-from ws [] ys = ap (λ (zs : List ℕ). place_at (encode_all (ws ++ ys)) (length (encode_all zs))) (append-nil ws)
-behind-from ws (x ∷ xs) ys = rest (behind-from (ws ++ x ∷ []) xs ys)
+behind_from ws [] ys = ap (λ (zs : List ℕ). place_at (encode_all (ws ++ ys)) (length (encode_all zs))) (append-nil ws)
+behind_from ws (x ∷ xs) ys = rest (behind_from (ws ++ x ∷ []) xs ys)
   where
     one : place_at (encode_all (ws ++ x ∷ (xs ++ ys))) (length (encode_all (ws ++ x ∷ []))) ≡ behind_one (place_at (encode_all (ws ++ x ∷ (xs ++ ys))) (length (encode_all ws))) x
     one = ap (place_at (encode_all (ws ++ x ∷ (xs ++ ys)))) (edge_behind ws x) ∙ behind_character ws x (xs ++ ys)
@@ -113,7 +113,7 @@ behind-from ws (x ∷ xs) ys = rest (behind-from (ws ++ x ∷ []) xs ys)
 
 pub place_behind : (xs ys : List ℕ) → place_at (encode_all (xs ++ ys)) (length (encode_all xs)) ≡ behind_all (place 1 1) xs
 unfolding encode_all
-place_behind xs ys = behind-from [] xs ys ∙ ap (λ (p : Place). behind_all p xs) (sym (first_placed (encode_all (xs ++ ys))))
+place_behind xs ys = behind_from [] xs ys ∙ ap (λ (p : Place). behind_all p xs) (sym (first_placed (encode_all (xs ++ ys))))
 
 -- ---- the call
 

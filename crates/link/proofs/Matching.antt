@@ -194,11 +194,11 @@ module _ (name : Rule → List ℕ) (names entries l : List ℕ) (count : ℕ) w
 
       one_counted : is_unmapped name es x ≡ true → n + 1 ≡ length (numbers test (k + 1))
       one_counted e =
-          count_yes test k n M.missing (record_passes rule_format (is_unmapped name es) l count k h x is (is_unmapped name es x) refl (ap not e))
+          count_yes test k n M.missing (record_passes rule_format (is_unmapped name es) l count k h x is (is_unmapped name es x) refl e)
 
       none_counted : is_unmapped name es x ≡ false → n ≡ length (numbers test (k + 1))
       none_counted e =
-          count_no test k n M.missing (record_fails rule_format (is_unmapped name es) l count k h x is (is_unmapped name es x) refl (ap not e))
+          count_no test k n M.missing (record_fails rule_format (is_unmapped name es) l count k h x is (is_unmapped name es x) refl e)
 
       pub matching_unnamed : (x.named ≡ 1 → ⊥) → Matching name names entries l count (k + 1) n found used
       matching_unnamed d = record {

@@ -1,12 +1,12 @@
 -- The area of the linked rules is read back as the linked rules, so those without an id are the unmapped ones; then a law for each way out
 -- of the call.
 use mathlib.Core.Path.{◌≡◌, refl, sym, ap, ◌∙◌}
-use mathlib.Core.Bool.{Bool, true, false, cond, not, ◌&&◌}
+use mathlib.Core.Bool.{Bool, true, false, cond, ◌&&◌}
 use mathlib.Core.List.{List, map}
 use mathlib.Core.Option.{Option, none, some}
-use Prim.Native.Nat.{ℕ, ◌*◌, ◌-◌, ◌%◌, ◌≤◌, ◌<◌}
+use Prim.Native.Nat.{ℕ, ◌*◌, ◌%◌, ◌≤◌, ◌<◌}
 use native.Mathlib.Omega.{arith}
-use borrow.Author.Tests.{le-leb, lt-leb, leb-true, not-true, not-false}
+use borrow.Author.Tests.{le-leb, lt-leb, leb-true}
 use lib.Dec.{eqb, leb}
 use lib.ListN.{length, get_or, length-map, length-replicate, get_or-map}
 use Rattle.characters.proofs.Tests.{and_left, and_right}
@@ -138,27 +138,27 @@ map_few names entries e =
     let a4 : Bool = distinct (entries_of names entries) in
     leb-true (entry_count entries) most_entries (and_right a1 a2 (and_left (a1 && a2) a3 (and_left (a1 && a2 && a3) a4 e)))
 
-module _ (b : SheetBytes) (t : Bool) (is : t ≡ sheet_check b) (h : not t ≡ false) where
+module _ (b : SheetBytes) (t : Bool) (is : t ≡ sheet_check b) (h : t ≡ true) where
   passed : sheet_check b ≡ true
-  passed = sym is ∙ not-false t h
+  passed = sym is ∙ h
 
   pub call_rules : (count b 2 ≤ most_rules) × (count b 2 * rule_width ≤ length b.area2)
   call_rules = ((checked_counts b passed).2, (checked_long b passed).long2)
 
-pub call_entries : (names entries : List ℕ) (u : Bool) → u ≡ map_check names entries → not u ≡ false → entry_count entries ≤ most_entries
-call_entries names entries u says g = map_few names entries (sym says ∙ not-false u g)
+pub call_entries : (names entries : List ℕ) (u : Bool) → u ≡ map_check names entries → u ≡ true → entry_count entries ≤ most_entries
+call_entries names entries u says g = map_few names entries (sym says ∙ g)
 
 module _ (b : SheetBytes) (names entries x7 x8 : List ℕ) (t : Bool) (is : t ≡ sheet_check b) where
-  pub call_sheet : not t ≡ true → link_left BrokenSheet b.area2 x7 x8 ≡ link_call b names entries x7 x8
+  pub call_sheet : t ≡ false → link_left BrokenSheet b.area2 x7 x8 ≡ link_call b names entries x7 x8
   unfolding link_call
-  call_sheet h = rw (← is, not-true t h)
+  call_sheet h = rw (← is, h)
 
-  module _ (h : not t ≡ false) (u : Bool) (says : u ≡ map_check names entries) where
-    pub call_map : not u ≡ true → link_left BrokenMap b.area2 x7 x8 ≡ link_call b names entries x7 x8
+  module _ (h : t ≡ true) (u : Bool) (says : u ≡ map_check names entries) where
+    pub call_map : u ≡ false → link_left BrokenMap b.area2 x7 x8 ≡ link_call b names entries x7 x8
     unfolding link_call
-    call_map g = rw (passed b t is h, ← says, not-true u g)
+    call_map g = rw (passed b t is h, ← says, g)
 
-    pub call_linked : not u ≡ false
+    pub call_linked : u ≡ true
         → link_checked (name_in b) (contents rule_format b.area2 (count b 2)) (entries_of names entries) b.area2 x7 x8 ≡ link_call b names entries x7 x8
     unfolding link_call decoded
-    call_linked g = rw (passed b t is h, ← says, not-false u g)
+    call_linked g = rw (passed b t is h, ← says, g)

@@ -4,7 +4,7 @@ use mathlib.Core.Path.{◌≡◌, subst⁻¹}
 use mathlib.Core.Bool.{Bool, true, ◌&&◌}
 use mathlib.Core.List.{List}
 use mathlib.Core.Logic.{⊎_elim}
-use Prim.Native.Nat.{ℕ, ◌*◌, ◌-◌, ◌%◌, ◌≤◌, ◌<◌}
+use Prim.Native.Nat.{ℕ, ◌*◌, ◌%◌, ◌≤◌, ◌<◌}
 use native.Mathlib.Omega.{arith}
 use borrow.Author.Tests.{leb-true}
 use lib.Dec.{eqb, leb}
@@ -21,7 +21,7 @@ use Rattle.area.proofs.Fields.{field_small}
 use Rattle.sheet_check.specs.declared.Located.{Located}
 use Rattle.sheet_check.specs.declared.Located.TheVariants as C
 use Rattle.sheet_check.specs.SheetCheck.{SheetBytes, name_in, decoded, sheet_check}
-use Rattle.area.specs.Lists.{all, numbers}
+use Rattle.area.specs.Lists.{all}
 use Rattle.sheet_check.specs.Pattern.{has_rule, part_of, pattern_part, pattern_fields}
 use Rattle.area.proofs.Contents.{contents_count, contents_read}
 use Rattle.area.proofs.Numbers.{numbers_few}

@@ -9,14 +9,11 @@ use native.Mathlib.Omega.{arith}
 use borrow.Author.Tests.{ltb-true}
 use lib.ListN.{get_or, get_elem?, replicate}
 use Rattle.characters.proofs.Tests.{and_left, and_right}
-use Rattle.area.specs.Bytes.{AllBytes, bytes}
+use Rattle.area.specs.Bytes.{AllBytes}
 use Rattle.section.specs.Request.{request, options}
-use Rattle.rules.specs.Rules.{entries}
-use Rattle.rules_section.specs.RulesSection.{rule, rules}
-use Rattle.parse.specs.Parse.{Caps, caps, file}
+use Rattle.parse.specs.Parse.{Caps, caps}
 use Rattle.area.specs.Lists.{all}
 use Rattle.parsed_sheet.specs.Accepted.{is_byte}
-use Rattle.link.specs.Link.{unmapped, unused}
 use Rattle.run.specs.declared.Run.{Run}
 use Rattle.run.specs.declared.Step.{Step}
 use Rattle.run.specs.declared.Step.TheVariants.{RowMismatch, Done, Stopped, Skip, Token}

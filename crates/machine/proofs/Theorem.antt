@@ -18,7 +18,7 @@ use Rattle.name_map.specs.Map.{Entry, entries_of}
 use Rattle.winner.specs.Winner.{Lexer}
 use Rattle.run.specs.declared.Begun.{Begun}
 use Rattle.run.specs.declared.Begun.TheVariants.{Started}
-use Rattle.run.specs.Run.{Running, running, most_bytes, put_state, Input, RunLeft, leaving, run_left, first_run, start_call}
+use Rattle.run.specs.Run.{Running, most_bytes, put_state, Input, RunLeft, leaving, run_left, first_run, start_call}
 use Rattle.run_laws.specs.Calls.{calls, EachCall}
 use Rattle.run_laws.specs.Always.{SoundRun, SoundCall, AlwaysHolds}
 use Rattle.run_laws.proofs.Started.{start_small, start_long, start_left}

@@ -59,7 +59,7 @@ module _ (name : Rule → List ℕ) (c : Contents) (sound : Sound c) (m : Machin
     is_rule = some_is w.rule (file_rule name c (nth_rule c.rules p.place)) (sym p.rule ∙ rule-at p.place inside)
 
     is_live_lem : live c.states c.lists (current_state m.stack) (nth_rule c.rules p.place) ≡ true
-    is_live_lem = sym (live_at p.place inside) ∙ ap alive (sym is_rule) ∙ p.is_live_lem
+    is_live_lem = sym (live_at p.place inside) ∙ ap alive (sym is_rule) ∙ p.is_live
 
     weighs : f p.place ≡ w.bytes
     unfolding weight

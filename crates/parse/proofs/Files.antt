@@ -20,7 +20,6 @@ use Rattle.characters.proofs.Walks.{first_to}
 use Rattle.area.specs.declared.State.{State}
 use Rattle.area.specs.declared.Fault.{Fault}
 use Rattle.area.specs.declared.Appended.{Appended}
-use Rattle.area.specs.declared.Appended.TheVariants as Appended
 use Rattle.area.specs.Bytes.{zeros}
 use Rattle.area.specs.Areas.{Pushed}
 use Rattle.area.specs.Records.{state_width, most_states, state_bytes}

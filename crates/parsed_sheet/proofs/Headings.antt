@@ -1,5 +1,5 @@
 -- What the heading of a fresh rule says: its marks, its operation, a declared target, a span and a name within the source.
-use Prim.Native.Nat.{ℕ, ◌+◌, ◌-◌, ◌≤◌, ◌<◌}
+use Prim.Native.Nat.{ℕ, ◌+◌, ◌≤◌, ◌<◌}
 use mathlib.Core.Path.{◌≡◌, refl, sym, subst}
 use mathlib.Core.Bool.{cond}
 use mathlib.Core.List.{List}

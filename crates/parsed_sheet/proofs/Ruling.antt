@@ -1,6 +1,6 @@
 -- What the rules section keeps: each rule's ranges lie within the source, the list entries and the rewritten text so far, which only grow; its id is
 -- its position; each entry and each target is a declared state; and no two rules have the same name.
-use Prim.Native.Nat.{ℕ, ◌+◌, ◌-◌, ◌≤◌, ◌<◌}
+use Prim.Native.Nat.{ℕ, ◌+◌, ◌≤◌, ◌<◌}
 use mathlib.Core.Path.{◌≡◌, refl, sym}
 use mathlib.Core.Bool.{Bool, true, false, cond}
 use mathlib.Core.List.{List, [], ◌∷◌, ◌++◌}

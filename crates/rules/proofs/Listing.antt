@@ -23,7 +23,6 @@ use Rattle.area.proofs.Contents.{state_sound, entry_sound, contents-length, held
 use Rattle.fault.specs.Step.{Out, go, bad, full, Does, progress, written}
 use Rattle.fault.specs.declared.Progress.{Progress}
 use Rattle.fault.specs.declared.Progress.TheVariants.{Go, Bad}
-use Rattle.fault.specs.declared.Progress.TheVariants as Progress
 use Rattle.fault.specs.Faults.{UnknownStartState}
 use Rattle.fault.proofs.Steps.{Loops, going_start, loops_stop, loops_next, loops_bad, loops_full, does_go, does_bad, does_full, was_go, written_next}
 use Rattle.fault.proofs.Steps.{written_full, written_place, bad_goes}

@@ -11,11 +11,9 @@ use lib.ListN.{length}
 use Rattle.area.specs.declared.State.{State}
 use Rattle.area.specs.declared.Rule.{Rule}
 use Rattle.area.specs.declared.Appended.{Appended}
-use Rattle.area.specs.declared.Appended.TheVariants as Appended
 use Rattle.area.specs.Contents.{append, contents, rule_format, entry_format, text_format, Grows, Held}
 use Rattle.area.proofs.Contents.{contents-length, rule_sound, entry_sound, text_sound}
 use Rattle.fault.specs.declared.Progress.{Progress}
-use Rattle.fault.specs.declared.Progress.TheVariants as Progress
 use Rattle.fault.specs.Step.{Out, bad, full, next, onto, written, Does, progress}
 use Rattle.fault.specs.Faults.{InvalidStartState}
 use Rattle.fault.proofs.Steps.{does_bad, does_full, does_onto, was_go, was_bad, was_full, written_next, written_full}
@@ -31,7 +29,6 @@ use Rattle.rules_section.specs.RulesSection.{Sheet, sheet, Caps, Text, StateList
 use Rattle.rules_section.specs.RulesSection.{listed_rule, rewritten_rule, pattern}
 use Rattle.rules_section.specs.declared.SheetCounts.{SheetCounts}
 use Rattle.rules_section.specs.declared.SheetProgress.{SheetProgress}
-use Rattle.rules_section.specs.declared.SheetProgress.TheVariants.{Go, Bad, Full}
 use Rattle.rules_section.specs.Answers.{sheet_progress, rules_sheet_in, HeldSheet, sheet_counts, rule_caps_of}
 
 -- ---- what becomes of a pattern, by what it is

@@ -5,7 +5,7 @@ use mathlib.Core.List.{List}
 use mathlib.Core.Option.{Option}
 use Prim.Native.Nat.{ℕ, ◌-◌, ◌≤◌, ◌<◌}
 use native.Mathlib.Omega.{arith}
-use borrow.Author.Rules.{rules}
+use borrow.Author.Rules.{rules as usual}
 use lib.ListN.{length, take}
 use Rattle.characters.specs.Walk.{Between}
 use Rattle.characters.specs.Whitespace.{at_whitespace, line_end_len}
@@ -14,7 +14,6 @@ use Rattle.area.specs.declared.State.{State}
 use Rattle.area.specs.declared.Rule.{Rule}
 use Rattle.area.specs.declared.Fault.{Fault}
 use Rattle.area.specs.declared.Appended.{Appended}
-use Rattle.area.specs.declared.Appended.TheVariants as Appended
 use Rattle.area.specs.Contents.{contents, fault_format, rule_format}
 use Rattle.fault.specs.Step.{Out, go, bad, full, next, onto, written, Does}
 use Rattle.fault.specs.Faults.{add_fault, add_repeat, DuplicateName, VerbatimNotSupported, RoutinesNotSupported, GrowsFaults}
@@ -121,9 +120,9 @@ module _ (asked : Request) (xs : List State) (i e : ℕ) (l2 l3 l4 l6 : List ℕ
     unfolding line
     line_rule z d = record { says = rw (← is, z) d.says; goes = d.goes; ends = d.ends }
 
-pub ruleset ruling = (rules, fresh_from, fresh_inside, rule_faulty)
+pub ruleset ruling = (usual, fresh_from, fresh_inside, rule_faulty)
 
-pub ruleset lining = (rules, line_verbatim, line_rule)
+pub ruleset lining = (usual, line_verbatim, line_rule)
 
 -- ---- the loop over the lines
 
@@ -275,4 +274,4 @@ module _ (asked : Request) (xs : List State) (k : Caps) (c6 i₀ : ℕ) (r₀ : 
     unfolding rules_section
     rules_full n z = does_full (ap (λ (o : Out Ruled). next o (routines asked.source)) (whole_full x t tested pass r d n z))
 
-pub ruleset sectioning = (rules, rules_start, rules_end, rules_bad, rules_full)
+pub ruleset sectioning = (usual, rules_start, rules_end, rules_bad, rules_full)

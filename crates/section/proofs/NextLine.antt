@@ -7,8 +7,8 @@ use mathlib.Core.List.{List, [], ◌∷◌}
 use Prim.Native.Nat.{ℕ, ◌≤◌}
 use lib.ListN.{length}
 use seplogic.Ra.Ura.{Ura}
-use seplogic.Ra.TreeShare.{full_share}
-use mir.Syntax.{Name, Fn, local, value_local, ty_int, ty_ref, imm, named, erased, w8, w64, place, field, copy, rv_opd, aggregate, assign, call, seq, return}
+use base.Fraction.{full_share}
+use mir.Syntax.{Callee, Fn, local, value_local, ty_int, ty_ref, imm, named, erased, w8, w64, place, field, copy, rv_opd, aggregate, assign, call, seq, return}
 use mir.Val.{Val}
 use base.Logic.{SProp, ent}
 use base.Fml.{fat}
@@ -69,10 +69,12 @@ abbrev stayed : Stays finder.signature.params finder.kept
 stayed = stays finder.signature.params finder.kept params
 
 -- the MIR: `let r = g(reader_at(src, i), flags); let q = move_to_line_end(r); Line { start: r.offset, end: q.offset }`
-abbrev finds_fn : Name → Fn
+abbrev finds_fn : Callee → Fn
 finds_fn g = record {
   lifetimes = 1;
   outlives = [];
+  ty_params = [];
+  givens = 0;
   params = 3;
   locals = local LineLaws.mir value_local ∷ local (slice_ty (ty_ref (named 0) imm (ty_int w8))) value_local ∷ local (ty_int w64) value_local ∷ local (ty_int w64) value_local
       ∷ local (ReaderLaws.mir erased) value_local ∷ local (ReaderLaws.mir erased) value_local ∷ local (ReaderLaws.mir erased) value_local ∷ local (ReaderLaws.mir erased) value_local
@@ -152,7 +154,7 @@ module _ {M : Type 1} {𝓤 : Ura M} (𝓛 : Logic 𝓤) (mem : Memory → SProp
         subst (λ (x : Line). NextLine src.now (scan src.now flags) i x) (sym (λ k. between (e k) ((f ∙ ap (reader_moved line_end) e) k)))
         (record { starts = bounded src.now flags i h; ends = first_between (at_line_end src.now) (scan src.now flags i) (length src.now) (bounded src.now flags i h).to })
 
-    module _ (C : Calls 𝓤 H) (Λ : Loops 𝓤 H) (fm : FmC 𝓤 H 𝓛.laws C) (g : Name)
+    module _ (C : Calls 𝓤 H) (Λ : Loops 𝓤 H) (fm : FmC 𝓤 H 𝓛.laws C) (g : Callee)
         (makes : Triple 𝓤 (C #reader-at) Makes) (moves : Triple 𝓤 (C g) Moves) (ends : Triple 𝓤 (C #to-end) Ends) where
       walk : i ≤ length src.now → Typed (mirs Ts) (flat Ts vals) → ent 𝓤 (on_entry 𝓛 finder.signature κs qs a vals) (WpFn 𝓤 H C Λ (finds_fn g) (flat Ts vals) ((walk_of 𝓛 finder stayed finds).post y))
       walk asked t =
@@ -192,7 +194,7 @@ module _ {M : Type 1} {𝓤 : Ura M} (𝓛 : Logic 𝓤) (mem : Memory → SProp
           owned ! LineType.the_row (Is LineType.the_row) (StructLaws.makes LineType.the_type LineLaws.the_plain 𝓛) (between r₁ r₂) _
           (StructLaws.owes LineType.the_type LineLaws.the_laws (between r₁ r₂) (was₁.1.0, (was₂.1.0, tt))) $ have_nothings ! 3 $ done !))))))))))
 
-  pub finds_line : (g : Name) (𝓣 : Tables 𝓤 H) → Triple 𝓤 (𝓣.C #reader-at) Makes → Triple 𝓤 (𝓣.C g) Moves → Triple 𝓤 (𝓣.C #to-end) Ends
+  pub finds_line : (g : Callee) (𝓣 : Tables 𝓤 H) → Triple 𝓤 (𝓣.C #reader-at) Makes → Triple 𝓤 (𝓣.C g) Moves → Triple 𝓤 (𝓣.C #to-end) Ends
       → Meets 𝓛 finder.signature (WpFn 𝓤 H 𝓣.C 𝓣.Λ (finds_fn g)) (closing 𝓛 finder finds)
   finds_line g 𝓣 makes moves ends =
       meets_by 𝓛 finder params finds (finds_fn g) 𝓣 (λ κs qs bounds a _ t. needs 𝓤 (a.1.1.0 ≤ length a.0.now) _

@@ -7,8 +7,8 @@ use mathlib.Core.List.{List, [], ◌∷◌}
 use Prim.Native.Nat.{ℕ, ◌≤◌}
 use lib.ListN.{length}
 use seplogic.Ra.Ura.{Ura}
-use seplogic.Ra.TreeShare.{full_share}
-use mir.Syntax.{Name, Fn, local, value_local, ty_int, ty_ref, imm, named, erased, w8, w64, place, field, copy, rv_opd, assign, call, seq, return}
+use base.Fraction.{full_share}
+use mir.Syntax.{Callee, Fn, local, value_local, ty_int, ty_ref, imm, named, erased, w8, w64, place, field, copy, rv_opd, assign, call, seq, return}
 use mir.Val.{Val}
 use base.Logic.{ent}
 use base.Fml.{Fml, fat}
@@ -93,10 +93,12 @@ abbrev flagged_stayed : Stays flagged_mover.signature.params flagged_mover.kept
 flagged_stayed = stays flagged_mover.signature.params flagged_mover.kept flagged_params
 
 -- the MIR: `let k = g(r.source, r.offset); r.offset = k; r`
-abbrev moves_fn : Name → Fn
+abbrev moves_fn : Callee → Fn
 moves_fn g = record {
   lifetimes = 1;
   outlives = [];
+  ty_params = [];
+  givens = 0;
   params = 1;
   locals = local (ReaderLaws.mir (named 0)) value_local ∷ local (ReaderLaws.mir (named 0)) value_local ∷ local (ty_int w64) value_local
       ∷ local (slice_ty (ty_ref erased imm (ty_int w8))) value_local ∷ local (ty_int w64) value_local ∷ [];
@@ -106,10 +108,12 @@ moves_fn g = record {
 }
 
 -- the MIR: `let k = g(r.source, flags, r.offset); r.offset = k; r`
-abbrev flagged_fn : Name → Fn
+abbrev flagged_fn : Callee → Fn
 flagged_fn g = record {
   lifetimes = 1;
   outlives = [];
+  ty_params = [];
+  givens = 0;
   params = 2;
   locals = local (ReaderLaws.mir (named 0)) value_local ∷ local (ReaderLaws.mir (named 0)) value_local ∷ local (ty_int w64) value_local ∷ local (ty_int w64) value_local
       ∷ local (slice_ty (ty_ref erased imm (ty_int w8))) value_local ∷ local (ty_int w64) value_local ∷ [];
@@ -209,7 +213,7 @@ module _ {M : Type 1} {𝓤 : Ura M} (𝓛 : Logic 𝓤) (κs : Lfts 1) (qs : Sh
     abbrev to : (Scans 𝓛 scan).Ghost
     to = ((κs, qs, tt, (d.source, (d.offset, tt)), (shr_slice_vals d.source, (uint_vals w64 d.offset, tt))), tt)
 
-    module _ (C : Calls 𝓤 H) (Λ : Loops 𝓤 H) (fm : FmC 𝓤 H 𝓛.laws C) (g : Name) (known : Triple 𝓤 (C g) (Scans 𝓛 scan)) where
+    module _ (C : Calls 𝓤 H) (Λ : Loops 𝓤 H) (fm : FmC 𝓤 H 𝓛.laws C) (g : Callee) (known : Triple 𝓤 (C g) (Scans 𝓛 scan)) where
       walk : Inside d → Typed (mirs Ts) (flat Ts vals) → ent 𝓤 (on_entry 𝓛 mover.signature κs qs (d, tt) vals) (WpFn 𝓤 H C Λ (moves_fn g) (flat Ts vals) ((walk_of 𝓛 mover stayed (moves 𝓤 scan)).post y))
       walk asked t =
           qed 𝓛 (‵ (together (tokens 1 κs qs)) ∷ ‵ (together (parts Ts (d, tt) vals)) ∷ []) ∵ enter ! C Λ (moves_fn g) (flat Ts vals) _ $
@@ -258,7 +262,7 @@ module _ {M : Type 1} {𝓤 : Ura M} (𝓛 : Logic 𝓤) (κs : Lfts 1) (qs : Sh
     abbrev to_flagged : (ScansFlagged 𝓛 scan).Ghost
     to_flagged = ((κs, qs, tt, b_flagged, us_flagged), tt)
 
-    module _ (C : Calls 𝓤 H) (Λ : Loops 𝓤 H) (fm : FmC 𝓤 H 𝓛.laws C) (g : Name) (known : Triple 𝓤 (C g) (ScansFlagged 𝓛 scan)) where
+    module _ (C : Calls 𝓤 H) (Λ : Loops 𝓤 H) (fm : FmC 𝓤 H 𝓛.laws C) (g : Callee) (known : Triple 𝓤 (C g) (ScansFlagged 𝓛 scan)) where
       flagged_walk : Inside d → Typed (mirs Ts_flagged) (flat Ts_flagged vals_flagged)
           → ent 𝓤 (on_entry 𝓛 flagged_mover.signature κs qs a_flagged vals_flagged) (WpFn 𝓤 H C Λ (flagged_fn g) (flat Ts_flagged vals_flagged) ((walk_of 𝓛 flagged_mover flagged_stayed (moves_flagged 𝓤 scan)).post y_flagged))
       flagged_walk asked t =
@@ -286,13 +290,13 @@ module _ {M : Type 1} {𝓤 : Ura M} (𝓛 : Logic 𝓤) (κs : Lfts 1) (qs : Sh
 module _ {M : Type 1} {𝓤 : Ura M} (𝓛 : Logic 𝓤) where
   open 𝓛 use {H}
 
-  pub moves_reader : (scan : List ℕ → ℕ → ℕ) (g : Name) (𝓣 : Tables 𝓤 H) → Triple 𝓤 (𝓣.C g) (Scans 𝓛 scan)
+  pub moves_reader : (scan : List ℕ → ℕ → ℕ) (g : Callee) (𝓣 : Tables 𝓤 H) → Triple 𝓤 (𝓣.C g) (Scans 𝓛 scan)
       → Meets 𝓛 mover.signature (WpFn 𝓤 H 𝓣.C 𝓣.Λ (moves_fn g)) (closing 𝓛 mover (moves 𝓤 scan))
   moves_reader scan g 𝓣 known =
       meets_by 𝓛 mover params (moves 𝓤 scan) (moves_fn g) 𝓣 (λ κs qs bounds a _ t. needs 𝓤 (Inside a.0) _
       (λ asked. walk 𝓛 κs qs a.0 scan 𝓣.C 𝓣.Λ (fm_of 𝓤 H 𝓛.laws 𝓣) g known asked t))
 
-  pub moves_reader_flagged : (scan : List ℕ → ℕ → ℕ → ℕ) (g : Name) (𝓣 : Tables 𝓤 H) → Triple 𝓤 (𝓣.C g) (ScansFlagged 𝓛 scan)
+  pub moves_reader_flagged : (scan : List ℕ → ℕ → ℕ → ℕ) (g : Callee) (𝓣 : Tables 𝓤 H) → Triple 𝓤 (𝓣.C g) (ScansFlagged 𝓛 scan)
       → Meets 𝓛 flagged_mover.signature (WpFn 𝓤 H 𝓣.C 𝓣.Λ (flagged_fn g)) (closing 𝓛 flagged_mover (moves_flagged 𝓤 scan))
   moves_reader_flagged scan g 𝓣 known =
       meets_by 𝓛 flagged_mover flagged_params (moves_flagged 𝓤 scan) (flagged_fn g) 𝓣 (λ κs qs bounds a _ t. needs 𝓤 (Inside a.0) _

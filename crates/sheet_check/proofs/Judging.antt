@@ -68,14 +68,14 @@ module _ {A : Type 0} (F : Format A) (test : A → Bool) (l : List ℕ) where
 
   -- a loop that leaves at the first record that does not pass
   module _ (k : ℕ) (x : A) (t : Bool) (is : x ≡ F.read l k) (judged : t ≡ test x) where
-    pub goes_on_at_good : true ≡ all test (contents F l k) → not t ≡ false → true ≡ all test (contents F l (k + 1))
-    goes_on_at_good g good = sym (not-false t good) ∙ all_next F test l k true t x g is judged
+    pub goes_on_at_good : true ≡ all test (contents F l k) → t ≡ true → true ≡ all test (contents F l (k + 1))
+    goes_on_at_good g good = sym good ∙ all_next F test l k true t x g is judged
 
-    pub leaves_at_bad : (n : ℕ) → k < n → not t ≡ true → false ≡ all test (contents F l n)
+    pub leaves_at_bad : (n : ℕ) → k < n → t ≡ false → false ≡ all test (contents F l n)
     leaves_at_bad n h bad = by (all test (contents F l n)) refl
       where
         by : (b : Bool) → all test (contents F l n) ≡ b → false ≡ all test (contents F l n)
-        by true q = absurd (true≢false (sym (record_at n k q h) ∙ sym (judged ∙ ap test is) ∙ not-true t bad))
+        by true q = absurd (true≢false (sym (record_at n k q h) ∙ sym (judged ∙ ap test is) ∙ bad))
         by false q = sym q
 
 -- ---- the sizes

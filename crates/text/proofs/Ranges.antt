@@ -105,12 +105,12 @@ module _ (s : List ℕ) (a : ℕ) (t : List ℕ) (c : ℕ) where
   range_none = rw (part_none s a (a + 0) (omega arith), part_none t c (c + 0) (omega arith))
 
   -- one byte more
-  range-more :
+  range_more :
       (k : ℕ)
       → a + k < length s
       → c + k < length t
       → same_range s a (a + k) t c (c + k) && eqb (byte s (a + k)) (byte t (c + k)) ≡ same_range s a (a + (k + 1)) t c (c + (k + 1))
-  range-more k h l =
+  range_more k h l =
       let one = range_one s (a + k) (a + (k + 1)) t (c + k) (c + (k + 1)) (omega arith) (omega arith) (omega arith) (omega arith) in
       rw (← one) (sym (range_split s a (a + (k + 1)) t c (c + (k + 1)) (a + k) (c + k) (omega arith) (omega arith) (omega arith)))
 
@@ -120,7 +120,7 @@ module _ (s : List ℕ) (a : ℕ) (t : List ℕ) (c : ℕ) where
         → c + n ≤ length t
         → k < n
         → same && eqb (byte s (a + k)) (byte t (c + k)) ≡ same_range s a (a + (k + 1)) t c (c + (k + 1))
-    range_again fs ft h = rw before (range-more k (omega arith) (omega arith))
+    range_again fs ft h = rw before (range_more k (omega arith) (omega arith))
 
     pub range_ended : n ≤ k → k ≤ n → same ≡ same_range s a (a + n) t c (c + n)
     range_ended h l =
@@ -132,14 +132,14 @@ pub ruleset comparing = (rules, range_none, range_again, range_ended)
 -- ---- a loop that ends at the first difference: what it is to answer is the comparison of the rests
 
 -- w bytes from i on, and the rest behind them
-rest-split :
+rest_split :
     (s : List ℕ) (a : ℕ) (t : List ℕ) (c n i w : ℕ)
     → a + n ≤ length s
     → c + n ≤ length t
     → i + w ≤ n
     → same_range s (a + i) (a + n) t (c + i) (c + n)
     ≡ same_range s (a + i) (a + i + w) t (c + i) (c + i + w) && same_range s (a + (i + w)) (a + n) t (c + (i + w)) (c + n)
-rest-split s a t c n i w fs ft l =
+rest_split s a t c n i w fs ft l =
     let u : a + i + w ≡ a + (i + w) = omega arith in
     let v : c + i + w ≡ c + (i + w) = omega arith in
     rw (u, v) (range_split s (a + i) (a + n) t (c + i) (c + n) (a + (i + w)) (c + (i + w)) (omega arith) (omega arith) (omega arith))
@@ -156,7 +156,7 @@ pub block_same :
     → w ≤ n - k
     → not r ≡ false
     → SameRests s a t c n i (k + w)
-block_same s a t c n i w k before r is fs ft h l f = before ∙ rest-split s a t c n k w fs ft (omega arith) ∙ rw (← is, not-false r f)
+block_same s a t c n i w k before r is fs ft h l f = before ∙ rest_split s a t c n k w fs ft (omega arith) ∙ rw (← is, not-false r f)
 
 -- the rests behind 0 bytes are the ranges
 pub blocks_compared :
@@ -174,20 +174,20 @@ module _
     (s : List ℕ) (a : ℕ) (t : List ℕ) (c n i j : ℕ)
     (before : same_range s (a + i) (a + n) t (c + i) (c + n) ≡ same_range s (a + j) (a + n) t (c + j) (c + n)) where
   module _ (fs : a + n ≤ length s) (ft : c + n ≤ length t) (l : j < n) where
-    byte-and-rest :
+    byte_and_rest :
         same_range s (a + i) (a + n) t (c + i) (c + n)
         ≡ eqb (byte s (a + j)) (byte t (c + j)) && same_range s (a + (j + 1)) (a + n) t (c + (j + 1)) (c + n)
-    byte-and-rest =
+    byte_and_rest =
         before
-        ∙ rest-split s a t c n j 1 fs ft (omega arith)
+        ∙ rest_split s a t c n j 1 fs ft (omega arith)
         ∙ rw (range_one s (a + j) (a + j + 1) t (c + j) (c + j + 1) refl refl (omega arith) (omega arith))
 
     pub byte_differs : (byte s (a + j) ≡ byte t (c + j) → ⊥) → false ≡ same_range s (a + i) (a + n) t (c + i) (c + n)
-    byte_differs d = sym (byte-and-rest ∙ rw (ne_eqb (byte s (a + j)) (byte t (c + j)) d))
+    byte_differs d = sym (byte_and_rest ∙ rw (ne_eqb (byte s (a + j)) (byte t (c + j)) d))
 
     pub byte_same :
         byte s (a + j) ≡ byte t (c + j) → same_range s (a + i) (a + n) t (c + i) (c + n) ≡ same_range s (a + (j + 1)) (a + n) t (c + (j + 1)) (c + n)
-    byte_same q = byte-and-rest ∙ rw (eq-eqb (byte s (a + j)) (byte t (c + j)) q)
+    byte_same q = byte_and_rest ∙ rw (eq-eqb (byte s (a + j)) (byte t (c + j)) q)
 
   pub bytes_end_lem : n ≤ j → true ≡ same_range s (a + i) (a + n) t (c + i) (c + n)
   unfolding same_range same_bytes
@@ -257,7 +257,7 @@ module _ (s : List ℕ) (a e : ℕ) (t : List ℕ) (c d : ℕ) (ls : e ≤ lengt
       let y : c + k ≡ d - 1 = omega arith in
       sym
       (ap₂ (λ (i j : ℕ). same_range s a i t c j) (sym u) (sym v)
-      ∙ sym (range-more s a t c k (omega arith) (omega arith))
+      ∙ sym (range_more s a t c k (omega arith) (omega arith))
       ∙ rw (x, y, ne_eqb (byte s (e - 1)) (byte t (d - 1)) h, and-false))
 
   pub inside_compared : (r : Bool) → a ≤ e → c ≤ d → e - a ≡ d - c → r ≡ same_range s a (a + (e - a)) t c (c + (e - a)) → r ≡ same_range s a e t c d

@@ -1,0 +1,22 @@
+-- `area::push_fault` meets its contract: with room the record is written behind the others, and without nothing is.
+-- Assumes nothing.
+use Rattle.area.proofs.Rooms.{pushes}
+use Rattle.area.proofs.push_fault.Goals as goal
+
+pub has_room-requires : goal.has_room-requires
+has_room-requires c = search pushes
+
+pub overflow_mul-count : goal.overflow_mul-count
+overflow_mul-count c = search pushes
+
+pub write_fault-requires : goal.write_fault-requires
+write_fault-requires c = search pushes
+
+pub overflow_add-result : goal.overflow_add-result
+overflow_add-result c = search pushes
+
+pub returns-then-has_room : goal.returns-then-has_room
+returns-then-has_room c = search pushes
+
+pub returns : goal.returns
+returns c = search pushes

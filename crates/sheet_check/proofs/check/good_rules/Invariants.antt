@@ -1,0 +1,13 @@
+-- `sheet_check::check::good_rules` meets its contract: the tests so far are those of the records so far.
+use mathlib.Core.Path.{◌≡◌}
+use Prim.Native.Nat.{◌≤◌, ◌-◌}
+use Rattle.area.specs.Contents.{contents, rule_format}
+use Rattle.sheet_check.specs.SheetCheck.{good_rule}
+use Rattle.area.specs.Lists.{all}
+use Rattle.sheet_check.proofs.check.good_rules.Given as goal
+
+abbrev pub invariant-loop-k : goal.invariant-loop-k
+invariant-loop-k l = (l.k ≤ l.sizes.rules) × (l.good ≡ all (good_rule l.sizes) (contents rule_format l.area l.k))
+
+abbrev pub decreases-loop-k : goal.decreases-loop-k
+decreases-loop-k l = l.sizes.rules - l.k
