@@ -1,20 +1,29 @@
 // Prints the sheet of each file of standard input, where a zero byte ends a file: the files of 01, Files to try, in their order.
-use libc::{STDIN_FILENO, STDOUT_FILENO};
+#![tactic(auto)]
+
+ghost use Rattle.std.specs.Prelude.{◌≤◌, length};
+
 use sheet_print::{SHEET_ROOM, sheet};
+use std::io::Read;
 use text::scan::find_byte;
 
-fn show(s: &[u8]) {
-    let mut out = [0u8; SHEET_ROOM];
-    let n = sheet(s, &mut out);
-    io::write_all(STDOUT_FILENO, b"file\n");
-    io::write_all(STDOUT_FILENO, &out[..n]);
+// What cannot be written is left out.
+fn say(rt: &impl Print, text: &[u8]) {
+    let _ = rt.write_all(text);
 }
 
-fn show_all(s: &[u8]) {
+fn show(rt: &impl Print, s: &[u8]) {
+    let mut out = [0u8; SHEET_ROOM];
+    let n = sheet(s, &mut out);
+    say(rt, b"file\n");
+    say(rt, &out[..n]);
+}
+
+fn show_all(rt: &impl Print, s: &[u8]) {
     let mut from = 0;
     while from < s.len() {
         let to = find_byte(s, from, s.len(), 0);
-        show(&s[from..to]);
+        show(rt, &s[from..to]);
         if to == s.len() {
             return;
         }
@@ -22,8 +31,22 @@ fn show_all(s: &[u8]) {
     }
 }
 
-fn main() {
-    let mut buffer = io::buffer();
-    let n = io::read_full(STDIN_FILENO, &mut buffer);
-    show_all(&buffer[0..n]);
+// Reads until the buffer is full, the input ends or a read fails, and answers how many bytes were read.
+fn read_full(input: &mut impl Read, buffer: &mut [u8]) -> usize
+    ensures { result ≤ length buffer.new }
+{
+    let mut done = 0;
+    while done < buffer.len() {
+        match input.read(&mut buffer[done..]) {
+            Ok(n) if n > 0 => done += n,
+            _ => return done,
+        }
+    }
+    done
+}
+
+fn main(rt: HostRuntime) {
+    let mut buffer = [0u8; 4096];
+    let n = read_full(&mut rt.stdin(), &mut buffer);
+    show_all(&rt, &buffer[0..n]);
 }

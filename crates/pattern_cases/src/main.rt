@@ -1,16 +1,22 @@
 // Parses the file on standard input and writes the pattern of each rule as the pattern call hands it back (01, Areas, 4): for each rule the answer
 // of the test, and the part itself in brackets; then for a rule past the last, and for sheets that are broken.
-use libc::{STDIN_FILENO, STDOUT_FILENO};
+#![tactic(auto)]
+
+ghost use Rattle.std.specs.Prelude.{◌≤◌, length};
+
 use parse::Answer;
 use parse::call::parse;
 use sheet_check::pattern::{pattern, pattern_test};
+use std::io::Read;
 
-fn say(word: &[u8]) {
-    io::write_all(STDOUT_FILENO, word);
+// What cannot be written is left out.
+fn say(rt: &impl Print, word: &[u8]) {
+    let _ = rt.write_all(word);
 }
 
 // What is written is the part that the call borrowed from the source or from area 4.
 fn say_pattern<'a>(
+    rt: &impl Print,
     src: &'a [u8],
     area1: &[u8],
     area2: &[u8],
@@ -21,10 +27,11 @@ fn say_pattern<'a>(
     rule: u64,
 ) {
     let part = pattern(src, area1, area2, area3, area4, area5, counts, rule);
-    say(part);
+    say(rt, part);
 }
 
 fn say_rule<'a>(
+    rt: &impl Print,
     src: &'a [u8],
     area1: &[u8],
     area2: &[u8],
@@ -34,20 +41,18 @@ fn say_rule<'a>(
     counts: &[u16; 6],
     rule: u64,
 ) {
-    say(b"rule ");
-    io::print_decimal(STDOUT_FILENO, rule);
-    say(b": ");
-    io::print_decimal(
-        STDOUT_FILENO,
-        pattern_test(src, area1, area2, area3, area4, area5, counts, rule),
-    );
-    say(b" [");
-    say_pattern(src, area1, area2, area3, area4, area5, counts, rule);
-    say(b"]\n");
+    say(rt, b"rule ");
+    let _ = rt.print(rule);
+    say(rt, b": ");
+    let _ = rt.print(pattern_test(src, area1, area2, area3, area4, area5, counts, rule));
+    say(rt, b" [");
+    say_pattern(rt, src, area1, area2, area3, area4, area5, counts, rule);
+    say(rt, b"]\n");
 }
 
 // Each rule of the count.
 fn say_rules<'a>(
+    rt: &impl Print,
     src: &'a [u8],
     area1: &[u8],
     area2: &[u8],
@@ -59,7 +64,7 @@ fn say_rules<'a>(
 ) {
     let mut rule = 0;
     while rule < count {
-        say_rule(src, area1, area2, area3, area4, area5, counts, rule);
+        say_rule(rt, src, area1, area2, area3, area4, area5, counts, rule);
         rule += 1;
     }
 }
@@ -77,6 +82,7 @@ fn break_place(area2: &mut [u8]) {
 
 // The rules, a rule past the last, and two sheets that are broken.
 fn say_cases<'a>(
+    rt: &impl Print,
     src: &'a [u8],
     area1: &[u8],
     area2: &mut [u8],
@@ -86,14 +92,14 @@ fn say_cases<'a>(
     counts: &[u16; 6],
 ) {
     let count = wide(counts[1]);
-    say_rules(src, area1, area2, area3, area4, area5, counts, count);
-    say(b"past the last: ");
-    say_rule(src, area1, area2, area3, area4, area5, counts, count);
-    say(b"without rewritten text: ");
-    say_rule(src, area1, area2, area3, &area4[0..0], area5, counts, 0);
-    say(b"a rule in place 2: ");
+    say_rules(rt, src, area1, area2, area3, area4, area5, counts, count);
+    say(rt, b"past the last: ");
+    say_rule(rt, src, area1, area2, area3, area4, area5, counts, count);
+    say(rt, b"without rewritten text: ");
+    say_rule(rt, src, area1, area2, area3, &area4[0..0], area5, counts, 0);
+    say(rt, b"a rule in place 2: ");
     break_place(area2);
-    say_rule(src, area1, area2, area3, area4, area5, counts, 1);
+    say_rule(rt, src, area1, area2, area3, area4, area5, counts, 1);
 }
 
 fn is_accepted(answer: Answer) -> bool {
@@ -103,7 +109,7 @@ fn is_accepted(answer: Answer) -> bool {
     }
 }
 
-fn show(src: &[u8]) {
+fn show(rt: &impl Print, src: &[u8]) {
     let mut counts = [0u16; 6];
     let mut area1 = [0u8; 12];
     let mut area2 = [0u8; 280];
@@ -124,14 +130,28 @@ fn show(src: &[u8]) {
         &mut area6,
     );
     if !is_accepted(answer) {
-        say(b"not accepted\n");
+        say(rt, b"not accepted\n");
         return;
     }
-    say_cases(src, &area1, &mut area2, &area3, &area4, &area5, &counts);
+    say_cases(rt, src, &area1, &mut area2, &area3, &area4, &area5, &counts);
 }
 
-fn main() {
-    let mut source = io::buffer();
-    let n = io::read_full(STDIN_FILENO, &mut source);
-    show(&source[0..n]);
+// Reads until the buffer is full, the input ends or a read fails, and answers how many bytes were read.
+fn read_full(input: &mut impl Read, buffer: &mut [u8]) -> usize
+    ensures { result ≤ length buffer.new }
+{
+    let mut done = 0;
+    while done < buffer.len() {
+        match input.read(&mut buffer[done..]) {
+            Ok(n) if n > 0 => done += n,
+            _ => return done,
+        }
+    }
+    done
+}
+
+fn main(rt: HostRuntime) {
+    let mut source = [0u8; 4096];
+    let n = read_full(&mut rt.stdin(), &mut source);
+    show(&rt, &source[0..n]);
 }

@@ -7,7 +7,6 @@ ghost use Rattle.recorded.specs.Comparison.{Compares};
 ghost use Rattle.recorded.specs.Records.{source_at, source_end};
 ghost use Rattle.replay.specs.Records.{buffers, Called, Agrees, record_end};
 
-use libc::STDOUT_FILENO;
 use recorded::compared::{Compared, compare, lent};
 use recorded::reader::{bytes_end, long, skip};
 use recorded::source::read_source;
@@ -29,8 +28,8 @@ fn call(
     area6: &mut [u8],
 ) -> u64
     requires { at ≤ length answers.now }
-    ensures { Called (request (before src) (options flags) (before verdicts)) (before answers) at result (after counts)
-        (after area1) (after area2) (after area3) (after area4) (after area5) (after area6) }
+    ensures { Called (request src.now (options flags) verdicts.now) answers.now at result counts.new
+        area1.new area2.new area3.new area4.new area5.new area6.new }
 {
     let c1 = lent(answers, at, 0, area1.len());
     let c2 = lent(answers, at, 1, area2.len());
@@ -65,8 +64,8 @@ fn replay_in(
     area6: &mut [u8],
 ) -> Compared
     requires { at ≤ length answers.now }
-    ensures { Compares (Agrees (before src) (before answers) at (room_in area1 area2 area3 area4 area5 area6))
-        (before answers) at (record_end (before answers) at) result }
+    ensures { Compares (Agrees src.now answers.now at (room_in area1 area2 area3 area4 area5 area6))
+        answers.now at (record_end answers.now at) result }
 {
     let mut counts = [0u16; 6];
     let flags = long(answers, at);
@@ -95,7 +94,7 @@ fn replay_in(
 // The same, in buffers of its own.
 fn replay_rest(answers: &[u8], at: usize, src: &[u8]) -> Compared
     requires { at ≤ length answers.now }
-    ensures { Compares (Agrees (before src) (before answers) at buffers) (before answers) at (record_end (before answers) at) result }
+    ensures { Compares (Agrees src.now answers.now at buffers) answers.now at (record_end answers.now at) result }
 {
     let mut area1 = [0u8; 512];
     let mut area2 = [0u8; 65536];
@@ -111,8 +110,8 @@ fn replay_rest(answers: &[u8], at: usize, src: &[u8]) -> Compared
 // A record, from its source on.
 fn replay(answers: &[u8], at: usize) -> Compared
     requires { at < length answers.now }
-    ensures { Compares (Agrees (take 65536 (source_at (before answers) at)) (before answers) (source_end (before answers) at) buffers)
-        (before answers) (at + 1) (record_end (before answers) (source_end (before answers) at)) result }
+    ensures { Compares (Agrees (take 65536 (source_at answers.now at)) answers.now (source_end answers.now at) buffers)
+        answers.now (at + 1) (record_end answers.now (source_end answers.now at)) result }
 {
     let mut src = [0u8; 65536];
     let read = read_source(answers, at, &mut src);
@@ -122,7 +121,7 @@ fn replay(answers: &[u8], at: usize) -> Compared
 
 // Behind the first empty line.
 fn first_record(answers: &[u8]) -> usize
-    ensures { result ≤ length (before answers) }
+    ensures { result ≤ length answers.now }
 {
     let mut i = 1;
     while i < answers.len() {
@@ -136,25 +135,25 @@ fn first_record(answers: &[u8]) -> usize
     answers.len()
 }
 
-fn say(word: &[u8], n: usize) {
-    io::write_all(STDOUT_FILENO, word);
-    io::print_decimal(STDOUT_FILENO, n as u64);
-    io::write_all(STDOUT_FILENO, b"\n");
+// What cannot be written is left out.
+fn say(rt: &impl Print, word: &[u8], n: usize) {
+    let _ = rt.write_all(word);
+    let _ = println!(rt; "{n}");
 }
 
 // How many cases are equal, with this one: a different one is named by its number from 1 on.
-fn count_equal(equal: bool, cases: usize, before: usize) -> usize
+fn count_equal(rt: &impl Print, equal: bool, cases: usize, before: usize) -> usize
     requires { before < cases }
     ensures { result ≤ cases }
 {
     if equal {
         return before + 1;
     }
-    say(b"different: ", cases);
+    say(rt, b"different: ", cases);
     before
 }
 
-pub fn replay_all(answers: &[u8]) {
+pub fn replay_all(rt: &impl Print, answers: &[u8]) {
     let mut at = first_record(answers);
     let mut cases = 0;
     let mut equal = 0;
@@ -162,8 +161,8 @@ pub fn replay_all(answers: &[u8]) {
         let r = replay(answers, at);
         at = r.next;
         cases += 1;
-        equal = count_equal(r.equal, cases, equal);
+        equal = count_equal(rt, r.equal, cases, equal);
     }
-    say(b"cases: ", cases);
-    say(b"equal: ", equal);
+    say(rt, b"cases: ", cases);
+    say(rt, b"equal: ", equal);
 }

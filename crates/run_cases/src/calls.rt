@@ -23,6 +23,7 @@ fn at_most(n: u16, most: usize) -> usize
 
 // `link FROM LENGTH ID ..`: the entries of a map whose names are parts of ABCDGH.
 fn link_rules(
+    rt: &impl Print,
     src: &[u8],
     area1: &[u8],
     area2: &mut [u8],
@@ -34,9 +35,10 @@ fn link_rules(
 ) {
     let mut area7 = [0u8; 32];
     let mut area8 = [0u8; 32];
-    say_link(set_rule_ids_spanned(
+    let answer = set_rule_ids_spanned(
         src, area1, area2, area3, area4, area5, counts, b"ABCDGH", entries, &mut area7, &mut area8,
-    ));
+    );
+    say_link(rt, answer);
 }
 
 // `count K VALUE`: another count of the sheet.
@@ -62,13 +64,13 @@ fn keep_run(run: &mut [u16; 4], r: Run) {
 }
 
 // `start N BYTES`: over an entry of N bytes, with so many bytes of the stack.
-fn start_run(run: &mut [u16; 4], stack: &mut [u8], values: &[u8]) {
+fn start_run(rt: &impl Print, run: &mut [u16; 4], stack: &mut [u8], values: &[u8]) {
     let bytes = at_most(number_at(values, 2), stack.len());
     let r = run_of(run);
     let q = start(number_at(values, 0) as u64, r, &mut stack[0..bytes]);
     keep_run(run, q.run);
     let answer = q.answer;
-    say_start(answer);
+    say_start(rt, answer);
 }
 
 // `put K ID`: another entry of the stack.
@@ -80,9 +82,9 @@ fn put_entry(stack: &mut [u8], k: u16, id: u16) {
 }
 
 // `start`, `put`, or `numbers N POSITION DEPTH MOVES`: another run.
-fn change_run(letter: u8, run: &mut [u16; 4], stack: &mut [u8], values: &[u8]) {
+fn change_run(rt: &impl Print, letter: u8, run: &mut [u16; 4], stack: &mut [u8], values: &[u8]) {
     if letter == b's' {
-        start_run(run, stack, values);
+        start_run(rt, run, stack, values);
         return;
     }
     if letter == b'p' {
@@ -98,11 +100,12 @@ fn change_run(letter: u8, run: &mut [u16; 4], stack: &mut [u8], values: &[u8]) {
         ];
         return;
     }
-    say(b" unknown");
+    say(rt, b" unknown");
 }
 
 // `row LENGTH ..`: a step.
 fn step_row(
+    rt: &impl Print,
     src: &[u8],
     area1: &[u8],
     area2: &[u8],
@@ -120,11 +123,12 @@ fn step_row(
     );
     keep_run(run, q.run);
     let answer = q.answer;
-    say_step(answer);
+    say_step(rt, answer);
 }
 
 // `bytes BYTES LENGTH ..`: a step with only so many bytes of the stack.
 fn step_with_bytes(
+    rt: &impl Print,
     src: &[u8],
     area1: &[u8],
     area2: &[u8],
@@ -139,6 +143,7 @@ fn step_with_bytes(
     let bytes = at_most(number_at(values, 0), stack.len());
     let from = at_most(2, values.len());
     step_row(
+        rt,
         src,
         area1,
         area2,
@@ -154,6 +159,7 @@ fn step_with_bytes(
 
 // `odd LENGTH ..`: a step whose row lacks its last byte.
 fn step_odd(
+    rt: &impl Print,
     src: &[u8],
     area1: &[u8],
     area2: &[u8],
@@ -170,6 +176,7 @@ fn step_odd(
     }
     let length = values.len() - 1;
     step_row(
+        rt,
         src,
         area1,
         area2,
@@ -185,6 +192,7 @@ fn step_odd(
 
 // `row`, `bytes` or `odd`.
 fn move_run(
+    rt: &impl Print,
     letter: u8,
     src: &[u8],
     area1: &[u8],
@@ -199,18 +207,18 @@ fn move_run(
 ) {
     if letter == b'b' {
         step_with_bytes(
-            src, area1, area2, area3, area4, area5, counts, run, stack, values,
+            rt, src, area1, area2, area3, area4, area5, counts, run, stack, values,
         );
         return;
     }
     if letter == b'o' {
         step_odd(
-            src, area1, area2, area3, area4, area5, counts, run, stack, values,
+            rt, src, area1, area2, area3, area4, area5, counts, run, stack, values,
         );
         return;
     }
     step_row(
-        src, area1, area2, area3, area4, area5, counts, run, stack, values,
+        rt, src, area1, area2, area3, area4, area5, counts, run, stack, values,
     );
 }
 
@@ -220,6 +228,7 @@ fn is_move(letter: u8) -> bool {
 
 // The call of a line.
 fn command(
+    rt: &impl Print,
     letter: u8,
     src: &[u8],
     area1: &[u8],
@@ -233,7 +242,7 @@ fn command(
     values: &[u8],
 ) {
     if letter == b'l' {
-        link_rules(src, area1, area2, area3, area4, area5, counts, values);
+        link_rules(rt, src, area1, area2, area3, area4, area5, counts, values);
         return;
     }
     if letter == b'c' {
@@ -242,15 +251,16 @@ fn command(
     }
     if is_move(letter) {
         move_run(
-            letter, src, area1, area2, area3, area4, area5, counts, run, stack, values,
+            rt, letter, src, area1, area2, area3, area4, area5, counts, run, stack, values,
         );
         return;
     }
-    change_run(letter, run, stack, values);
+    change_run(rt, letter, run, stack, values);
 }
 
 // A line, what it is answered, and the run afterwards; a line that starts with # is only printed.
 fn line(
+    rt: &impl Print,
     src: &[u8],
     area1: &[u8],
     area2: &mut [u8],
@@ -263,15 +273,16 @@ fn line(
     text: &[u8],
 ) {
     if byte_at(text, 0) == b'#' {
-        say(text);
-        say(b"\n");
+        say(rt, text);
+        say(rt, b"\n");
         return;
     }
     let mut values = [0u8; 128];
     let n = read_numbers(text, &mut values);
-    say(text);
-    say(b":");
+    say(rt, text);
+    say(rt, b":");
     command(
+        rt,
         byte_at(text, 0),
         src,
         area1,
@@ -284,10 +295,11 @@ fn line(
         stack,
         &values[0..n],
     );
-    say_run(run, stack);
+    say_run(rt, run, stack);
 }
 
 fn each_line(
+    rt: &impl Print,
     src: &[u8],
     area1: &[u8],
     area2: &mut [u8],
@@ -304,6 +316,7 @@ fn each_line(
         let here = line_at(lines, from);
         let end = here.end;
         line(
+            rt,
             src,
             area1,
             area2,
@@ -321,7 +334,7 @@ fn each_line(
 
 // Parses the file, and goes through the lines. The stack would do for an entry of 4,097 bytes, so that a run
 // can be broken by n alone.
-pub fn play(src: &[u8], lines: &[u8]) {
+pub fn play(rt: &impl Print, src: &[u8], lines: &[u8]) {
     let mut counts = [0u16; 6];
     let mut area1 = [0u8; 60];
     let mut area2 = [0u8; 560];
@@ -331,8 +344,8 @@ pub fn play(src: &[u8], lines: &[u8]) {
     let mut area6 = [0u8; 40];
     let mut run = [0u16; 4];
     let mut stack = [0u8; 8196];
-    say(b"parse:");
-    say_parse(parse(
+    say(rt, b"parse:");
+    let answer = parse(
         src,
         0,
         b"",
@@ -343,9 +356,11 @@ pub fn play(src: &[u8], lines: &[u8]) {
         &mut area4,
         &mut area5,
         &mut area6,
-    ));
-    say_counts(&counts);
+    );
+    say_parse(rt, answer);
+    say_counts(rt, &counts);
     each_line(
+        rt,
         src,
         &area1,
         &mut area2,

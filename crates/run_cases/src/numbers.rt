@@ -5,7 +5,7 @@ use area::{read_field, write_field};
 use text::scan::find_byte;
 
 // Where a line ends, and where the next one starts.
-#[derive(Drop)]
+#[derive(Clone, Copy)]
 pub struct Line {
     pub end: usize,
     pub next: usize,

@@ -4,105 +4,104 @@ use answers::{
     AREA_FULL, BROKEN_MAP, BROKEN_RUN, BROKEN_SHEET, FAULTY_FILE, INVALID_UTF8, LONG_FILE,
     ROW_MISMATCH, START_REFUSED, UNKNOWN_FLAG,
 };
-use libc::STDOUT_FILENO;
 use link::LinkAnswer;
 use parse::Answer;
 use run::{Begun, Step};
 
-pub fn say(word: &[u8]) {
-    io::write_all(STDOUT_FILENO, word);
+// What cannot be written is left out.
+pub fn say(rt: &impl Print, word: &[u8]) {
+    let _ = rt.write_all(word);
 }
 
-fn say_number(x: u16) {
-    say(b" ");
-    io::print_decimal(STDOUT_FILENO, x as u64);
+fn say_number(rt: &impl Print, x: u16) {
+    let _ = print!(rt; " {x}");
 }
 
-fn say_refused(number: u16) {
-    say(b" refused");
-    say_number(number);
+fn say_refused(rt: &impl Print, number: u16) {
+    say(rt, b" refused");
+    say_number(rt, number);
 }
 
-pub fn say_parse(answer: Answer) {
+pub fn say_parse(rt: &impl Print, answer: Answer) {
     match answer {
-        Answer::Accepted => say(b" accepted"),
-        Answer::LongFile => say_refused(LONG_FILE),
-        Answer::UnknownFlag => say_refused(UNKNOWN_FLAG),
-        Answer::InvalidUtf8 => say_refused(INVALID_UTF8),
+        Answer::Accepted => say(rt, b" accepted"),
+        Answer::LongFile => say_refused(rt, LONG_FILE),
+        Answer::UnknownFlag => say_refused(rt, UNKNOWN_FLAG),
+        Answer::InvalidUtf8 => say_refused(rt, INVALID_UTF8),
         Answer::AreaFull(n) => {
-            say_refused(AREA_FULL);
-            say_number(n);
+            say_refused(rt, AREA_FULL);
+            say_number(rt, n);
         }
         Answer::FaultyFile(n) => {
-            say_refused(FAULTY_FILE);
-            say_number(n);
+            say_refused(rt, FAULTY_FILE);
+            say_number(rt, n);
         }
     }
 }
 
-pub fn say_link(answer: LinkAnswer) {
+pub fn say_link(rt: &impl Print, answer: LinkAnswer) {
     match answer {
         LinkAnswer::Linked(missing, unused) => {
-            say(b" linked");
-            say_number(missing);
-            say_number(unused);
+            say(rt, b" linked");
+            say_number(rt, missing);
+            say_number(rt, unused);
         }
-        LinkAnswer::BrokenSheet => say_refused(BROKEN_SHEET),
-        LinkAnswer::BrokenMap => say_refused(BROKEN_MAP),
+        LinkAnswer::BrokenSheet => say_refused(rt, BROKEN_SHEET),
+        LinkAnswer::BrokenMap => say_refused(rt, BROKEN_MAP),
         LinkAnswer::AreaFull(n) => {
-            say_refused(AREA_FULL);
-            say_number(n);
+            say_refused(rt, AREA_FULL);
+            say_number(rt, n);
         }
     }
 }
 
-pub fn say_start(answer: Begun) {
+pub fn say_start(rt: &impl Print, answer: Begun) {
     match answer {
-        Begun::Started => say(b" started"),
-        Begun::StartRefused => say_refused(START_REFUSED),
+        Begun::Started => say(rt, b" started"),
+        Begun::StartRefused => say_refused(rt, START_REFUSED),
     }
 }
 
-pub fn say_step(answer: Step) {
+pub fn say_step(rt: &impl Print, answer: Step) {
     match answer {
-        Step::BrokenSheet => say_refused(BROKEN_SHEET),
-        Step::BrokenRun => say_refused(BROKEN_RUN),
-        Step::RowMismatch => say_refused(ROW_MISMATCH),
-        Step::Done => say(b" done"),
-        Step::Stopped => say(b" stopped"),
-        Step::Unlinked => say(b" unlinked"),
-        Step::Skip => say(b" skip"),
+        Step::BrokenSheet => say_refused(rt, BROKEN_SHEET),
+        Step::BrokenRun => say_refused(rt, BROKEN_RUN),
+        Step::RowMismatch => say_refused(rt, ROW_MISMATCH),
+        Step::Done => say(rt, b" done"),
+        Step::Stopped => say(rt, b" stopped"),
+        Step::Unlinked => say(rt, b" unlinked"),
+        Step::Skip => say(rt, b" skip"),
         Step::Token(id, from, length) => {
-            say(b" token");
-            say_number(id);
-            say_number(from);
-            say_number(length);
+            say(rt, b" token");
+            say_number(rt, id);
+            say_number(rt, from);
+            say_number(rt, length);
         }
     }
 }
 
 // The four numbers of a run, and the first four entries of its stack.
-pub fn say_run(run: &[u16; 4], stack: &[u8]) {
-    say(b" |");
-    say_number(run[0]);
-    say_number(run[1]);
-    say_number(run[2]);
-    say_number(run[3]);
-    say(b" |");
-    say_number(number_at(stack, 0));
-    say_number(number_at(stack, 2));
-    say_number(number_at(stack, 4));
-    say_number(number_at(stack, 6));
-    say(b"\n");
+pub fn say_run(rt: &impl Print, run: &[u16; 4], stack: &[u8]) {
+    say(rt, b" |");
+    say_number(rt, run[0]);
+    say_number(rt, run[1]);
+    say_number(rt, run[2]);
+    say_number(rt, run[3]);
+    say(rt, b" |");
+    say_number(rt, number_at(stack, 0));
+    say_number(rt, number_at(stack, 2));
+    say_number(rt, number_at(stack, 4));
+    say_number(rt, number_at(stack, 6));
+    say(rt, b"\n");
 }
 
 // The counts of areas 1 to 6.
-pub fn say_counts(counts: &[u16; 6]) {
-    say_number(counts[0]);
-    say_number(counts[1]);
-    say_number(counts[2]);
-    say_number(counts[3]);
-    say_number(counts[4]);
-    say_number(counts[5]);
-    say(b"\n");
+pub fn say_counts(rt: &impl Print, counts: &[u16; 6]) {
+    say_number(rt, counts[0]);
+    say_number(rt, counts[1]);
+    say_number(rt, counts[2]);
+    say_number(rt, counts[3]);
+    say_number(rt, counts[4]);
+    say_number(rt, counts[5]);
+    say(rt, b"\n");
 }

@@ -1,49 +1,63 @@
 // Reads a lex file from standard input and prints its sheet (01, Files to try, the end).
+#![tactic(auto)]
+
 ghost use Rattle.std.specs.Prelude.{◌≤◌, length};
 
-use libc::{STDIN_FILENO, STDOUT_FILENO};
 use sheet_print::{SHEET_ROOM, sheet};
+use std::io;
+use std::io::Read;
 
 #[derive(Drop)]
 struct Source {
-    failed: bool,
+    failure: Option<io::Error>,
     length: usize,
 }
 
 // Reads until the input ends, a read fails or there is no room.
-fn read_source(buffer: &mut [u8]) -> Source
+fn read_source(input: &mut impl Read, buffer: &mut [u8]) -> Source
     ensures { result.length ≤ length buffer.new }
 {
     let mut done = 0;
     while done < buffer.len() {
-        let got = libc::read(STDIN_FILENO, &mut buffer[done..]);
-        let more = io::count(got, &buffer[done..]);
-        if more == 0 {
-            return Source {
-                failed: got < 0,
-                length: done,
-            };
+        match input.read(&mut buffer[done..]) {
+            Ok(n) if n > 0 => done += n,
+            Ok(_) => {
+                return Source {
+                    failure: None,
+                    length: done,
+                };
+            }
+            Err(error) => {
+                return Source {
+                    failure: Some(error),
+                    length: done,
+                };
+            }
         }
-        done += more;
     }
     Source {
-        failed: false,
+        failure: None,
         length: done,
     }
 }
 
+// Says on standard error what failed, and why.
+fn fail(rt: &impl Eprint, what: &str, error: io::Error) {
+    let _ = eprintln!(rt; "{what}: {error}");
+}
+
 // A byte more than a file may have is read, so that a file that is too long is refused.
-fn main() {
-    let mut buffer = io::large_buffer();
-    let source = read_source(&mut buffer);
-    if source.failed {
-        os::fail(b"standard input");
+fn main(rt: HostRuntime) {
+    let mut buffer = [0u8; 65536];
+    let source = read_source(&mut rt.stdin(), &mut buffer);
+    if let Some(error) = source.failure {
+        fail(&rt, "standard input", error);
         return;
     }
     let length = source.length;
     let mut out = [0u8; SHEET_ROOM];
     let n = sheet(&buffer[..length], &mut out);
-    if !io::write_all(STDOUT_FILENO, &out[..n]) {
-        os::fail(b"standard output");
+    if let Err(error) = rt.write_all(&out[..n]) {
+        fail(&rt, "standard output", error);
     }
 }

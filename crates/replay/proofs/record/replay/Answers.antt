@@ -1,0 +1,6 @@
+-- The source is read, and the rest is compared.
+use Rattle.replay.proofs.Whole.{record_read}
+use Rattle.replay.proofs.record.replay.Goals as goal
+
+pub returns : goal.returns
+returns c = record_read _ _ _ _ _ _ _ c.requires c.read_source-read.auto.out c.read_source-read.ensures c.replay_rest.ensures
