@@ -1,6 +1,6 @@
 /* Troymantle: reads lex files, gives their rules token ids, and runs them over what is typed.
  *
- * Link with target/staticlib/libtroymantle.a, which `rt staticlib troymantle` proves and builds (x86-64). The calls have no state of
+ * Link with target/staticlib/libtroymantle.a, which `tools/library` proves and builds (x86-64). The calls have no state of
  * their own, keep nothing that they are lent, end on every input and refuse bad input by number. Of the caller they ask this alone:
  * each pointer is not null and points to as many bytes or numbers as stand beside it, also where that is none; what a call may write
  * overlaps nothing else that it is lent; arrays of numbers are aligned. docs/CALLS.md has the calls in full.
