@@ -1,17 +1,18 @@
 -- Where characters start in a text of code points: at the edges, and nowhere else. The first byte of a character is not from 80 to BF, the bytes
 -- inside it are; so on well-formed text an edge is where no byte of 80 to BF stands.
 use mathlib.Core.Path.{◌≡◌, refl, sym, ap, subst, ◌∙◌}
-use mathlib.Core.Bool.{true, false, not, true≢false}
+use mathlib.Core.Bool.{Bool, true, false, not, ◌&&◌, true≢false}
 use mathlib.Core.List.{List, [], ◌∷◌, ◌++◌, append_assoc, append-nil}
 use mathlib.Core.Logic.{◌⊎◌, inl, inr}
 use Prim.Native.Nat.{ℕ, ◌+◌, ◌-◌, ◌/◌, ◌≤◌, ◌<◌}
 use native.Mathlib.Nat.{le_refl, eq-or-lt_of_le}
 use native.Mathlib.Omega.{arith}
+use borrow.Author.Rules.{rules}
 use borrow.Author.Tests.{le-leb, lt-leb, leb-true}
 use lib.Dec.{leb}
 use lib.ListN.{length, length-append, get_or-eq_default}
 use Rattle.characters.specs.Whitespace.{byte}
-use Rattle.characters.specs.Unicode.{encode, encode_all, Edge}
+use Rattle.characters.specs.Unicode.{encode, encode_all, Edge, JudgesEdge}
 use Rattle.characters.specs.Utf8.{is_continuation, at_edge, is_edge}
 use Rattle.characters.proofs.Tests.{and_left, and_right, in_range, above_range, le_or_lt}
 use Rattle.characters.proofs.Codes.{by_size, encode_1, encode_2, encode_3, encode_4, encode_all-append}
@@ -57,18 +58,18 @@ edge_at xs [] = ap (λ (l : List ℕ). at_edge (encode_all l) (length (encode_al
 edge_at xs (y ∷ ys) = ap (λ (b : ℕ). not (is_continuation b)) (first-at xs y ys) ∙ ap not (first_outside y (encode_all ys))
 
 -- and every place of the text where no character goes on is an edge: from the edge behind xs on it is searched character by character
-edge-from :
+edge_from :
     (xs ys : List ℕ) (b : ℕ)
     → length (encode_all xs) ≤ b
     → b ≤ length (encode_all (xs ++ ys))
     → at_edge (encode_all (xs ++ ys)) b ≡ true
     → Edge (xs ++ ys) b
-edge-from xs [] b l h t =
+edge_from xs [] b l h t =
     let q : length (encode_all (xs ++ [])) ≡ length (encode_all xs) = ap (λ (zs : List ℕ). length (encode_all zs)) (append-nil xs) in
     record { before = xs; behind = []; all = refl; bytes = omega arith }
-edge-from xs (y ∷ ys) b l h t =
+edge_from xs (y ∷ ys) b l h t =
     by (eq-or-lt_of_le l) (le_or_lt (length (encode_all xs) + length (encode y)) b)
-    (λ g. edge-from (xs ++ y ∷ []) ys b g
+    (λ g. edge_from (xs ++ y ∷ []) ys b g
     (subst (λ (zs : List ℕ). b ≤ length (encode_all zs)) (sym moved) h)
     (subst (λ (zs : List ℕ). at_edge (encode_all zs) b ≡ true) (sym moved) t))
   where
@@ -97,4 +98,13 @@ module _ (cs : List ℕ) (b : ℕ) where
   unfolding encode_all
   edge_is t =
       let inside = leb-true b (length (encode_all cs)) (and_left (leb b (length (encode_all cs))) (at_edge (encode_all cs) b) t) in
-      edge-from [] cs b (omega arith) inside (and_right (leb b (length (encode_all cs))) (at_edge (encode_all cs) b) t)
+      edge_from [] cs b (omega arith) inside (and_right (leb b (length (encode_all cs))) (at_edge (encode_all cs) b) t)
+
+  pub edge_judges : JudgesEdge cs b (is_edge (encode_all cs) b)
+  edge_judges = record { sound = edge_is; complete = edge_passes }
+
+-- the test on a byte that was read
+pub edge_tested : (s : List ℕ) (b x : ℕ) (t : Bool) → x ≡ byte s b → t ≡ is_continuation x → leb b (length s) && not t ≡ is_edge s b
+edge_tested s b x t e q = ap (λ (u : Bool). leb b (length s) && not u) (q ∙ ap is_continuation e)
+
+pub ruleset testing_edges = (rules, edge_tested)

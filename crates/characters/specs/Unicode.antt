@@ -37,6 +37,11 @@ pub record Edge (cs : List ℕ) (b : ℕ) : Type 0 where
   pub all : cs ≡ before ++ behind
   pub bytes : b ≡ length (encode_all before)
 
+-- the test r holds exactly where b is an edge of the text of the code points cs
+pub record JudgesEdge (cs : List ℕ) (b : ℕ) (r : Bool) : Type 0 where
+  pub sound : r ≡ true → Edge cs b
+  pub complete : Edge cs b → r ≡ true
+
 -- the test r holds exactly of the encodings of lists of scalar values
 pub record Judges (s : List ℕ) (r : Bool) : Type 0 where
   pub sound : r ≡ true → Encoded s

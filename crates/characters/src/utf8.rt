@@ -4,7 +4,7 @@ ghost use Rattle.characters.specs.Walk.{any};
 ghost use Rattle.characters.specs.Shortcuts.{RulesOut, Tells, out_of_place, out_of_place_behind, starts_out_of_place, ends_out_of_place};
 ghost use Rattle.characters.specs.Whitespace.{Width, byte};
 ghost use Rattle.characters.specs.Utf8;
-ghost use Rattle.characters.specs.Utf8.{is_continuation, two_bytes, three_bytes, four_bytes, char_of, char_len};
+ghost use Rattle.characters.specs.Utf8.{is_continuation, is_edge, two_bytes, three_bytes, four_bytes, char_of, char_len};
 
 use crate::whitespace::byte_at;
 
@@ -18,6 +18,13 @@ pub fn is_continuation(b: u8) -> bool
     ensures { result ≡ is_continuation b }
 {
     (0x80 <= b) & (b <= 0xbf)
+}
+
+// Whether b is an edge of the text s: no character goes on there.
+pub fn is_edge(s: &[u8], b: usize) -> bool
+    ensures { result ≡ is_edge s.now b }
+{
+    (b <= s.len()) & !is_continuation(byte_at(s, b))
 }
 
 fn two_bytes(a: u8, b: u8) -> bool

@@ -1,0 +1,3 @@
+pub mod InputCheck
+pub mod Top
+pub mod Computing

@@ -1,0 +1,98 @@
+// Whether what a start and a step are given fits: the entry's text, and the row (01, Numbers given at the counter, 10; 02, 2/13).
+#![tactic(auto)]
+
+ghost use Rattle.std.specs.Prelude.{◌≡◌, ◌+◌, ◌*◌, ◌≤◌, length};
+ghost use Rattle.area.specs.Contents.{contents, entry_format};
+ghost use Rattle.area.specs.Lists.{all};
+ghost use Rattle.area.specs.Records.{entry_width};
+ghost use Rattle.characters.specs.Shortcuts.{RulesOut};
+ghost use Rattle.characters.specs.Utf8.{is_continuation, is_edge};
+ghost use Rattle.characters.specs.Walk.{any};
+ghost use Rattle.characters.specs.Whitespace.{byte};
+ghost use Rattle.winner.specs.Winner.{length_in, greatest};
+ghost use Rattle.input_check.specs.InputCheck.{good_text, length_fits};
+ghost use Rattle.input_check.specs.Top.{RowTopIs};
+
+use area::{ENTRY_WIDTH, read_entry};
+use characters::utf8::{is_continuation, is_edge, utf8};
+use winner::greatest_length;
+
+// Whether a row fits: its greatest length, or that it does not fit.
+#[derive(Clone, Copy)]
+pub enum RowTop {
+    Fits(u16),
+    Misfit,
+}
+
+// The length first, so that a text of another length is not read.
+pub fn good_text(n: u64, text: &[u8]) -> bool
+    ensures { result ≡ good_text n text.now }
+{
+    if text.len() as u64 != n {
+        return false;
+    }
+    utf8(text)
+}
+
+// Whether one of the n bytes from k on stands inside a character. It looks at all of them, so that the compiler can take many at once.
+fn has_inside(text: &[u8], k: usize, n: usize) -> bool
+    requires { k + n ≤ length text.now }
+    ensures { RulesOut (any (λ j. is_continuation (byte text.now (k + j))) n) result }
+{
+    let mut found = false;
+    let mut j = 0;
+    while j < n {
+        found = found | is_continuation(text[k + j]);
+        j += 1;
+    }
+    found
+}
+
+// Whether each length ends at an edge, rule by rule.
+fn each_at_edge(text: &[u8], position: u16, rules: u16, row: &[u8]) -> bool
+    requires { rules * entry_width ≤ length row.now }
+    ensures { result ≡ all (λ l. is_edge text.now (position + l)) (contents entry_format row.now rules) }
+{
+    let from = position as usize;
+    let most = rules as usize;
+    let mut good = true;
+    let mut k = 0;
+    while k < most {
+        good = good & is_edge(text, from + read_entry(row, k) as usize);
+        k += 1;
+    }
+    good
+}
+
+// The same. Where the greatest length ends at an edge and no byte before that stands inside a character, every length ends at an edge.
+fn all_at_edge(text: &[u8], position: u16, rules: u16, row: &[u8], top: u16) -> bool
+    requires entry_width_in_bounds { rules * entry_width ≤ length row.now }
+    requires top_in_bounds { position + top ≤ length text.now }
+    requires top_value { top ≡ greatest (length_in row.now) rules }
+    ensures { result ≡ all (λ l. is_edge text.now (position + l)) (contents entry_format row.now rules) }
+{
+    if is_edge(text, position as usize + top as usize) {
+        if !has_inside(text, position as usize, top as usize) {
+            return true;
+        }
+    }
+    each_at_edge(text, position, rules, row)
+}
+
+// Every length is at most the bytes left where the greatest is; then the edges.
+pub fn row_top(text: &[u8], left: u16, position: u16, rules: u16, row: &[u8]) -> RowTop
+    requires { position + left ≤ length text.now }
+    ensures { RowTopIs (length_fits text.now left position) rules row.now result }
+{
+    if row.len() != rules as usize * ENTRY_WIDTH {
+        return RowTop::Misfit;
+    }
+    let top = greatest_length(row, rules);
+    if left < top {
+        return RowTop::Misfit;
+    }
+    if all_at_edge(text, position, rules, row, top) {
+        return RowTop::Fits(top);
+    }
+    RowTop::Misfit
+}
