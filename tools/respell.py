@@ -43,7 +43,7 @@ def declared(text):
         if line.lstrip().startswith(PASSED):
             continue
         m = DECLARED.match(line)
-        if m and NAME.match(m.group(3)) and (m.group(2) or re.match(r"^\s*[^\s:({]+ : ", line)):
+        if m and NAME.match(m.group(3)) and (m.group(2) or re.match(r"^\s*[^\s:({]+ :(?: |$)", line)):
             yield m.group(3)
 
 

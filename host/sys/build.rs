@@ -1,8 +1,8 @@
 //! Finds the static library, or has it proved and built, and says what is missing where neither can be done.
 
+use std::env;
 use std::path::{Path, PathBuf};
 use std::process::{Command, Stdio, exit};
-use std::{env, io};
 
 /// Names a library elsewhere.
 const VARIABLE: &str = "TROYMANTLE_LIBRARY";
@@ -45,22 +45,17 @@ fn library() -> Result<PathBuf, String> {
 
 fn build(root: &Path, file: &Path) -> Result<(), String> {
     let missing = format!("There is no {}", file.display());
-    let output =
-        Command::new("rt").args(["staticlib", "troymantle"]).current_dir(root).stdin(Stdio::null()).output().map_err(
-            |error| match error.kind() {
-                io::ErrorKind::NotFound => format!(
-                    "{missing}, and the command rt of the Rattle kit, which proves and builds it, is not on the PATH. \
-                 Install the kit, or set {VARIABLE} to the whole path of a {FILE} that was built elsewhere."
-                ),
-                _ => format!("{missing}, and the command rt, which proves and builds it, does not start: {error}."),
-            },
-        )?;
+    let tool = root.join("tools/library");
+    let output = Command::new(&tool).current_dir(root).stdin(Stdio::null()).output().map_err(|error| {
+        format!("{missing}, and {}, which proves and builds it, does not start: {error}.", tool.display())
+    })?;
     if output.status.success() && file.is_file() {
         return Ok(());
     }
     let said = [output.stdout, output.stderr].concat();
     Err(format!(
-        "{missing}, and `rt staticlib troymantle` in {} did not make it ({}). It said:\n{}",
+        "{missing}, and tools/library in {}, which proves and builds it by the command rt of the Rattle kit, did not make it ({}). \
+         Where the kit is not there, install it, or set {VARIABLE} to the whole path of a {FILE} that was built elsewhere. It said:\n{}",
         root.display(),
         output.status,
         String::from_utf8_lossy(&said)
