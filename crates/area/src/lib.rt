@@ -4,7 +4,8 @@
 ghost use Rattle.std.specs.Prelude.{◌≡◌, ◌++◌, ◌∷◌, [], ◌+◌, ◌*◌, ◌-◌, ◌≤◌, length, take, drop};
 ghost use Rattle.std.proofs.lemmas.List.Edits.{sets};
 ghost use Rattle.area.specs.Bytes.{two, bytes, zeros, field_at};
-ghost use Rattle.area.specs.Records.{state_width, rule_width, entry_width, expected_width, fault_width, most_states, most_rules, most_others, state_bytes, rule_bytes, entry_bytes, expected_bytes, fault_bytes, state_at, rule_at, entry_at, expected_at, fault_at, four_at};
+ghost use Rattle.area.specs.Records.{state_width, rule_width, entry_width, expected_width, fault_width, most_states, most_rules, most_others};
+ghost use Rattle.area.specs.Records.{state_bytes, rule_bytes, entry_bytes, expected_bytes, fault_bytes, state_at, rule_at, entry_at, expected_at, fault_at, four_at};
 ghost use Rattle.area.specs.Areas.{room, Pushed, PushedText, move_up, inserted};
 
 // The areas by their numbers.

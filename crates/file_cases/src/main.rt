@@ -1,10 +1,8 @@
 // Prints the sheet of each file of standard input, where a zero byte ends a file: the files of 01, Files to try, in their order.
 #![tactic(auto)]
 
-ghost use Rattle.std.specs.Prelude.{◌≤◌, length};
-
 use sheet_print::{SHEET_ROOM, sheet};
-use std::io::Read;
+use streams::read_full;
 use text::scan::find_byte;
 
 // What cannot be written is left out.
@@ -29,20 +27,6 @@ fn show_all(rt: &impl Print, s: &[u8]) {
         }
         from = to + 1;
     }
-}
-
-// Reads until the buffer is full, the input ends or a read fails, and answers how many bytes were read.
-fn read_full(input: &mut impl Read, buffer: &mut [u8]) -> usize
-    ensures { result ≤ length buffer.new }
-{
-    let mut done = 0;
-    while done < buffer.len() {
-        match input.read(&mut buffer[done..]) {
-            Ok(n) if n > 0 => done += n,
-            _ => return done,
-        }
-    }
-    done
 }
 
 fn main(rt: HostRuntime) {

@@ -2,12 +2,10 @@
 // of the test, and the part itself in brackets; then for a rule past the last, and for sheets that are broken.
 #![tactic(auto)]
 
-ghost use Rattle.std.specs.Prelude.{◌≤◌, length};
-
 use parse::Answer;
 use parse::call::parse;
 use sheet_check::pattern::{pattern, pattern_test};
-use std::io::Read;
+use streams::read_full;
 
 // What cannot be written is left out.
 fn say(rt: &impl Print, word: &[u8]) {
@@ -134,20 +132,6 @@ fn show(rt: &impl Print, src: &[u8]) {
         return;
     }
     say_cases(rt, src, &area1, &mut area2, &area3, &area4, &area5, &counts);
-}
-
-// Reads until the buffer is full, the input ends or a read fails, and answers how many bytes were read.
-fn read_full(input: &mut impl Read, buffer: &mut [u8]) -> usize
-    ensures { result ≤ length buffer.new }
-{
-    let mut done = 0;
-    while done < buffer.len() {
-        match input.read(&mut buffer[done..]) {
-            Ok(n) if n > 0 => done += n,
-            _ => return done,
-        }
-    }
-    done
 }
 
 fn main(rt: HostRuntime) {

@@ -8,27 +8,7 @@ mod record;
 
 use record::replay_all;
 use std::fs::File;
-use std::io;
-use std::io::Read;
-
-// Reads until the buffer is full, the input ends or a read fails, and answers how many bytes were read.
-fn read_full(input: &mut impl Read, buffer: &mut [u8]) -> usize
-    ensures { result ≤ length buffer.new }
-{
-    let mut done = 0;
-    while done < buffer.len() {
-        match input.read(&mut buffer[done..]) {
-            Ok(n) if n > 0 => done += n,
-            _ => return done,
-        }
-    }
-    done
-}
-
-// Says on standard error what failed, and why.
-fn fail(rt: &impl Eprint, what: &str, error: io::Error) {
-    let _ = eprintln!(rt; "{what}: {error}");
-}
+use streams::{fail, read_full};
 
 // Of the zeros the contract gives only how many there are, which is all that lending them needs.
 fn zeros<const N: usize>() -> [u8; N]

@@ -2,35 +2,13 @@
 // `file.l`; standard input has the calls, one to a line (module calls).
 #![tactic(auto)]
 
-ghost use Rattle.std.specs.Prelude.{◌≤◌, length};
-
 mod calls;
 mod numbers;
 mod printing;
 
 use calls::play;
 use std::fs::File;
-use std::io;
-use std::io::Read;
-
-// Reads until the buffer is full, the input ends or a read fails, and answers how many bytes were read.
-fn read_full(input: &mut impl Read, buffer: &mut [u8]) -> usize
-    ensures { result ≤ length buffer.new }
-{
-    let mut done = 0;
-    while done < buffer.len() {
-        match input.read(&mut buffer[done..]) {
-            Ok(n) if n > 0 => done += n,
-            _ => return done,
-        }
-    }
-    done
-}
-
-// Says on standard error what failed, and why.
-fn fail(rt: &impl Eprint, what: &str, error: io::Error) {
-    let _ = eprintln!(rt; "{what}: {error}");
-}
+use streams::{fail, read_full};
 
 fn main(rt: HostRuntime) {
     let mut file = match File::open(&rt, "file.l") {

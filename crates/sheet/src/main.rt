@@ -6,6 +6,7 @@ ghost use Rattle.std.specs.Prelude.{◌≤◌, length};
 use sheet_print::{SHEET_ROOM, sheet};
 use std::io;
 use std::io::Read;
+use streams::fail;
 
 #[derive(Drop)]
 struct Source {
@@ -39,11 +40,6 @@ fn read_source(input: &mut impl Read, buffer: &mut [u8]) -> Source
         failure: None,
         length: done,
     }
-}
-
-// Says on standard error what failed, and why.
-fn fail(rt: &impl Eprint, what: &str, error: io::Error) {
-    let _ = eprintln!(rt; "{what}: {error}");
 }
 
 // A byte more than a file may have is read, so that a file that is too long is refused.

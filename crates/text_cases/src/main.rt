@@ -7,7 +7,7 @@ ghost use Rattle.std.specs.Prelude.{◌≤◌, length};
 use characters::Found;
 use characters::utf8::utf8;
 use characters::whitespace::matches_whitespace;
-use std::io::Read;
+use streams::read_full;
 use text::range::{lookahead_is, same_range};
 use text::scan::{
     find_ascii_whitespace, find_byte, find_whitespace, last_blank, line_end, parse_nl,
@@ -117,20 +117,6 @@ fn show_all(rt: &impl Print, s: &[u8]) {
         }
         from = to + 1;
     }
-}
-
-// Reads until the buffer is full, the input ends or a read fails, and answers how many bytes were read.
-fn read_full(input: &mut impl Read, buffer: &mut [u8]) -> usize
-    ensures { result ≤ length buffer.new }
-{
-    let mut done = 0;
-    while done < buffer.len() {
-        match input.read(&mut buffer[done..]) {
-            Ok(n) if n > 0 => done += n,
-            _ => return done,
-        }
-    }
-    done
 }
 
 fn main(rt: HostRuntime) {

@@ -38,8 +38,15 @@ loop-k-preserved-then-not-is_unlinked c =
 
 pub write_number-requires : goal.write_number-requires
 write_number-requires c =
+    let a = c.args in
     let l = c.loop-k in
-    omega (arith, l.invariant.2, written_fits (passes_at rule_format is_unlinked c.args.area.now c.args.count) (length c.args.into.now) l.invariant.3 c.args.count (search counting) (numbers_fit (passes_at rule_format is_unlinked c.args.area.now c.args.count) c.args.count _ c.args.into.now (unlinked_is c.args.area.now c.args.count) c.requires.into_value_2) (record_passes rule_format is_unlinked c.args.area.now c.args.count c.loop-k.k (search counting) _ c.read_rule-x.ensures _ c.is_unlinked.ensures c.if-not-is_unlinked.false))
+    let test = passes_at rule_format is_unlinked a.area.now a.count in
+    let room = numbers_fit test a.count _ a.into.now (unlinked_is a.area.now a.count) c.requires.into_value_2 in
+    let passes =
+    record_passes rule_format is_unlinked a.area.now a.count l.k (search counting) _ c.read_rule-x.ensures _ c.is_unlinked.ensures
+    c.if-not-is_unlinked.false
+    in
+    omega (arith, l.invariant.2, written_fits test (length a.into.now) l.invariant.3 a.count (search counting) room passes)
 
 pub overflow_add-n : goal.overflow_add-n
 overflow_add-n c = search counting
@@ -49,12 +56,18 @@ loop-k-smaller c = search counting
 
 pub loop-k-preserved : goal.loop-k-preserved
 loop-k-preserved c =
-    let l = c.loop-k in (
+    let a = c.args in
+    let l = c.loop-k in
+    let test = passes_at rule_format is_unlinked a.area.now a.count in
+    let room = numbers_fit test a.count _ a.into.now (unlinked_is a.area.now a.count) c.requires.into_value_2 in
+    let passes =
+    record_passes rule_format is_unlinked a.area.now a.count l.k (search counting) _ c.read_rule-x.ensures _ c.is_unlinked.ensures
+    c.if-not-is_unlinked.false
+    in (
       search counting,
       search counting,
       search counting,
-      written_yes (passes_at rule_format is_unlinked c.args.area.now c.args.count) (length c.args.into.now) l.invariant.3 c.args.count (search counting) (numbers_fit (passes_at rule_format is_unlinked c.args.area.now c.args.count) c.args.count _ c.args.into.now (unlinked_is c.args.area.now c.args.count) c.requires.into_value_2) (record_passes rule_format is_unlinked c.args.area.now c.args.count c.loop-k.k (search counting) _ c.read_rule-x.ensures _ c.is_unlinked.ensures c.if-not-is_unlinked.false)
-          _ c.write_number.ensures,
+      written_yes test (length a.into.now) l.invariant.3 a.count (search counting) room passes _ c.write_number.ensures,
     )
 
 pub returns : goal.returns

@@ -1,5 +1,7 @@
 -- `link::numbers::write_unused` meets its contract: the area has the numbers so far.
 use mathlib.Core.Path.{refl}
+use mathlib.Core.Bool.{Bool}
+use Prim.Native.Nat.{ℕ}
 use native.Mathlib.Omega.{arith}
 use borrow.Author.Tests.{eq-eqb, ne_eqb}
 use lib.Dec.{eqb}
@@ -33,8 +35,12 @@ overflow_cast-here c = search counting
 
 pub write_number-requires : goal.write_number-requires
 write_number-requires c =
+    let a = c.args in
     let l = c.loop-j in
-    omega (arith, l.invariant.2, written_fits (λ i. eqb (get_or c.args.used.now i 0) 0) (length c.args.into.now) l.invariant.3 c.args.most (search counting) (numbers_fit (λ i. eqb (get_or c.args.used.now i 0) 0) c.args.most _ c.args.into.now refl c.requires.into_value_2) (eq-eqb _ 0 c.if-used-here-ne0.false))
+    let test : ℕ → Bool = λ i. eqb (get_or a.used.now i 0) 0 in
+    let room = numbers_fit test a.most _ a.into.now refl c.requires.into_value_2 in
+    let passes = eq-eqb _ 0 c.if-used-here-ne0.false in
+    omega (arith, l.invariant.2, written_fits test (length a.into.now) l.invariant.3 a.most (search counting) room passes)
 
 pub overflow_add-n : goal.overflow_add-n
 overflow_add-n c = search counting
@@ -43,13 +49,17 @@ pub loop-j-smaller : goal.loop-j-smaller
 loop-j-smaller c = search counting
 
 pub loop-j-preserved : goal.loop-j-preserved
-loop-j-preserved c = (
-  search counting,
-  search counting,
-  search counting,
-  written_yes (λ i. eqb (get_or c.args.used.now i 0) 0) (length c.args.into.now) c.loop-j.invariant.3 c.args.most (search counting) (numbers_fit (λ i. eqb (get_or c.args.used.now i 0) 0) c.args.most _ c.args.into.now refl c.requires.into_value_2) (eq-eqb _ 0 c.if-used-here-ne0.false)
-      _ c.write_number.ensures,
-)
+loop-j-preserved c =
+    let a = c.args in
+    let l = c.loop-j in
+    let test : ℕ → Bool = λ i. eqb (get_or a.used.now i 0) 0 in
+    let room = numbers_fit test a.most _ a.into.now refl c.requires.into_value_2 in
+    let passes = eq-eqb _ 0 c.if-used-here-ne0.false in (
+      search counting,
+      search counting,
+      search counting,
+      written_yes test (length a.into.now) l.invariant.3 a.most (search counting) room passes _ c.write_number.ensures,
+    )
 
 pub returns : goal.returns
 returns c =
