@@ -1,5 +1,8 @@
 -- The number of each answer of the calls, each once (01, Numbers given at the counter, and The run; 02).
 use Rattle.std.specs.Prelude.{ℕ}
+use Rattle.answers.specs.declared.Number.{Number}
+use Rattle.answers.specs.declared.Number.TheVariants.{Accepted, LongFile, UnknownFlag, InvalidUtf8, AreaFull, FaultyFile, BrokenSheet, BrokenMap}
+use Rattle.answers.specs.declared.Number.TheVariants.{StartRefused, BrokenRun, RowMismatch, NoSuchPlace, Done, Stopped, Unlinked, Skip, Token}
 
 -- ---- accepted, and the refusals
 
@@ -74,3 +77,25 @@ skip_number = 259
 -- the values are its id, start and length
 abbrev pub token_number : ℕ
 token_number = 260
+
+-- ---- the numbers by name
+
+-- the number of each name
+abbrev pub number_of : Number → ℕ
+number_of Accepted = accepted_number
+number_of LongFile = long_file_number
+number_of UnknownFlag = unknown_flag_number
+number_of InvalidUtf8 = invalid_utf8_number
+number_of AreaFull = area_full_number
+number_of FaultyFile = faulty_file_number
+number_of BrokenSheet = broken_sheet_number
+number_of BrokenMap = broken_map_number
+number_of StartRefused = start_refused_number
+number_of BrokenRun = broken_run_number
+number_of RowMismatch = row_mismatch_number
+number_of NoSuchPlace = no_such_place_number
+number_of Done = done_number
+number_of Stopped = stopped_number
+number_of Unlinked = unlinked_number
+number_of Skip = skip_number
+number_of Token = token_number

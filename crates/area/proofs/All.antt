@@ -60,7 +60,7 @@ module _ {A : Type 0} (test : A → Bool) where
   all_from (x ∷ xs) d f = rw (f 0 (omega arith)) (all_from xs d (λ k h. f (suc k) (omega arith)))
 
   -- one element more
-  all_one_more : (xs : List A) (x : A) → all test (xs ++ (x ∷ [])) ≡ all test xs && test x
+  pub all_one_more : (xs : List A) (x : A) → all test (xs ++ (x ∷ [])) ≡ all test xs && test x
   unfolding all
   all_one_more [] x = and-true (test x)
   all_one_more (y ∷ xs) x = ap (λ (b : Bool). test y && b) (all_one_more xs x) ∙ sym (and_assoc (test y) (all test xs) (test x))

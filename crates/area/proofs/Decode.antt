@@ -7,9 +7,8 @@ use Prim.Native.Nat.{ℕ, zero, suc, ◌+◌, ◌*◌, ◌<◌}
 use native.Mathlib.Nat.{add-zero, add_assoc}
 use native.Mathlib.Omega.{arith}
 use lib.ListN.{length, get_or}
-use Rattle.area.specs.declared.Four.{Four}
 use Rattle.area.specs.Bytes.{two, bytes, field_at, field_from}
-use Rattle.area.specs.Records.{state_of, rule_of, expected_of, fault_of, four_at}
+use Rattle.area.specs.Records.{state_of}
 use Rattle.area.specs.Areas.{Area}
 use Rattle.area.proofs.Fields.{fields-length, field_back}
 use Rattle.area.proofs.Areas.{area-at}
@@ -52,47 +51,10 @@ module _ {A : Type 0} (fields : A → List ℕ) (m : ℕ) (has : (x : A) → len
         g : ℕ → ℕ
         g = field_from l (k * (2 * m))
 
--- ---- a record made of fields that were read one by one, or by fours
+-- ---- a record made of fields that were read one by one
 
 module _ (l : List ℕ) (at : ℕ) where
   pub state_made : (a b c : ℕ) → a ≡ field_at l at → b ≡ field_at l (at + 2) → c ≡ field_at l (at + 4)
       → record { start = a; end = b; exclusive = c } ≡ state_of (field_from l at)
   unfolding state_of field_from
   state_made a b c e1 e2 e3 = simp (e1, e2, e3, add-zero)
-
-  pub entry_made : (a : ℕ) → a ≡ field_at l at → a ≡ field_from l at 0
-  unfolding field_from
-  entry_made a e = simp (e, add-zero)
-
-  pub expected_made : (a b : ℕ) → a ≡ field_at l at → b ≡ field_at l (at + 2) → record { start = a; end = b } ≡ expected_of (field_from l at)
-  unfolding expected_of field_from
-  expected_made a b e1 e2 = simp (e1, e2, add-zero)
-
-  pub four_made : (a b c d : ℕ) → a ≡ field_at l at → b ≡ field_at l (at + 2) → c ≡ field_at l (at + 4) → d ≡ field_at l (at + 6)
-      → record { first = a; second = b; third = c; fourth = d } ≡ four_at l at
-  unfolding four_at
-  four_made a b c d e1 e2 e3 e4 = simp (e1, e2, e3, e4)
-
-  pub fault_made : (q : Four) → q ≡ four_at l at → record { number = q.first; kind = q.second; start = q.third; end = q.fourth } ≡ fault_of (field_from l at)
-  unfolding fault_of field_from four_at
-  fault_made q e = simp (e, add-zero)
-
-  pub rule_made : (a b c : Four) (d e : ℕ) → a ≡ four_at l at → b ≡ four_at l (at + 8) → c ≡ four_at l (at + 16) → d ≡ field_at l (at + 24) → e ≡ field_at l (at + 26)
-      → record {
-        has_id = a.first;
-        id = a.second;
-        named = a.third;
-        span_start = a.fourth;
-        span_end = b.first;
-        name_from = b.second;
-        name_length = b.third;
-        place = b.fourth;
-        text_from = c.first;
-        text_length = c.second;
-        list_from = c.third;
-        list_count = c.fourth;
-        operation = d;
-        target = e;
-      } ≡ rule_of (field_from l at)
-  unfolding rule_of field_from four_at
-  rule_made a b c d e e1 e2 e3 e4 e5 = simp (e1, e2, e3, e4, e5, add_assoc, add-zero)

@@ -8,3 +8,4 @@ pub mod Contents
 pub mod All
 pub mod Numbers
 pub mod Relaid
+pub mod Asking

@@ -1,13 +1,12 @@
 -- Laws of `numbers`: a loop has found those below where it stands, to count them or to write them. There are never more of them than in the end,
 -- so what fits in the end fits on the way. What is asked of the records of an area is asked of the list that it holds.
 use mathlib.Core.Path.{◌≡◌, refl, sym, ap, ap₂, ◌∙◌}
-use mathlib.Core.Bool.{Bool, true, false, cond, not}
+use mathlib.Core.Bool.{Bool, true, false, cond}
 use mathlib.Core.List.{List, [], ◌∷◌, ◌++◌, append-nil}
 use Prim.Native.Nat.{ℕ, zero, suc, ◌+◌, ◌*◌, ◌-◌, ◌≤◌, ◌<◌}
 use native.Mathlib.Nat.{sub-zero}
 use native.Mathlib.Numerals.{add-one}
 use native.Mathlib.Omega.{arith}
-use borrow.Author.Tests.{not-true, not-false}
 use lib.ListN.{length, get_or, length-append}
 use lib.Seq.{sets}
 use Rattle.area.specs.Bytes.{bytes, pad, zeros}

@@ -1,10 +1,10 @@
 -- What the tests for room say of `room`, and what an append says on each of its ways out. `room` is two tests joined, so each law
 -- takes the first one apart and leaves the second.
 -- Assumes nothing.
-use mathlib.Core.Path.{◌≡◌, refl, sym, ap, ◌∙◌, subst}
+use mathlib.Core.Path.{◌≡◌, refl, sym, ap, ap₂, ◌∙◌, subst}
 use mathlib.Core.Bool.{Bool, true, false, ◌&&◌}
 use mathlib.Core.List.{List}
-use Prim.Native.Nat.{ℕ, ◌+◌, ◌*◌, ◌-◌, ◌<◌, ◌≤◌}
+use Prim.Native.Nat.{ℕ, suc, ◌+◌, ◌*◌, ◌-◌, ◌<◌, ◌≤◌}
 use native.Mathlib.Nat.{add_assoc, mul-le-mul, mul-le-mul_right, mul-one, suc-mul}
 use native.Mathlib.Omega.{arith}
 use native.Mathlib.Numerals.{add-one}
@@ -17,6 +17,7 @@ use lib.ListN.{length, take, drop, length-drop}
 use lib.Seq.{sets, length-take-le}
 use Rattle.area.specs.declared.Appended.TheVariants.{Next, Full}
 use Rattle.area.specs.Areas.{room, Pushed}
+use Rattle.area.specs.Contents.{Format, Sized}
 
 both : (a b : Bool) → a && b ≡ true → (a ≡ true) × (b ≡ true)
 both true b e = (refl, e)
@@ -74,6 +75,12 @@ module _ (w limit cap n m : ℕ) (t : Bool) (is : t ≡ room w limit cap n m) wh
 pub was_next : (w limit cap n : ℕ) (t : Bool) → t ≡ room w limit cap n 1 → t ≡ true → n * w + w ≤ cap
 was_next w limit cap n t is e = rw (← suc-mul n w, ← add-one n) (was_fit w limit cap n 1 t is e)
 
+-- a record among n that fit
+pub record_fits : (w cap n k : ℕ) → k < n → n * w ≤ cap → k * w + w ≤ cap
+record_fits w cap n k h fits =
+    let b : suc k * w ≤ n * w = mul-le-mul_right w (omega arith) in
+    omega (arith, b, fits, suc-mul k w)
+
 module _ (w limit m : ℕ) (v l : List ℕ) (n : ℕ) (t : Bool) (is : t ≡ room w limit (length l) n m) where
   pub push_next : (e : List ℕ) → t ≡ true → e ≡ sets l (n * w) v → Pushed w limit m v l n (Next (n + m)) e
   push_next e h p =
@@ -112,5 +119,14 @@ module _ (s : List ℕ) (from to : ℕ) (ordered : from ≤ to) (inside : to ≤
 
     pub text_full : t ≡ false → Pushed 1 limit (length (cut s from to)) (cut s from to) l n Full l
     text_full h = push_full 1 limit (length (cut s from to)) (cut s from to) l n t room_cut h
+
+-- the test that the code makes by its own numbers
+pub sized_room : {A : Type 0} {F : Format A} {w most : ℕ} (s : Sized F w most) (cap n m u v : ℕ) (t : Bool) → u ≡ w → v ≡ most → t ≡ room u v cap n m
+    → t ≡ room F.width F.most cap n m
+sized_room s cap n m u v t p q is = is ∙ ap₂ (λ (a b : ℕ). room a b cap n m) (p ∙ s.width_is) (q ∙ s.most_is)
+
+-- room for bytes
+pub was_inside : (limit cap n m : ℕ) (t : Bool) → t ≡ room 1 limit cap n m → t ≡ true → n + m ≤ cap
+was_inside limit cap n m t is e = omega (arith, was_fit 1 limit cap n m t is e)
 
 pub ruleset texts = (rules, was_small, text_fits, text_next, text_full)

@@ -1,5 +1,5 @@
 -- What an area holds, read back from its bytes: the list of its first n records (01, Areas).
-use Rattle.std.specs.Prelude.{ℕ, zero, suc, ◌*◌, ◌≡◌, cond, List, [], ◌∷◌, ◌++◌, length, get_or, drop}
+use Rattle.std.specs.Prelude.{ℕ, zero, suc, ◌*◌, ◌≤◌, ◌≡◌, cond, List, [], ◌∷◌, ◌++◌, length, get_or, drop}
 use Rattle.std.proofs.Math.Option.{Option, none, some}
 use Rattle.area.specs.declared.State.{State}
 use Rattle.area.specs.declared.Rule.{Rule}
@@ -43,6 +43,14 @@ expected_format = record { write = expected_bytes; width = expected_width; most 
 
 abbrev pub fault_format : Format Fault
 fault_format = record { write = fault_bytes; width = fault_width; most = most_others; read = fault_at; blank = fault_of (λ _. 0) }
+
+-- a format whose records all have that many bytes, and of which an area may have so many. Both are small, so that their product cannot wrap
+pub record Sized {A : Type 0} (F : Format A) (width most : ℕ) : Type 0 where
+  pub width_is : width ≡ F.width
+  pub most_is : most ≡ F.most
+  pub narrow : F.width ≤ 28
+  pub few : F.most ≤ 65535
+  pub wide : (x : A) → length (F.write x) ≡ F.width
 
 -- the first n records of the area l
 unfoldable pub contents : {A : Type 0} → Format A → List ℕ → ℕ → List A

@@ -1,7 +1,10 @@
 pub mod Areas
 pub mod Bytes
 pub mod Records
+pub mod Names
 pub mod Contents
 pub mod Lists
+pub mod Asked
 pub mod Phrases
 pub mod Computing
+pub mod Laws

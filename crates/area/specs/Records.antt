@@ -1,12 +1,11 @@
 -- The records of the areas: their widths and limits, their fields in order, their bytes, and how they are read back (01, Areas).
 -- Assumes nothing.
-use Rattle.std.specs.Prelude.{List, [], ◌∷◌, ℕ, ◌+◌, ◌*◌, get_or}
+use Rattle.std.specs.Prelude.{List, [], ◌∷◌, ℕ, ◌*◌, get_or}
 use Rattle.area.specs.declared.State.{State}
 use Rattle.area.specs.declared.Rule.{Rule}
 use Rattle.area.specs.declared.Expected.{Expected}
 use Rattle.area.specs.declared.Fault.{Fault}
-use Rattle.area.specs.declared.Four.{Four}
-use Rattle.area.specs.Bytes.{two, bytes, field_at, field_from}
+use Rattle.area.specs.Bytes.{two, bytes, field_from}
 
 -- ---- bytes of a record (01, Areas: given for states, rules and faults, and two for each field of the others)
 
@@ -123,11 +122,6 @@ expected_at l k = expected_of (field_from l (k * expected_width))
 
 unfoldable pub fault_at : List ℕ → ℕ → Fault
 fault_at l k = fault_of (field_from l (k * fault_width))
-
--- the four fields from a place on, whatever record they belong to
-unfoldable pub four_at : List ℕ → ℕ → Four
-four_at l at =
-    record { first = field_at l at; second = field_at l (at + 2); third = field_at l (at + 4); fourth = field_at l (at + 6) }
 
 -- ---- record k of a list; past the end one whose fields are all 0
 

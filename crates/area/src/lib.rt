@@ -1,12 +1,43 @@
 // The areas that a caller lends: records of two-byte fields, one after the other, and zeros behind them.
 #![tactic(auto)]
 
-ghost use Rattle.std.specs.Prelude.{◌≡◌, ◌++◌, ◌∷◌, [], ◌+◌, ◌*◌, ◌-◌, ◌≤◌, length, take, drop};
+pub mod list; // a list of records in an area that is lent for reading
+
+ghost use Rattle.std.specs.Prelude.{ℕ, ◌≡◌, ◌++◌, ◌∷◌, [], ◌+◌, ◌*◌, ◌-◌, ◌≤◌, length, take, drop};
 ghost use Rattle.std.proofs.lemmas.List.Edits.{sets};
 ghost use Rattle.area.specs.Bytes.{two, bytes, zeros, field_at};
 ghost use Rattle.area.specs.Records.{state_width, rule_width, entry_width, expected_width, fault_width, most_states, most_rules, most_others};
-ghost use Rattle.area.specs.Records.{state_bytes, rule_bytes, entry_bytes, expected_bytes, fault_bytes, state_at, rule_at, entry_at, expected_at, fault_at, four_at};
+ghost use Rattle.area.specs.Records.{state_bytes, rule_bytes, entry_bytes, expected_bytes, fault_bytes, state_at, rule_at, entry_at, expected_at, fault_at};
 ghost use Rattle.area.specs.Areas.{room, Pushed, PushedText, move_up, inserted};
+ghost use Rattle.area.specs.Contents.{Format, Sized, state_format, rule_format, entry_format, expected_format, fault_format};
+ghost use Rattle.area.specs.Names.{area_number};
+ghost use Rattle.area.specs.declared.AreaName.{AreaName};
+ghost use Rattle.area.specs.declared.AreaName.TheVariants.{States, Rules, Entries, Expected, Faults};
+ghost use Rattle.area.specs.Laws.{state_sized, rule_sized, entry_sized, expected_sized, fault_sized};
+
+// The areas that a host lends.
+#[derive(Clone, Copy, PartialEq, Eq, Debug)]
+pub enum AreaName {
+    States = 1,
+    Rules,
+    Entries,
+    Text,
+    Expected,
+    Faults,
+}
+
+impl AreaName {
+    // The number that hosts know it by.
+    pub fn number(self) -> u16
+        ensures { result ≡ area_number self }
+    {
+        self as u16
+    }
+}
+
+// There was no room in the area.
+#[derive(Clone, Copy, Debug)]
+pub struct AreaFull(pub AreaName);
 
 // The areas by their numbers.
 pub const STATE_AREA: u16 = 1;
@@ -78,15 +109,6 @@ pub struct Fault {
     pub end: u16,
 }
 
-// Four fields in a row. Wide records are read and written by fours, so that no proof has to join more than five facts.
-#[derive(Clone, Copy)]
-struct Four {
-    first: u16,
-    second: u16,
-    third: u16,
-    fourth: u16,
-}
-
 // How many records there are afterwards, or that there was no room.
 #[derive(Clone, Copy)]
 pub enum Appended {
@@ -113,6 +135,7 @@ pub fn read_field(area: &[u8], at: usize) -> u16
     low + high * 256
 }
 
+// Wide records are written by fours, so that no proof has to join more than five facts.
 fn write_four(area: &mut [u8], at: usize, a: u16, b: u16, c: u16, d: u16)
     requires { at + 8 ≤ length area.old }
     ensures { area.new ≡ sets area.old at (bytes two (a ∷ b ∷ c ∷ d ∷ [])) }
@@ -123,140 +146,262 @@ fn write_four(area: &mut [u8], at: usize, a: u16, b: u16, c: u16, d: u16)
     write_field(area, at + 6, d);
 }
 
-fn read_four(area: &[u8], at: usize) -> Four
-    requires { at + 8 ≤ length area.now }
-    ensures { result ≡ four_at area.now at }
-{
-    Four {
-        first: read_field(area, at),
-        second: read_field(area, at + 2),
-        third: read_field(area, at + 4),
-        fourth: read_field(area, at + 6),
+// ---- records
+
+// What stands in an area one after the other, each as many bytes.
+pub trait Record: Copy {
+    ghost format: { Format Self };
+
+    ghost NAME: { AreaName };
+
+    ghost WIDTH: { ℕ };
+
+    ghost MOST: { ℕ };
+
+    const NAME: AreaName;
+
+    // How many bytes a record has.
+    const WIDTH: usize;
+
+    // How many records an area may have.
+    const MOST: usize;
+
+    // Record k of an area.
+    fn read(area: &[u8], k: usize) -> Self
+        requires { k * format.width + format.width ≤ length area.now }
+        ensures { result ≡ format.read area.now k };
+
+    fn write(self, area: &mut [u8], at: usize)
+        requires { at + format.width ≤ length area.old }
+        ensures { area.new ≡ sets area.old at (format.write self) };
+
+    ghost sized: { Sized format WIDTH MOST };
+}
+
+impl Record for State {
+    ghost format = { state_format };
+
+    ghost NAME = { States };
+
+    ghost WIDTH = { state_width };
+
+    ghost MOST = { most_states };
+
+    ghost sized = { state_sized };
+
+    const NAME: AreaName = AreaName::States;
+
+    const WIDTH: usize = STATE_WIDTH;
+
+    const MOST: usize = MOST_STATES;
+
+    fn read(area: &[u8], k: usize) -> State {
+        let at = k * STATE_WIDTH;
+        State {
+            start: read_field(area, at),
+            end: read_field(area, at + 2),
+            exclusive: read_field(area, at + 4),
+        }
+    }
+
+    fn write(self, area: &mut [u8], at: usize) {
+        write_field(area, at, self.start);
+        write_field(area, at + 2, self.end);
+        write_field(area, at + 4, self.exclusive);
     }
 }
 
-// ---- records, read
+impl Record for Rule {
+    ghost format = { rule_format };
+
+    ghost NAME = { Rules };
+
+    ghost WIDTH = { rule_width };
+
+    ghost MOST = { most_rules };
+
+    ghost sized = { rule_sized };
+
+    const NAME: AreaName = AreaName::Rules;
+
+    const WIDTH: usize = RULE_WIDTH;
+
+    const MOST: usize = MOST_RULES;
+
+    fn read(area: &[u8], k: usize) -> Rule {
+        let at = k * RULE_WIDTH;
+        Rule {
+            has_id: read_field(area, at),
+            id: read_field(area, at + 2),
+            named: read_field(area, at + 4),
+            span_start: read_field(area, at + 6),
+            span_end: read_field(area, at + 8),
+            name_from: read_field(area, at + 10),
+            name_length: read_field(area, at + 12),
+            place: read_field(area, at + 14),
+            text_from: read_field(area, at + 16),
+            text_length: read_field(area, at + 18),
+            list_from: read_field(area, at + 20),
+            list_count: read_field(area, at + 22),
+            operation: read_field(area, at + 24),
+            target: read_field(area, at + 26),
+        }
+    }
+
+    fn write(self, area: &mut [u8], at: usize) {
+        write_four(area, at, self.has_id, self.id, self.named, self.span_start);
+        write_four(
+            area,
+            at + 8,
+            self.span_end,
+            self.name_from,
+            self.name_length,
+            self.place,
+        );
+        write_four(
+            area,
+            at + 16,
+            self.text_from,
+            self.text_length,
+            self.list_from,
+            self.list_count,
+        );
+        write_field(area, at + 24, self.operation);
+        write_field(area, at + 26, self.target);
+    }
+}
+
+// A list entry: the id of a state.
+impl Record for u16 {
+    ghost format = { entry_format };
+
+    ghost NAME = { Entries };
+
+    ghost WIDTH = { entry_width };
+
+    ghost MOST = { most_others };
+
+    ghost sized = { entry_sized };
+
+    const NAME: AreaName = AreaName::Entries;
+
+    const WIDTH: usize = ENTRY_WIDTH;
+
+    const MOST: usize = MOST_OTHERS;
+
+    fn read(area: &[u8], k: usize) -> u16 {
+        read_field(area, k * ENTRY_WIDTH)
+    }
+
+    fn write(self, area: &mut [u8], at: usize) {
+        write_field(area, at, self);
+    }
+}
+
+impl Record for Expected {
+    ghost format = { expected_format };
+
+    ghost NAME = { Expected };
+
+    ghost WIDTH = { expected_width };
+
+    ghost MOST = { most_others };
+
+    ghost sized = { expected_sized };
+
+    const NAME: AreaName = AreaName::Expected;
+
+    const WIDTH: usize = EXPECTED_WIDTH;
+
+    const MOST: usize = MOST_OTHERS;
+
+    fn read(area: &[u8], k: usize) -> Expected {
+        let at = k * EXPECTED_WIDTH;
+        Expected {
+            start: read_field(area, at),
+            end: read_field(area, at + 2),
+        }
+    }
+
+    fn write(self, area: &mut [u8], at: usize) {
+        write_field(area, at, self.start);
+        write_field(area, at + 2, self.end);
+    }
+}
+
+impl Record for Fault {
+    ghost format = { fault_format };
+
+    ghost NAME = { Faults };
+
+    ghost WIDTH = { fault_width };
+
+    ghost MOST = { most_others };
+
+    ghost sized = { fault_sized };
+
+    const NAME: AreaName = AreaName::Faults;
+
+    const WIDTH: usize = FAULT_WIDTH;
+
+    const MOST: usize = MOST_OTHERS;
+
+    fn read(area: &[u8], k: usize) -> Fault {
+        let at = k * FAULT_WIDTH;
+        Fault {
+            number: read_field(area, at),
+            kind: read_field(area, at + 2),
+            start: read_field(area, at + 4),
+            end: read_field(area, at + 6),
+        }
+    }
+
+    fn write(self, area: &mut [u8], at: usize) {
+        write_four(area, at, self.number, self.kind, self.start, self.end);
+    }
+}
+
+// Record k of an area.
+pub fn read<R: Record>(area: &[u8], k: usize) -> R
+    requires { k * R.format.width + R.format.width ≤ length area.now }
+    ensures { result ≡ R.format.read area.now k }
+{
+    R::read(area, k)
+}
 
 pub fn read_state(area: &[u8], k: usize) -> State
     requires { k * state_width + state_width ≤ length area.now }
     ensures { result ≡ state_at area.now k }
 {
-    let at = k * STATE_WIDTH;
-    State {
-        start: read_field(area, at),
-        end: read_field(area, at + 2),
-        exclusive: read_field(area, at + 4),
-    }
+    read(area, k)
 }
 
 pub fn read_rule(area: &[u8], k: usize) -> Rule
     requires { k * rule_width + rule_width ≤ length area.now }
     ensures { result ≡ rule_at area.now k }
 {
-    let at = k * RULE_WIDTH;
-    let a = read_four(area, at);
-    let b = read_four(area, at + 8);
-    let c = read_four(area, at + 16);
-    let operation = read_field(area, at + 24);
-    let target = read_field(area, at + 26);
-    Rule {
-        has_id: a.first,
-        id: a.second,
-        named: a.third,
-        span_start: a.fourth,
-        span_end: b.first,
-        name_from: b.second,
-        name_length: b.third,
-        place: b.fourth,
-        text_from: c.first,
-        text_length: c.second,
-        list_from: c.third,
-        list_count: c.fourth,
-        operation: operation,
-        target: target,
-    }
+    read(area, k)
 }
 
 pub fn read_entry(area: &[u8], k: usize) -> u16
     requires { k * entry_width + entry_width ≤ length area.now }
     ensures { result ≡ entry_at area.now k }
 {
-    read_field(area, k * ENTRY_WIDTH)
+    read(area, k)
 }
 
 pub fn read_expected(area: &[u8], k: usize) -> Expected
     requires { k * expected_width + expected_width ≤ length area.now }
     ensures { result ≡ expected_at area.now k }
 {
-    let at = k * EXPECTED_WIDTH;
-    Expected {
-        start: read_field(area, at),
-        end: read_field(area, at + 2),
-    }
+    read(area, k)
 }
 
 pub fn read_fault(area: &[u8], k: usize) -> Fault
     requires { k * fault_width + fault_width ≤ length area.now }
     ensures { result ≡ fault_at area.now k }
 {
-    let x = read_four(area, k * FAULT_WIDTH);
-    Fault {
-        number: x.first,
-        kind: x.second,
-        start: x.third,
-        end: x.fourth,
-    }
-}
-
-// ---- records, written
-
-fn write_state(area: &mut [u8], at: usize, x: State)
-    requires { at + state_width ≤ length area.old }
-    ensures { area.new ≡ sets area.old at (state_bytes x) }
-{
-    write_field(area, at, x.start);
-    write_field(area, at + 2, x.end);
-    write_field(area, at + 4, x.exclusive);
-}
-
-fn write_rule(area: &mut [u8], at: usize, x: Rule)
-    requires { at + rule_width ≤ length area.old }
-    ensures { area.new ≡ sets area.old at (rule_bytes x) }
-{
-    write_four(area, at, x.has_id, x.id, x.named, x.span_start);
-    write_four(
-        area,
-        at + 8,
-        x.span_end,
-        x.name_from,
-        x.name_length,
-        x.place,
-    );
-    write_four(
-        area,
-        at + 16,
-        x.text_from,
-        x.text_length,
-        x.list_from,
-        x.list_count,
-    );
-    write_field(area, at + 24, x.operation);
-    write_field(area, at + 26, x.target);
-}
-
-fn write_expected(area: &mut [u8], at: usize, x: Expected)
-    requires { at + expected_width ≤ length area.old }
-    ensures { area.new ≡ sets area.old at (expected_bytes x) }
-{
-    write_field(area, at, x.start);
-    write_field(area, at + 2, x.end);
-}
-
-fn write_fault(area: &mut [u8], at: usize, x: Fault)
-    requires { at + fault_width ≤ length area.old }
-    ensures { area.new ≡ sets area.old at (fault_bytes x) }
-{
-    write_four(area, at, x.number, x.kind, x.start, x.end);
+    read(area, k)
 }
 
 // ---- records, appended
@@ -276,73 +421,50 @@ pub fn has_room(length: usize, width: usize, limit: usize, n: usize, m: usize) -
     (n + m) * width <= length
 }
 
-pub fn push_state(area: &mut [u8], n: u16, x: State) -> Appended
-    ensures { Pushed state_width most_states 1 (state_bytes x) area.old n result area.new }
+// A record behind n others.
+pub fn push<R: Record>(area: &mut [u8], n: u16, x: R) -> Appended
+    ensures { Pushed R.format.width R.format.most 1 (R.format.write x) area.old n result area.new }
 {
     let count = n as usize;
-    if has_room(area.len(), STATE_WIDTH, MOST_STATES, count, 1) {
-        write_state(area, count * STATE_WIDTH, x);
+    let width = R::WIDTH;
+    if has_room(area.len(), width, R::MOST, count, 1) {
+        x.write(area, count * width);
         return Appended::Next(n + 1);
     }
     Appended::Full
+}
+
+pub fn push_state(area: &mut [u8], n: u16, x: State) -> Appended
+    ensures { Pushed state_width most_states 1 (state_bytes x) area.old n result area.new }
+{
+    push(area, n, x)
 }
 
 pub fn push_rule(area: &mut [u8], n: u16, x: Rule) -> Appended
     ensures { Pushed rule_width most_rules 1 (rule_bytes x) area.old n result area.new }
 {
-    let count = n as usize;
-    if has_room(area.len(), RULE_WIDTH, MOST_RULES, count, 1) {
-        write_rule(area, count * RULE_WIDTH, x);
-        return Appended::Next(n + 1);
-    }
-    Appended::Full
+    push(area, n, x)
 }
 
 pub fn push_entry(area: &mut [u8], n: u16, id: u16) -> Appended
     ensures { Pushed entry_width most_others 1 (entry_bytes id) area.old n result area.new }
 {
-    let count = n as usize;
-    if has_room(area.len(), ENTRY_WIDTH, MOST_OTHERS, count, 1) {
-        write_field(area, count * ENTRY_WIDTH, id);
-        return Appended::Next(n + 1);
-    }
-    Appended::Full
+    push(area, n, id)
 }
 
 pub fn push_expected(area: &mut [u8], n: u16, x: Expected) -> Appended
     ensures { Pushed expected_width most_others 1 (expected_bytes x) area.old n result area.new }
 {
-    let count = n as usize;
-    if has_room(area.len(), EXPECTED_WIDTH, MOST_OTHERS, count, 1) {
-        write_expected(area, count * EXPECTED_WIDTH, x);
-        return Appended::Next(n + 1);
-    }
-    Appended::Full
+    push(area, n, x)
 }
 
 pub fn push_fault(area: &mut [u8], n: u16, x: Fault) -> Appended
     ensures { Pushed fault_width most_others 1 (fault_bytes x) area.old n result area.new }
 {
-    let count = n as usize;
-    if has_room(area.len(), FAULT_WIDTH, MOST_OTHERS, count, 1) {
-        write_fault(area, count * FAULT_WIDTH, x);
-        return Appended::Next(n + 1);
-    }
-    Appended::Full
+    push(area, n, x)
 }
 
 // ---- text, appended
-
-fn copy(area: &mut [u8], at: usize, text: &[u8])
-    requires { at + length text.now ≤ length area.old }
-    ensures { area.new ≡ sets area.old at text.now }
-{
-    let mut i = 0;
-    while i < text.len() {
-        area[at + i] = text[i];
-        i += 1;
-    }
-}
 
 // The bytes of the source from a place up to another, behind n bytes: all of them or none.
 pub fn push_text(area: &mut [u8], n: u16, source: &[u8], from: usize, to: usize) -> Appended
@@ -352,7 +474,7 @@ pub fn push_text(area: &mut [u8], n: u16, source: &[u8], from: usize, to: usize)
     let count = n as usize;
     let more = to - from;
     if has_room(area.len(), 1, MOST_OTHERS, count, more) {
-        copy(area, count, &source[from..to]);
+        area[count..count + more].copy_from_slice(&source[from..to]);
         return Appended::Next((count + more) as u16);
     }
     Appended::Full
@@ -363,47 +485,40 @@ pub fn push_text(area: &mut [u8], n: u16, source: &[u8], from: usize, to: usize)
 pub fn zero_from(area: &mut [u8], at: usize)
     ensures { area.new ≡ take at area.old ++ zeros (length area.old - at) }
 {
-    let mut i = at;
-    while i < area.len() {
-        area[i] = 0;
-        i += 1;
+    if at < area.len() {
+        area[at..].fill(0);
     }
 }
 
 pub fn clear(area: &mut [u8])
     ensures { area.new ≡ zeros (length area.old) }
 {
-    zero_from(area, 0);
+    area.fill(0);
 }
 
-// ---- a fault, inserted
-
-// The first m bytes go up by one record, the last of them first, so that none is written over before it is read.
-fn shift_up(tail: &mut [u8], m: usize)
-    requires { m + fault_width ≤ length tail.old }
-    ensures { tail.new ≡ move_up fault_width m (take fault_width tail.old) tail.old }
-{
-    let mut k = m;
-    while k > 0 {
-        k -= 1;
-        tail[k + FAULT_WIDTH] = tail[k];
-    }
-}
+// ---- a record, inserted
 
 // A record before the first m bytes, which move up.
-fn insert_front(tail: &mut [u8], m: usize, x: Fault)
-    requires { m + fault_width ≤ length tail.old }
-    ensures { tail.new ≡ move_up fault_width m (fault_bytes x) tail.old }
+fn insert_front<R: Record>(tail: &mut [u8], m: usize, x: R)
+    requires { m + R.format.width ≤ length tail.old }
+    ensures { tail.new ≡ move_up R.format.width m (R.format.write x) tail.old }
 {
-    shift_up(tail, m);
-    write_fault(tail, 0, x);
+    tail.copy_within(0..m, R::WIDTH);
+    x.write(tail, 0);
 }
 
 // A record at the place p of n: the tail from there on is lent, and its records move up.
+pub fn insert<R: Record>(area: &mut [u8], p: usize, n: usize, x: R)
+    requires { (p ≤ n) × (n * R.format.width + R.format.width ≤ length area.old) }
+    ensures { area.new ≡ inserted R.format.width p n (R.format.write x) area.old }
+{
+    let width = R::WIDTH;
+    insert_front(&mut area[p * width..], (n - p) * width, x);
+}
+
 pub fn insert_fault(area: &mut [u8], p: usize, n: usize, x: Fault)
     requires { (p ≤ n) × (n * fault_width + fault_width ≤ length area.old) }
     ensures { area.new ≡ inserted fault_width p n (fault_bytes x) area.old }
 {
-    let at = p * FAULT_WIDTH;
-    insert_front(&mut area[at..], (n - p) * FAULT_WIDTH, x);
+    insert(area, p, n, x);
 }

@@ -1,5 +1,5 @@
 -- Characters at an offset: a law for each branch of `char_of`, and that a character ends within the text.
-use mathlib.Core.Path.{◌≡◌, ap, ◌∙◌}
+use mathlib.Core.Path.{◌≡◌, ◌∙◌}
 use mathlib.Core.Bool.{true, false}
 use mathlib.Core.List.{List}
 use mathlib.Core.Logic.{⊎_elim}
@@ -7,12 +7,10 @@ use Prim.Native.Nat.{ℕ, ◌+◌, ◌-◌, ◌≤◌, ◌<◌}
 use native.Mathlib.Omega.{arith}
 use borrow.Author.Rules.{rules}
 use borrow.Author.Tests.{lt-ltb, le-ltb, le-leb, lt-leb}
-use lib.Dec.{eqb}
 use lib.ListN.{length}
 use Rattle.characters.specs.Whitespace.{byte, Width}
-use Rattle.characters.specs.Utf8.{two_bytes, three_bytes, four_bytes, char_of, char_at, char_len, skip_chars, utf8}
+use Rattle.characters.specs.Utf8.{two_bytes, three_bytes, four_bytes, char_of, char_at, char_len}
 use Rattle.characters.proofs.Tests.{le_or_lt, answer}
-use Rattle.characters.proofs.Walks.{skip_ended, skip_again}
 
 module _ (a b c d : ℕ) where
   pub char_one : a < 0x80 → 1 ≡ char_of a b c d
@@ -60,14 +58,3 @@ module _ (s : List ℕ) (k n a b c d : ℕ) (e : n ≡ char_of a b c d) (ea : a 
   char_cut_width h g = record { is = char_cut s k (omega (arith, at_k)); fits = omega arith }
 
 pub ruleset measuring_chars = (rules, answer, char_one, char_two, char_three, char_four, char_none, char_width, char_cut_width)
-
--- the loop stands at k, where a character of n bytes stands
-module _ (s : List ℕ) (k n : ℕ) (before : skip_chars s 0 ≡ skip_chars s k) (is : n ≡ char_len s k) where
-  pub utf8_ended : n ≡ 0 → eqb k (length s) ≡ utf8 s
-  unfolding utf8
-  utf8_ended z = ap (λ (e : ℕ). eqb e (length s)) (skip_ended (char_len s) (length s) (char_inside s) 0 k n before is z)
-
-  pub utf8_again : (n ≡ 0 → ⊥) → skip_chars s 0 ≡ skip_chars s (k + n)
-  utf8_again d = skip_again (char_len s) (length s) (char_inside s) 0 k n before is d
-
-pub ruleset walking = (rules, utf8_ended, utf8_again)

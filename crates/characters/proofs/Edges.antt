@@ -1,13 +1,12 @@
 -- Where characters start in a text of code points: at the edges, and nowhere else. The first byte of a character is not from 80 to BF, the bytes
 -- inside it are; so on well-formed text an edge is where no byte of 80 to BF stands.
 use mathlib.Core.Path.{◌≡◌, refl, sym, ap, subst, ◌∙◌}
-use mathlib.Core.Bool.{Bool, true, false, not, ◌&&◌, true≢false}
+use mathlib.Core.Bool.{true, false, not, true≢false}
 use mathlib.Core.List.{List, [], ◌∷◌, ◌++◌, append_assoc, append-nil}
 use mathlib.Core.Logic.{◌⊎◌, inl, inr}
 use Prim.Native.Nat.{ℕ, ◌+◌, ◌-◌, ◌/◌, ◌≤◌, ◌<◌}
 use native.Mathlib.Nat.{le_refl, eq-or-lt_of_le}
 use native.Mathlib.Omega.{arith}
-use borrow.Author.Rules.{rules}
 use borrow.Author.Tests.{le-leb, lt-leb, leb-true}
 use lib.Dec.{leb}
 use lib.ListN.{length, length-append, get_or-eq_default}
@@ -102,9 +101,3 @@ module _ (cs : List ℕ) (b : ℕ) where
 
   pub edge_judges : JudgesEdge cs b (is_edge (encode_all cs) b)
   edge_judges = record { sound = edge_is; complete = edge_passes }
-
--- the test on a byte that was read
-pub edge_tested : (s : List ℕ) (b x : ℕ) (t : Bool) → x ≡ byte s b → t ≡ is_continuation x → leb b (length s) && not t ≡ is_edge s b
-edge_tested s b x t e q = ap (λ (u : Bool). leb b (length s) && not u) (q ∙ ap is_continuation e)
-
-pub ruleset testing_edges = (rules, edge_tested)

@@ -7,26 +7,25 @@ use Prim.Native.Nat.{ℕ, zero, suc, ◌+◌, ◌-◌, ◌≤◌, ◌<◌}
 use native.Mathlib.Nat.{add-zero, eq-or-lt_of_le}
 use native.Mathlib.Omega.{arith}
 use Rattle.characters.specs.Walk.{last_of, last}
-use Rattle.characters.specs.declared.Found.{Found}
-use Rattle.characters.specs.declared.Found.TheVariants.{At, Nothing}
+use Rattle.std.specs.Prelude.{Option, Some, None}
 
 -- one of the positions from i to before e passes, and f is the last that does
-pub record LastAt (test : ℕ → Bool) (i e : ℕ) (f : Found) : Type 0 where
+pub record LastAt (test : ℕ → Bool) (i e : ℕ) (f : Option ℕ) : Type 0 where
   pub place : ℕ
-  pub is : f ≡ At place
+  pub is : f ≡ Some place
   pub from : i ≤ place
   pub to : place < e
   pub passes : test place ≡ true
 
 -- none of them passes
-pub record LastNone (test : ℕ → Bool) (i e : ℕ) (f : Found) : Type 0 where
-  pub is : f ≡ Nothing
+pub record LastNone (test : ℕ → Bool) (i e : ℕ) (f : Option ℕ) : Type 0 where
+  pub is : f ≡ None
   pub fails : (m : ℕ) → i ≤ m → m < e → test m ≡ false
 
 -- what is found, or else what was found before
-abbrev pub or_else : Found → Found → Found
-or_else (At k) g = At k
-or_else Nothing g = g
+abbrev pub or_else : Option ℕ → Option ℕ → Option ℕ
+or_else (Some k) g = Some k
+or_else None g = g
 
 module _ (test : ℕ → Bool) where
   of_is : (n i : ℕ) → LastAt test i (i + n) (last_of test i n) ⊎ LastNone test i (i + n) (last_of test i n)
@@ -38,7 +37,7 @@ module _ (test : ℕ → Bool) where
           (t : Bool)
           → test (i + n) ≡ t
           → LastAt test i (i + n) (last_of test i n) ⊎ LastNone test i (i + n) (last_of test i n)
-          → LastAt test i (i + suc n) (cond t (At (i + n)) (last_of test i n)) ⊎ LastNone test i (i + suc n) (cond t (At (i + n)) (last_of test i n))
+          → LastAt test i (i + suc n) (cond t (Some (i + n)) (last_of test i n)) ⊎ LastNone test i (i + suc n) (cond t (Some (i + n)) (last_of test i n))
       go true e r = inl (record { place = i + n; is = refl; from = omega arith; to = omega arith; passes = e })
       go false e (inl r) = inl (record { place = r.place; is = r.is; from = r.from; to = omega (arith, r.to); passes = r.passes })
       go false e (inr r) =
@@ -66,12 +65,12 @@ module _ (test : ℕ → Bool) where
   of_split i n (suc m) =
       let p : n + suc m ≡ suc (n + m) = omega arith in
       let q : i + (n + m) ≡ i + n + m = omega arith in
-      ap (last_of test i) p ∙ ap (λ (x : ℕ). cond (test x) (At x) (last_of test i (n + m))) q ∙ go (test (i + n + m)) (of_split i n m)
+      ap (last_of test i) p ∙ ap (λ (x : ℕ). cond (test x) (Some x) (last_of test i (n + m))) q ∙ go (test (i + n + m)) (of_split i n m)
     where
       go :
           (t : Bool)
           → last_of test i (n + m) ≡ or_else (last_of test (i + n) m) (last_of test i n)
-          → cond t (At (i + n + m)) (last_of test i (n + m)) ≡ or_else (cond t (At (i + n + m)) (last_of test (i + n) m)) (last_of test i n)
+          → cond t (Some (i + n + m)) (last_of test i (n + m)) ≡ or_else (cond t (Some (i + n + m)) (last_of test (i + n) m)) (last_of test i n)
       go true r = refl
       go false r = r
 

@@ -1,5 +1,6 @@
 pub mod Tests
 pub mod Walks
+pub mod Asking
 pub mod Firsts
 pub mod Table
 pub mod Shortcuts

@@ -1,13 +1,12 @@
 -- Positions that are looked at together: what a test rules out of all of them. So a text of ASCII bytes is well formed.
 use mathlib.Core.Path.{◌≡◌, refl, sym, ap, ◌∙◌}
-use mathlib.Core.Bool.{Bool, true, false, not, ◌||◌, true≢false, false≢true}
+use mathlib.Core.Bool.{Bool, true, false, not, ◌||◌, true≢false}
 use mathlib.Core.List.{List}
 use mathlib.Core.Logic.{⊎_elim}
 use Prim.Native.Nat.{ℕ, zero, suc, ◌+◌, ◌-◌, ◌≤◌, ◌<◌}
 use native.Mathlib.Nat.{zero-add, eq-or-lt_of_le, le_of_suc-le-suc, eq-zero-or-pos}
 use native.Mathlib.Numerals.{add-one}
 use native.Mathlib.Omega.{arith}
-use borrow.Author.Rules.{rules}
 use borrow.Author.Tests.{eq-eqb, leb-false}
 use lib.Dec.{leb}
 use lib.ListN.{length}
@@ -16,9 +15,8 @@ use Rattle.characters.specs.Whitespace.{byte}
 use Rattle.characters.specs.Utf8.{char_len, skip_chars, utf8}
 use Rattle.characters.specs.Shortcuts.{RulesOut, Tells}
 use Rattle.characters.proofs.Tests.{or_none, not_true, le_or_lt}
-use Rattle.characters.proofs.Shortcuts.{told}
 use Rattle.characters.proofs.Walks.{skip_stays, skip_goes}
-use Rattle.characters.proofs.Chars.{char_one, char_fits, char_inside, walking}
+use Rattle.characters.proofs.Chars.{char_one, char_fits, char_inside}
 
 -- ---- all of the first n positions
 
@@ -34,6 +32,13 @@ module _ (test : ℕ → Bool) where
   unfolding any
   none_of zero f = refl
   none_of (suc n) f = rw (none_of n (λ m h. f m (omega arith)), f n (omega arith)) refl
+
+  pub some_passes : (n m : ℕ) → m < n → test m ≡ true → any test n ≡ true
+  some_passes n m h t = go (any test n) refl
+    where
+      go : (b : Bool) → any test n ≡ b → b ≡ true
+      go true e = refl
+      go false e = absurd (true≢false (sym t ∙ none_passes n m e h))
 
   pub none_ruled_out : RulesOut (any test 0) false
   unfolding any
@@ -101,19 +106,9 @@ module _ (s : List ℕ) (ascii : any (λ k. leb 0x80 (byte s (0 + k))) (length s
 pub ascii_tells : (s : List ℕ) (above : Bool) → RulesOut (any (λ m. leb 0x80 (byte s (0 + m))) (length s)) above → Tells (utf8 s) (not above)
 ascii_tells s above f = record { holds = λ t. ascii_well_formed s (f.none (not_true above t)) }
 
-pub rules_itself_out : (p : Bool) → RulesOut p p
-rules_itself_out p = record { none = λ e. e }
-
 pub answer_rules_out : (p r : Bool) → r ≡ p → RulesOut p r
 answer_rules_out p r e = record { none = λ f. sym e ∙ f }
 
--- a test that passes rules nothing out, and one that does not tells nothing
+-- a test that passes rules nothing out
 pub rules_out_nothing : (p : Bool) → RulesOut p true
 rules_out_nothing p = record { none = λ e. absurd (true≢false e) }
-
-pub tells_nothing : (p : Bool) → Tells p false
-tells_nothing p = record { holds = λ e. absurd (false≢true e) }
-
-pub ruleset looking_for_ascii = (rules, none_ruled_out, rules_out_again, rules_out_ended, rules_itself_out, ascii_tells)
-
-pub ruleset walking_by_characters = (walking, told)

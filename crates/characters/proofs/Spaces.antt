@@ -12,11 +12,9 @@ use borrow.Author.Tests.{ne_eqb, eqb-true, leb-false}
 use lib.Dec.{eqb, leb}
 use lib.ListN.{length}
 use Rattle.characters.specs.Class.{is_whitespace_byte, is_line_end, is_blank, is_other_whitespace}
-use Rattle.characters.specs.Walk.{skip}
 use Rattle.characters.specs.Shortcuts.{RulesOut, may_end_line, may_be_whitespace}
 use Rattle.characters.specs.Whitespace.{byte, is_next_line, is_mark, is_separator, whitespace_of, line_end_of, whitespace_len, line_end_len, at_line_end, Width}
 use Rattle.characters.proofs.Tests.{by_test, answer, and_left, and_false, or_true, or_none, not_true, answer_or}
-use Rattle.characters.proofs.Walks.{skip_ended, skip_again}
 
 -- ---- the branches
 
@@ -170,31 +168,6 @@ unfolding line_end_len
 end_may_start s i r f = record { none = λ e. rw (← end_ruled_out (byte s i) (byte s (i + 1)) (byte s (i + 2)) (f.none e)) refl }
 
 pub ruleset measuring = (rules, answer, answer_or, white_two, white_three, white_none, white_width, white_one_width, white_none_width, end_three, end_none, end_width, end_one_width, end_none_width)
-
--- ---- the loops that skip: the walk began at i and stands at k, where n bytes of whitespace, or of a line end, stand
-
-module _ (s : List ℕ) (i k n : ℕ) where
-  pub white_ended : skip (whitespace_len s) (length s) i ≡ skip (whitespace_len s) (length s) k → n ≡ whitespace_len s k → n ≡ 0 → k ≡ skip (whitespace_len s) (length s) i
-  white_ended = skip_ended (whitespace_len s) (length s) (white_inside s) i k n
-
-  pub white_again :
-      skip (whitespace_len s) (length s) i ≡ skip (whitespace_len s) (length s) k
-      → n ≡ whitespace_len s k
-      → (n ≡ 0 → ⊥)
-      → skip (whitespace_len s) (length s) i ≡ skip (whitespace_len s) (length s) (k + n)
-  white_again = skip_again (whitespace_len s) (length s) (white_inside s) i k n
-
-  pub end_ended : skip (line_end_len s) (length s) i ≡ skip (line_end_len s) (length s) k → n ≡ line_end_len s k → n ≡ 0 → k ≡ skip (line_end_len s) (length s) i
-  end_ended = skip_ended (line_end_len s) (length s) (end_inside s) i k n
-
-  pub end_again :
-      skip (line_end_len s) (length s) i ≡ skip (line_end_len s) (length s) k
-      → n ≡ line_end_len s k
-      → (n ≡ 0 → ⊥)
-      → skip (line_end_len s) (length s) i ≡ skip (line_end_len s) (length s) (k + n)
-  end_again = skip_again (line_end_len s) (length s) (end_inside s) i k n
-
-pub ruleset skipping = (rules, white_ended, white_again, end_ended, end_again)
 
 -- a byte from 80 to BF starts no whitespace character
 pub inner_none : (a b c : ℕ) → 0x80 ≤ a → a < 0xc0 → whitespace_of a b c ≡ 0

@@ -11,8 +11,7 @@ use borrow.Author.Rules.{rules}
 use borrow.Author.Tests.{eqb-true, eqb-false, eq-eqb, ne_eqb}
 use lib.Dec.{eqb}
 use Rattle.characters.specs.Walk.{first_of, first, last_of, last, repeat, skip}
-use Rattle.characters.specs.declared.Found.{Found}
-use Rattle.characters.specs.declared.Found.TheVariants.{At, Nothing}
+use Rattle.std.specs.Prelude.{Option, Some, None}
 use Rattle.characters.proofs.Tests.{answer, answer_not, answer_yes, answer_no, by_test}
 
 -- ---- the first position that passes
@@ -95,7 +94,7 @@ module _ (test : ℕ → Bool) (i e : ℕ) where
   place : i < e → i + (e - 1 - i) ≡ e - 1
   place h = omega arith
 
-  pub last_here : i < e → test (e - 1) ≡ true → At (e - 1) ≡ last test i e
+  pub last_here : i < e → test (e - 1) ≡ true → Some (e - 1) ≡ last test i e
   unfolding last
   last_here h t = rw (count_down h, place h, t)
 
@@ -103,7 +102,7 @@ module _ (test : ℕ → Bool) (i e : ℕ) where
   unfolding last
   last_next h t = rw (count_down h, place h, t)
 
-  pub last_none : e ≤ i → Nothing ≡ last test i e
+  pub last_none : e ≤ i → None ≡ last test i e
   unfolding last
   last_none h =
       let z : e - i ≡ 0 = omega arith in
@@ -111,13 +110,13 @@ module _ (test : ℕ → Bool) (i e : ℕ) where
 
 -- the loop came down from e and stands at k
 module _ (test : ℕ → Bool) (i k e : ℕ) (before : last test i e ≡ last test i k) where
-  pub last_found : i < k → test (k - 1) ≡ true → At (k - 1) ≡ last test i e
+  pub last_found : i < k → test (k - 1) ≡ true → Some (k - 1) ≡ last test i e
   last_found h t = last_here test i k h t ∙ sym before
 
   pub last_again : i < k → test (k - 1) ≡ false → last test i e ≡ last test i (k - 1)
   last_again h t = before ∙ last_next test i k h t
 
-  pub last_ended : k ≤ i → Nothing ≡ last test i e
+  pub last_ended : k ≤ i → None ≡ last test i e
   last_ended h = last_none test i k h ∙ sym before
 
 -- positions that all fail are passed over at once
@@ -134,9 +133,9 @@ module _ (test : ℕ → Bool) where
   last_over i j e h l f = down (e - j) i j e (omega arith) h f
 
 -- where a position passes, the last that does is not before it
-pub record Last (f : Found) (j e : ℕ) : Type 0 where
+pub record Last (f : Option ℕ) (j e : ℕ) : Type 0 where
   pub place : ℕ
-  pub is : f ≡ At place
+  pub is : f ≡ Some place
   pub from : j ≤ place
   pub to : place < e
 
@@ -151,7 +150,7 @@ last_of_passed test (suc n) i j h l t = go (test (i + n)) refl (λ g. last_of_pa
     earlier : test (i + n) ≡ false → j < i + n
     earlier e = ⊎_elim (λ q. absurd (true≢false (sym t ∙ ap test q ∙ e))) (λ g. g) (eq-or-lt_of_le at_most)
 
-    go : (b : Bool) → test (i + n) ≡ b → (j < i + n → Last (last_of test i n) j (i + n)) → Last (cond b (At (i + n)) (last_of test i n)) j (i + suc n)
+    go : (b : Bool) → test (i + n) ≡ b → (j < i + n → Last (last_of test i n) j (i + n)) → Last (cond b (Some (i + n)) (last_of test i n)) j (i + suc n)
     go true e before = record { place = i + n; is = refl; from = omega arith; to = omega arith }
     go false e before =
         let r = before (earlier e) in

@@ -1,7 +1,5 @@
 -- Walks over positions, of which every search in a text is an instance. A `let` keeps a walk from computing past its end.
-use Rattle.std.specs.Prelude.{◌≡◌, Bool, false, cond, ◌||◌, ℕ, zero, suc, ◌+◌, ◌-◌, ◌≤◌, eqb}
-use Rattle.characters.specs.declared.Found.{Found}
-use Rattle.characters.specs.declared.Found.TheVariants.{At, Nothing}
+use Rattle.std.specs.Prelude.{◌≡◌, Bool, true, false, cond, ◌||◌, ℕ, zero, suc, ◌+◌, ◌-◌, ◌≤◌, ◌<◌, eqb, Option, Some, None, MatchOption}
 
 -- of the n positions from i on, the first that passes the test; i + n where none does
 unfoldable pub first_of : (ℕ → Bool) → ℕ → ℕ → ℕ
@@ -14,12 +12,12 @@ unfolding first_of
 first test i e = first_of test i (e - i)
 
 -- of the n positions from i on, the last that passes the test
-unfoldable pub last_of : (ℕ → Bool) → ℕ → ℕ → Found
-last_of test i zero = Nothing
-last_of test i (suc n) = let r = last_of test i n in cond (test (i + n)) (At (i + n)) r
+unfoldable pub last_of : (ℕ → Bool) → ℕ → ℕ → Option ℕ
+last_of test i zero = None
+last_of test i (suc n) = let r = last_of test i n in cond (test (i + n)) (Some (i + n)) r
 
 -- the last position from i to before e that passes the test
-unfoldable pub last : (ℕ → Bool) → ℕ → ℕ → Found
+unfoldable pub last : (ℕ → Bool) → ℕ → ℕ → Option ℕ
 unfolding last_of
 last test i e = last_of test i (e - i)
 
@@ -56,3 +54,32 @@ pub record Between (i e n r : ℕ) : Type 0 where
   pub is : r ≡ n
   pub from : i ≤ r
   pub to : r ≤ e
+
+-- ---- what code that walks promises, of a test that may give the answers at a position
+
+-- r is the first position from i to before e where the answer is true, or e
+pub record Finds (answers : ℕ → Bool → Type 0) (i e r : ℕ) : Type 0 where
+  pub from : i ≤ r
+  pub to : r ≤ e
+  pub fails : (k : ℕ) → i ≤ k → k < r → answers k false
+  pub passes : r < e → answers r true
+
+-- q is the last position from i to before e where the answer is true
+pub record FoundLast (answers : ℕ → Bool → Type 0) (i e q : ℕ) : Type 0 where
+  pub from : i ≤ q
+  pub to : q < e
+  pub passes : answers q true
+  pub fails : (k : ℕ) → q < k → k < e → answers k false
+
+-- o is the last such position, and None where the answer is false at each
+pub record FindsLast (answers : ℕ → Bool → Type 0) (i e : ℕ) (o : Option ℕ) : Type 0 where
+  pub is : MatchOption o ((k : ℕ) → i ≤ k → k < e → answers k false) (FoundLast answers i e)
+
+-- found says whether the answer is true at one of the first n positions
+pub record Asks (answers : ℕ → Bool → Type 0) (n : ℕ) (found : Bool) : Type 0 where
+  pub none : found ≡ false → (j : ℕ) → j < n → answers j false
+  pub one : found ≡ true → (j : ℕ) × (j < n) × answers j true
+
+-- r is past the characters that follow one another from i on, of which the numbers are the widths: each ends by e
+pub record Skips (numbers : ℕ → ℕ → Type 0) (i e r : ℕ) : Type 0 where
+  pub rule : (width : ℕ → ℕ) → ((k : ℕ) → 0 < width k → k + width k ≤ e) → ((k n : ℕ) → k ≤ e → numbers k n → n ≡ width k) → Between i e (skip width e i) r

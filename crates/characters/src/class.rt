@@ -3,113 +3,281 @@ ghost use Rattle.std.specs.Prelude.{◌≡◌};
 ghost use Rattle.characters.specs.Class.{Classes, ClassTable, is_line_end, is_blank, is_letter, is_digit, is_hex_digit, is_always_kept, is_whitespace_byte, is_ascii_whitespace};
 ghost use Rattle.characters.specs.Shortcuts.{RulesOut, Tells, may_end_line, may_be_whitespace};
 
-// A mask for each byte: 1 line end, 2 blank, 4 other whitespace, 8 letter, 16 digit, 32 hex digit, 64 meta character,
-// 128 escape letter.
+// ---- the classes, a bit for each
+
+const LINE_END: u8 = 1;
+
+const BLANK: u8 = 2;
+
+const OTHER_WHITESPACE: u8 = 4;
+
+const LETTER: u8 = 8;
+
+const DIGIT: u8 = 16;
+
+const HEX_DIGIT: u8 = 32;
+
+const META_CHARACTER: u8 = 64;
+
+const ESCAPE_LETTER: u8 = 128;
+
+// The classes of each byte.
 pub const CLASS: [u8; 256] = [
-    0, 0, 0, 0, 0, 0, 0, 0, 0, 2, // tab
-    1, // line feed
-    1, // vertical tab
-    4, // form feed
-    1, // carriage return
-    0, 0, 0, 0, 0, 0, 0, 0, 0, 0, 0, 0, 0, 0, 0, 0, 0, 0, 2, // space
+    0,
+    0,
+    0,
+    0,
+    0,
+    0,
+    0,
+    0,
+    0,
+    BLANK, // tab
+    LINE_END, // line feed
+    LINE_END, // vertical tab
+    OTHER_WHITESPACE, // form feed
+    LINE_END, // carriage return
+    0,
+    0,
+    0,
+    0,
+    0,
+    0,
+    0,
+    0,
+    0,
+    0,
+    0,
+    0,
+    0,
+    0,
+    0,
+    0,
+    0,
+    0,
+    BLANK, // space
     0, // !
     0, // "
-    64, // #
-    64, // $
+    META_CHARACTER, // #
+    META_CHARACTER, // $
     0, // %
-    64, // &
+    META_CHARACTER, // &
     0, // '
-    64, // (
-    64, // )
-    64, // *
-    64, // +
+    META_CHARACTER, // (
+    META_CHARACTER, // )
+    META_CHARACTER, // *
+    META_CHARACTER, // +
     0, // ,
-    64, // -
-    64, // .
+    META_CHARACTER, // -
+    META_CHARACTER, // .
     0, // /
-    48, // 0
-    48, // 1
-    48, // 2
-    48, // 3
-    48, // 4
-    48, // 5
-    48, // 6
-    48, // 7
-    48, // 8
-    48, // 9
+    DIGIT | HEX_DIGIT, // 0
+    DIGIT | HEX_DIGIT, // 1
+    DIGIT | HEX_DIGIT, // 2
+    DIGIT | HEX_DIGIT, // 3
+    DIGIT | HEX_DIGIT, // 4
+    DIGIT | HEX_DIGIT, // 5
+    DIGIT | HEX_DIGIT, // 6
+    DIGIT | HEX_DIGIT, // 7
+    DIGIT | HEX_DIGIT, // 8
+    DIGIT | HEX_DIGIT, // 9
     0, // :
     0, // ;
     0, // <
     0, // =
     0, // >
-    64, // ?
+    META_CHARACTER, // ?
     0, // @
-    168, // A
-    40, // B
-    40, // C
-    168, // D
-    40, // E
-    40, // F
-    8, // G
-    8, // H
-    8, // I
-    8, // J
-    8, // K
-    8, // L
-    8, // M
-    8, // N
-    8, // O
-    136, // P
-    8, // Q
-    8, // R
-    136, // S
-    8, // T
-    8, // U
-    8, // V
-    136, // W
-    8, // X
-    8, // Y
-    8, // Z
-    64, // [
-    64, // \
-    64, // ]
-    64, // ^
+    LETTER | HEX_DIGIT | ESCAPE_LETTER, // A
+    LETTER | HEX_DIGIT, // B
+    LETTER | HEX_DIGIT, // C
+    LETTER | HEX_DIGIT | ESCAPE_LETTER, // D
+    LETTER | HEX_DIGIT, // E
+    LETTER | HEX_DIGIT, // F
+    LETTER, // G
+    LETTER, // H
+    LETTER, // I
+    LETTER, // J
+    LETTER, // K
+    LETTER, // L
+    LETTER, // M
+    LETTER, // N
+    LETTER, // O
+    LETTER | ESCAPE_LETTER, // P
+    LETTER, // Q
+    LETTER, // R
+    LETTER | ESCAPE_LETTER, // S
+    LETTER, // T
+    LETTER, // U
+    LETTER, // V
+    LETTER | ESCAPE_LETTER, // W
+    LETTER, // X
+    LETTER, // Y
+    LETTER, // Z
+    META_CHARACTER, // [
+    META_CHARACTER, // \
+    META_CHARACTER, // ]
+    META_CHARACTER, // ^
     0, // _
     0, // `
-    168, // a
-    40, // b
-    40, // c
-    168, // d
-    40, // e
-    168, // f
-    8, // g
-    8, // h
-    8, // i
-    8, // j
-    8, // k
-    8, // l
-    8, // m
-    136, // n
-    8, // o
-    136, // p
-    8, // q
-    136, // r
-    136, // s
-    136, // t
-    8, // u
-    136, // v
-    136, // w
-    8, // x
-    8, // y
-    136, // z
-    64, // {
-    64, // |
-    64, // }
-    64, // ~
-    0, 0, 0, 0, 0, 0, 0, 0, 0, 0, 0, 0, 0, 0, 0, 0, 0, 0, 0, 0, 0, 0, 0, 0, 0, 0, 0, 0, 0, 0, 0, 0,
-    0, 0, 0, 0, 0, 0, 0, 0, 0, 0, 0, 0, 0, 0, 0, 0, 0, 0, 0, 0, 0, 0, 0, 0, 0, 0, 0, 0, 0, 0, 0, 0,
-    0, 0, 0, 0, 0, 0, 0, 0, 0, 0, 0, 0, 0, 0, 0, 0, 0, 0, 0, 0, 0, 0, 0, 0, 0, 0, 0, 0, 0, 0, 0, 0,
-    0, 0, 0, 0, 0, 0, 0, 0, 0, 0, 0, 0, 0, 0, 0, 0, 0, 0, 0, 0, 0, 0, 0, 0, 0, 0, 0, 0, 0, 0, 0, 0,
+    LETTER | HEX_DIGIT | ESCAPE_LETTER, // a
+    LETTER | HEX_DIGIT, // b
+    LETTER | HEX_DIGIT, // c
+    LETTER | HEX_DIGIT | ESCAPE_LETTER, // d
+    LETTER | HEX_DIGIT, // e
+    LETTER | HEX_DIGIT | ESCAPE_LETTER, // f
+    LETTER, // g
+    LETTER, // h
+    LETTER, // i
+    LETTER, // j
+    LETTER, // k
+    LETTER, // l
+    LETTER, // m
+    LETTER | ESCAPE_LETTER, // n
+    LETTER, // o
+    LETTER | ESCAPE_LETTER, // p
+    LETTER, // q
+    LETTER | ESCAPE_LETTER, // r
+    LETTER | ESCAPE_LETTER, // s
+    LETTER | ESCAPE_LETTER, // t
+    LETTER, // u
+    LETTER | ESCAPE_LETTER, // v
+    LETTER | ESCAPE_LETTER, // w
+    LETTER, // x
+    LETTER, // y
+    LETTER | ESCAPE_LETTER, // z
+    META_CHARACTER, // {
+    META_CHARACTER, // |
+    META_CHARACTER, // }
+    META_CHARACTER, // ~
+    0, // delete; and no byte of 0x80 or more has a class
+    0,
+    0,
+    0,
+    0,
+    0,
+    0,
+    0,
+    0,
+    0,
+    0,
+    0,
+    0,
+    0,
+    0,
+    0,
+    0,
+    0,
+    0,
+    0,
+    0,
+    0,
+    0,
+    0,
+    0,
+    0,
+    0,
+    0,
+    0,
+    0,
+    0,
+    0,
+    0,
+    0,
+    0,
+    0,
+    0,
+    0,
+    0,
+    0,
+    0,
+    0,
+    0,
+    0,
+    0,
+    0,
+    0,
+    0,
+    0,
+    0,
+    0,
+    0,
+    0,
+    0,
+    0,
+    0,
+    0,
+    0,
+    0,
+    0,
+    0,
+    0,
+    0,
+    0,
+    0,
+    0,
+    0,
+    0,
+    0,
+    0,
+    0,
+    0,
+    0,
+    0,
+    0,
+    0,
+    0,
+    0,
+    0,
+    0,
+    0,
+    0,
+    0,
+    0,
+    0,
+    0,
+    0,
+    0,
+    0,
+    0,
+    0,
+    0,
+    0,
+    0,
+    0,
+    0,
+    0,
+    0,
+    0,
+    0,
+    0,
+    0,
+    0,
+    0,
+    0,
+    0,
+    0,
+    0,
+    0,
+    0,
+    0,
+    0,
+    0,
+    0,
+    0,
+    0,
+    0,
+    0,
+    0,
+    0,
+    0,
+    0,
+    0,
+    0,
+    0,
+    0,
+    0,
+    0,
     0,
 ];
 
@@ -177,7 +345,7 @@ pub fn is_line_end(b: u8) -> bool
     if !may_be_line_end(b) {
         return false;
     }
-    class(b) & 1 != 0
+    class(b) & LINE_END != 0
 }
 
 pub fn is_blank(b: u8) -> bool
@@ -189,25 +357,25 @@ pub fn is_blank(b: u8) -> bool
     if is_common_blank(b) {
         return true;
     }
-    class(b) & 2 != 0
+    class(b) & BLANK != 0
 }
 
 pub fn is_letter(b: u8) -> bool
     ensures { result ≡ is_letter b }
 {
-    class(b) & 8 != 0
+    class(b) & LETTER != 0
 }
 
 pub fn is_digit(b: u8) -> bool
     ensures { result ≡ is_digit b }
 {
-    class(b) & 16 != 0
+    class(b) & DIGIT != 0
 }
 
 pub fn is_hex_digit(b: u8) -> bool
     ensures { result ≡ is_hex_digit b }
 {
-    class(b) & 32 != 0
+    class(b) & HEX_DIGIT != 0
 }
 
 // Whether an escape of the byte stays whatever follows: one look for three classes. The table is lent, so that a loop over escapes lays it out
@@ -217,7 +385,7 @@ pub fn is_always_kept_in(classes: &[u8; 256], b: u8) -> bool
     ensures { result ≡ is_always_kept b }
 {
     let mask = classes[b as usize];
-    (mask & 64 != 0) | ((mask & 16 != 0) | (mask & 128 != 0))
+    (mask & META_CHARACTER != 0) | ((mask & DIGIT != 0) | (mask & ESCAPE_LETTER != 0))
 }
 
 // Whether a byte is a whitespace character by itself.
@@ -231,7 +399,7 @@ pub fn is_whitespace_byte(b: u8) -> bool
         return true;
     }
     let mask = class(b);
-    (mask & 1 != 0) | ((mask & 2 != 0) | (mask & 4 != 0))
+    (mask & LINE_END != 0) | ((mask & BLANK != 0) | (mask & OTHER_WHITESPACE != 0))
 }
 
 // What `split_ascii_whitespace` splits at: vertical tab is not in it.

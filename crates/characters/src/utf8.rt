@@ -1,11 +1,13 @@
 // Well-formed UTF-8: the rows of the Unicode standard's table 3-7, a walk from character to character, and two quick tests in front of it.
 ghost use Rattle.std.specs.Prelude.{◌≡◌, ◌+◌, ◌≤◌, leb, length};
+ghost use Rattle.characters.specs.Class.{within};
 ghost use Rattle.characters.specs.Walk.{any};
 ghost use Rattle.characters.specs.Shortcuts.{RulesOut, Tells, out_of_place, out_of_place_behind, starts_out_of_place, ends_out_of_place};
 ghost use Rattle.characters.specs.Whitespace.{Width, byte};
 ghost use Rattle.characters.specs.Utf8;
 ghost use Rattle.characters.specs.Utf8.{is_continuation, is_edge, two_bytes, three_bytes, four_bytes, char_of, char_len};
 
+use crate::walk::{any_of, skip};
 use crate::whitespace::byte_at;
 
 // How many positions are settled together.
@@ -14,10 +16,17 @@ const BLOCK: usize = 64;
 // The bytes that a block goes by, 67, and up to whole groups of 16.
 const BLOCK_BYTES: usize = 80;
 
+// Whether b is from lo to hi.
+fn within(lo: u8, hi: u8, b: u8) -> bool
+    ensures { result ≡ within lo hi b }
+{
+    (lo <= b) & (b <= hi)
+}
+
 pub fn is_continuation(b: u8) -> bool
     ensures { result ≡ is_continuation b }
 {
-    (0x80 <= b) & (b <= 0xbf)
+    within(0x80, 0xbf, b)
 }
 
 // Whether b is an edge of the text s: no character goes on there.
@@ -30,28 +39,26 @@ pub fn is_edge(s: &[u8], b: usize) -> bool
 fn two_bytes(a: u8, b: u8) -> bool
     ensures { result ≡ two_bytes a b }
 {
-    ((0xc2 <= a) & (a <= 0xdf)) & ((0x80 <= b) & (b <= 0xbf))
+    within(0xc2, 0xdf, a) & is_continuation(b)
 }
 
 fn three_bytes(a: u8, b: u8, c: u8) -> bool
     ensures { result ≡ three_bytes a b c }
 {
-    let tb = (0x80 <= b) & (b <= 0xbf);
-    let tc = (0x80 <= c) & (c <= 0xbf);
-    ((a == 0xe0) & (((0xa0 <= b) & (b <= 0xbf)) & tc))
-        | ((((0xe1 <= a) & (a <= 0xec)) & (tb & tc))
-            | (((a == 0xed) & (((0x80 <= b) & (b <= 0x9f)) & tc))
-                | (((0xee <= a) & (a <= 0xef)) & (tb & tc))))
+    let both = is_continuation(b) & is_continuation(c);
+    ((a == 0xe0) & (within(0xa0, 0xbf, b) & is_continuation(c)))
+        | ((within(0xe1, 0xec, a) & both)
+            | (((a == 0xed) & (within(0x80, 0x9f, b) & is_continuation(c)))
+                | (within(0xee, 0xef, a) & both)))
 }
 
 fn four_bytes(a: u8, b: u8, c: u8, d: u8) -> bool
     ensures { result ≡ four_bytes a b c d }
 {
-    let tb = (0x80 <= b) & (b <= 0xbf);
-    let tcd = ((0x80 <= c) & (c <= 0xbf)) & ((0x80 <= d) & (d <= 0xbf));
-    ((a == 0xf0) & (((0x90 <= b) & (b <= 0xbf)) & tcd))
-        | ((((0xf1 <= a) & (a <= 0xf3)) & (tb & tcd))
-            | ((a == 0xf4) & (((0x80 <= b) & (b <= 0x8f)) & tcd)))
+    let last = is_continuation(c) & is_continuation(d);
+    ((a == 0xf0) & (within(0x90, 0xbf, b) & last))
+        | ((within(0xf1, 0xf3, a) & (is_continuation(b) & last))
+            | ((a == 0xf4) & (within(0x80, 0x8f, b) & last)))
 }
 
 // Of the bytes a b c d, how many make a character, or 0.
@@ -95,13 +102,7 @@ fn has_above_ascii(s: &[u8], k: usize, n: usize) -> bool
     requires { k + n ≤ length s.now }
     ensures { RulesOut (any (λ j. leb 0x80 (byte s.now (k + j))) n) result }
 {
-    let mut found = false;
-    let mut j = 0;
-    while j < n {
-        found = found | (0x80 <= s[k + j]);
-        j += 1;
-    }
-    found
+    any_of(n, |j| 0x80 <= s[k + j])
 }
 
 // Whether every byte is ASCII, and so a character by itself.
@@ -116,11 +117,11 @@ fn is_out_of_place(a: u8, b: u8, c: u8, d: u8) -> bool
     ensures { result ≡ out_of_place a b c d }
 {
     let goes_on = (0xc0 <= c) | ((0xe0 <= b) | (0xf0 <= a));
-    let inside = (0x80 <= d) & (d <= 0xbf);
-    let below_a0 = (0x80 <= d) & (d <= 0x9f);
-    let below_90 = (0x80 <= d) & (d <= 0x8f);
+    let inside = is_continuation(d);
+    let below_a0 = within(0x80, 0x9f, d);
+    let below_90 = within(0x80, 0x8f, d);
     ((goes_on & !inside) | (!goes_on & inside))
-        | ((((0xc0 <= d) & (d <= 0xc1)) | (0xf5 <= d))
+        | ((within(0xc0, 0xc1, d) | (0xf5 <= d))
             | ((((c == 0xe0) & below_a0) | ((c == 0xed) & !below_a0))
                 | (((c == 0xf0) & below_90) | ((c == 0xf4) & !below_90))))
 }
@@ -144,14 +145,10 @@ fn has_out_of_place(s: &[u8], k: usize, n: usize) -> bool
     requires { k + n + 3 ≤ length s.now }
     ensures { RulesOut (any (λ j. out_of_place_behind s.now (k + j)) n) result }
 {
-    let mut found = false;
-    let mut j = 0;
-    while j < n {
+    any_of(n, |j| {
         let i = k + j;
-        found = found | is_out_of_place(s[i], s[i + 1], s[i + 2], s[i + 3]);
-        j += 1;
-    }
-    found
+        is_out_of_place(s[i], s[i + 1], s[i + 2], s[i + 3])
+    })
 }
 
 // The same of a block, which is settled where the bytes that it goes by are ASCII.
@@ -203,12 +200,5 @@ pub fn utf8(s: &[u8]) -> bool
     if is_in_place(s) {
         return true;
     }
-    let mut k = 0;
-    loop {
-        let n = char_len(s, k);
-        if n == 0 {
-            return k == s.len();
-        }
-        k += n;
-    }
+    skip(0, s.len(), |k| char_len(s, k)) == s.len()
 }

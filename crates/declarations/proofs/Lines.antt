@@ -13,8 +13,7 @@ use Rattle.characters.specs.Walk.{Between}
 use Rattle.characters.specs.Whitespace.{whitespace_len, at_whitespace}
 use Rattle.text.specs.Range.{lookahead_is}
 use Rattle.text.specs.Scan.{line_end, skip_blanks, find_whitespace, trim_end, trim_start}
-use Rattle.characters.specs.declared.Found.{Found}
-use Rattle.characters.specs.declared.Found.TheVariants.{At, Nothing}
+use Rattle.std.specs.Prelude.{Option, Some, None}
 use Rattle.characters.proofs.Tests.{by_test}
 use Rattle.characters.proofs.Walks.{first_to}
 use Rattle.characters.proofs.Spaces.{end_none_of_white}
@@ -29,7 +28,7 @@ use Rattle.section.specs.Request.{Options}
 use Rattle.section.specs.Section.{percents, to_declaration, in_section}
 use Rattle.section.specs.Reader.{NextLine}
 use Rattle.section.specs.declared.reader.Line.{Line}
-use Rattle.section.proofs.Lines.{ahead_within, in_section_inside, declaration_starts, line_has_byte}
+use Rattle.section.proofs.Lines.{ahead_within, percents_end, in_section_inside, declaration_starts, line_has_byte}
 use Rattle.declarations.specs.declared.Declaration.{Declaration}
 use Rattle.declarations.specs.declared.Declaration.TheVariants.{States, Expecting, Unknown}
 use Rattle.declarations.specs.declared.NameCounts.{NameCounts}
@@ -281,18 +280,18 @@ module _ (s : List ℕ) (options : Options) (k : Caps) (i₀ : ℕ) (d₀ : Decl
   abbrev Ended : List ℕ → List ℕ → List ℕ → Out DeclarationCounts → Type 0
   Ended v1 v5 v6 o = Does (HeldDeclared v1 v5 v6) (declarations s options k i₀) d₀ (declared_in v1 v5 v6) o
 
-  module _ (stop : t ≡ false) (f : Found) (ahead : f ≡ lookahead_is s percents here.start) where
+  module _ (stop : t ≡ false) (f : Option ℕ) (ahead : f ≡ lookahead_is s percents here.start) where
     at_end : declarations s options k i₀ d₀ ≡ end_declarations s here.start (declared_in l1 l5 l6 q)
     unfolding declarations
     at_end = ap (λ (o : Out Declared). next o (end_declarations s)) (loops_stop x.loops (sym tested ∙ stop))
 
-    pub section_ends : (j m : ℕ) → f ≡ At j → Between j (length s) (skip_blanks s j) m → Ended l1 l5 l6 (go m q)
+    pub section_ends : (j m : ℕ) → f ≡ Some j → Between j (length s) (skip_blanks s j) m → Ended l1 l5 l6 (go m q)
     unfolding end_declarations
     section_ends j m z b =
         let w = ahead_within s percents here.start j (sym ahead ∙ z) in
         does_go (at_end ∙ rw (← ahead, z, w.0, ← b.is)) x.held
 
-    pub section_cut : f ≡ Nothing → Ended l1 l5 l6 (bad PrematureEnd here.start q)
+    pub section_cut : f ≡ None → Ended l1 l5 l6 (bad PrematureEnd here.start q)
     unfolding end_declarations
     section_cut z = does_bad (at_end ∙ rw (← ahead, z)) x.held
 
@@ -309,7 +308,4 @@ module _ (s : List ℕ) (options : Options) (k : Caps) (i₀ : ℕ) (d₀ : Decl
     unfolding declarations
     section_full n z = does_full (ap (λ (o : Out Declared). next o (end_declarations s)) (whole_full x t tested pass r d n z))
 
-pub percents_inside : (s : List ℕ) (i : ℕ) (f : Found) → f ≡ lookahead_is s percents i → i ≤ length s → (j : ℕ) → f ≡ At j → j ≤ length s
-percents_inside s i f ahead l j z = omega (arith, ahead_within s percents i j (sym ahead ∙ z))
-
-pub ruleset sectioning = (rules, sections_start, sections_less, sections_next, section_ends, section_cut, percents_inside, section_bad, section_full)
+pub ruleset sectioning = (rules, sections_start, sections_less, sections_next, section_ends, section_cut, percents_end, section_bad, section_full)

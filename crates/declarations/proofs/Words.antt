@@ -12,10 +12,9 @@ use Rattle.characters.specs.Walk.{Between}
 use Rattle.characters.specs.Whitespace.{byte}
 use Rattle.text.specs.Range.{lookahead_is}
 use Rattle.text.specs.Scan.{find_whitespace, trim_end, trim_start}
-use Rattle.characters.specs.declared.Found.{Found}
+use Rattle.std.specs.Prelude.{Option, is_some}
 use Rattle.characters.proofs.Tests.{answer_not, and_false}
 use Rattle.characters.proofs.Walks.{first_again, first_none}
-use Rattle.section.specs.Section.{found}
 use Rattle.names.specs.Names.{all_bytes}
 use Rattle.names.proofs.Forms.{bytes_fail, bytes_pass}
 use Rattle.declarations.specs.declared.Declaration.{Declaration}
@@ -93,7 +92,7 @@ module _ (s : List ℕ) (i e w r : ℕ) (p : Bool) (inclusive : p ≡ declares 0
     unfolding declaration_by is_inclusive is_exclusive
     by_exclusive d q z = rw (← inclusive, no, ← exclusive, q) z
 
-    module _ (no-x : x ≡ false) (f : Found) (z : Bool) (ahead : f ≡ lookahead_is s expect_missing i) (is : z ≡ found f) where
+    module _ (no-x : x ≡ false) (f : Option ℕ) (z : Bool) (ahead : f ≡ lookahead_is s expect_missing i) (is : z ≡ is_some f) where
       pub by_expecting : z ≡ true → Says (Expecting r)
       unfolding declaration_by is_inclusive is_exclusive is_expecting
       by_expecting q = rw (← inclusive, no, ← exclusive, no-x, ← ahead, ← is, q)

@@ -1,6 +1,6 @@
 -- The declarations section (01, Declarations). What is read comes first, by definitions over the source and the states; then what is
 -- written of it.
-use Rattle.std.specs.Prelude.{ℕ, ◌+◌, ◌-◌, Bool, cond, not, ◌&&◌, ◌||◌, List, [], ◌∷◌, eqb, ltb, leb, length}
+use Rattle.std.specs.Prelude.{ℕ, ◌+◌, ◌-◌, Bool, cond, not, ◌&&◌, ◌||◌, List, [], ◌∷◌, eqb, ltb, leb, length, is_some}
 use Rattle.characters.specs.Class.{is_letter, is_digit}
 use Rattle.characters.specs.Whitespace.{byte, whitespace_len}
 use Rattle.text.specs.Range.{lookahead_is}
@@ -13,7 +13,7 @@ use Rattle.area.specs.Contents.{append, state_format, expected_format}
 use Rattle.fault.specs.Step.{Out, go, bad, next, onto, written, loop}
 use Rattle.fault.specs.Faults.{add_repeat, PrematureEnd, UnknownDeclaration, InvalidName, DuplicateStartState, InvalidStartStateName}
 use Rattle.section.specs.Request.{Options}
-use Rattle.section.specs.Section.{found, percents, to_declaration, in_section}
+use Rattle.section.specs.Section.{percents, to_declaration, in_section}
 use Rattle.names.specs.Names.{all_bytes, is_state_name, find_state}
 use Rattle.declarations.specs.declared.Declaration.{Declaration}
 use Rattle.declarations.specs.declared.Declaration.TheVariants.{States, Expecting, Unknown}
@@ -69,7 +69,7 @@ expect_missing = 0x25 ∷ 0x65 ∷ 0x78 ∷ 0x70 ∷ 0x65 ∷ 0x63 ∷ 0x74 ∷ 
 
 -- the word w starts with `%expect-missing` (01, Declarations)
 unfoldable pub is_expecting : List ℕ → Range → Bool
-is_expecting s w = found (lookahead_is s expect_missing w.from)
+is_expecting s w = is_some (lookahead_is s expect_missing w.from)
 
 -- names of states, exclusive ones or not; no names is an unknown declaration (01, Declarations)
 unfoldable pub states_of : ℕ → Range → Declaration
@@ -199,7 +199,7 @@ declaration s k i e d = declare_as s k (range i e) (declaration_of s (range i e)
 
 -- the section ends at i: at the `%%`, behind which blanks are skipped; or with the file, which is PrematureEnd (01, Declarations)
 unfoldable pub end_declarations : List ℕ → ℕ → Declared → Out Declared
-end_declarations s i d = cond (found (lookahead_is s percents i)) (go (skip_blanks s (i + 2)) d) (bad PrematureEnd i d)
+end_declarations s i d = cond (is_some (lookahead_is s percents i)) (go (skip_blanks s (i + 2)) d) (bad PrematureEnd i d)
 
 module _ (s : List ℕ) (options : Options) (k : Caps) where
   -- a declaration, and on to the next (01, Declarations)

@@ -12,7 +12,6 @@ ghost use Rattle.declarations.specs.Declarations.{declaration, declarations};
 ghost use Rattle.declarations.specs.Answers.{HeldDeclared};
 ghost use Rattle.declarations.specs.Phrases.{DoesDeclared};
 
-use characters::Found;
 use fault::Progress;
 use fault::kinds::{PREMATURE_END, UNKNOWN_DECLARATION};
 use line::declaration_of;
@@ -168,7 +167,7 @@ pub fn parse_declarations(
         }
     }
     match lookahead_is(src, b"%%", line.start) {
-        Found::At(j) => DeclarationProgress::Go(past_blanks(src, j), counts),
-        Found::Nothing => DeclarationProgress::Bad(PREMATURE_END, line.start as u16, counts),
+        Some(j) => DeclarationProgress::Go(past_blanks(src, j), counts),
+        None => DeclarationProgress::Bad(PREMATURE_END, line.start as u16, counts),
     }
 }

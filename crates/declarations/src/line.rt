@@ -7,7 +7,6 @@ ghost use Rattle.declarations.specs.Stages.{declaration_by};
 
 use crate::Declaration;
 use characters::class::{is_digit, is_letter};
-use section::is_found;
 use text::range::lookahead_is;
 use text::scan::{find_whitespace, trim_end, trim_start};
 
@@ -71,7 +70,7 @@ fn declaration_by(src: &[u8], i: usize, e: usize, w: usize, r: usize) -> Declara
     if declares_with(src, b'x', b'X', i, w) {
         return states_from(src, 1, r, e);
     }
-    if is_found(lookahead_is(src, b"%expect-missing", i)) {
+    if lookahead_is(src, b"%expect-missing", i).is_some() {
         return Declaration::Expecting(r);
     }
     Declaration::Unknown

@@ -15,8 +15,7 @@ use mir.Val.{Fits}
 use lib.ListN.{length, take, drop, length-append, length-drop, get_or-append}
 use lib.Seq.{get_or-append-add, get_or-take, get_or-drop, length-take-le}
 use Rattle.characters.specs.Walk.{first, last, Between}
-use Rattle.characters.specs.declared.Found.{Found}
-use Rattle.characters.specs.declared.Found.TheVariants.{At, Nothing}
+use Rattle.std.specs.Prelude.{Option as CodeOption, Some, None}
 use Rattle.characters.proofs.Walks.{first_found, first_again, first_ended, last_found, last_again, last_ended, last_passed}
 use Rattle.characters.proofs.Tests.{answer, le_or_lt}
 use Rattle.area.specs.declared.Fault.{Fault}
@@ -199,7 +198,7 @@ abbrev numbers : List Fault → ℕ → ℕ → Bool
 numbers fs number j = eqb (nth_fault fs j).number number
 
 module _ {l : List ℕ} {n : ℕ} (h : HeldFaults l n) (number k : ℕ) (before : last (numbers (spans l n) number) 0 n ≡ last (numbers (spans l n) number) 0 k) where
-  ends_at : (f : Found) → f ≡ last (numbers (spans l n) number) 0 n → behind f ≡ fault_end (spans l n) number
+  ends_at : (f : CodeOption ℕ) → f ≡ last (numbers (spans l n) number) 0 n → behind f ≡ fault_end (spans l n) number
   unfolding fault_end
   ends_at f q = ap behind (q ∙ ap (last (numbers (spans l n) number) 0) (sym (span_count h)))
 
@@ -210,13 +209,13 @@ module _ {l : List ℕ} {n : ℕ} (h : HeldFaults l n) (number k : ℕ) (before 
     pub end_found : x.number ≡ number → k ≡ fault_end (spans l n) number
     end_found q =
         let z : k ≡ k - 1 + 1 = omega arith in
-        z ∙ ends_at (At (k - 1)) (last_found (numbers (spans l n) number) 0 k n before p (rw has_number (eq-eqb x.number number q)))
+        z ∙ ends_at (Some (k - 1)) (last_found (numbers (spans l n) number) 0 k n before p (rw has_number (eq-eqb x.number number q)))
 
     pub end_again : (x.number ≡ number → ⊥) → last (numbers (spans l n) number) 0 n ≡ last (numbers (spans l n) number) 0 (k - 1)
     end_again d = last_again (numbers (spans l n) number) 0 k n before p (rw has_number (ne_eqb x.number number d))
 
   pub end_missing : k ≤ 0 → 0 ≡ fault_end (spans l n) number
-  end_missing z = ends_at Nothing (last_ended (numbers (spans l n) number) 0 k n before z)
+  end_missing z = ends_at None (last_ended (numbers (spans l n) number) 0 k n before z)
 
 pub ruleset ending = (rules, end_found, end_again, end_missing)
 

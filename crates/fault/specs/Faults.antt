@@ -1,9 +1,7 @@
 -- The fault list: a fault is one or more spans with its number, one after the other (01, Areas, 6).
-use Rattle.std.specs.Prelude.{ℕ, ◌+◌, ◌-◌, ◌≡◌, Bool, cond, not, ◌&&◌, ◌||◌, List, [], ◌∷◌, eqb, ltb, length, ◌≤◌, ◌<◌}
+use Rattle.std.specs.Prelude.{ℕ, ◌+◌, ◌-◌, ◌≡◌, Bool, cond, not, ◌&&◌, ◌||◌, List, [], ◌∷◌, eqb, ltb, length, ◌≤◌, ◌<◌, Option as CodeOption, Some, None}
 use Rattle.std.proofs.Math.Option.{Option, none, some}
 use Rattle.characters.specs.Walk.{first, last}
-use Rattle.characters.specs.declared.Found.{Found}
-use Rattle.characters.specs.declared.Found.TheVariants.{At, Nothing}
 use Rattle.area.specs.declared.Fault.{Fault}
 use Rattle.area.specs.Areas.{room, insert_at}
 use Rattle.area.specs.Records.{nth_fault, fault_width, most_others}
@@ -73,9 +71,9 @@ unfoldable pub find_fault : List Fault → ℕ → ℕ → ℕ → ℕ
 find_fault fs kind a e = first (is_fault fs kind a e) 0 (length fs)
 
 -- behind a position, or at the start where there is none
-abbrev pub behind : Found → ℕ
-behind (At p) = p + 1
-behind Nothing = 0
+abbrev pub behind : CodeOption ℕ → ℕ
+behind (Some p) = p + 1
+behind None = 0
 
 -- behind the last span of the fault of a number
 unfoldable pub fault_end : List Fault → ℕ → ℕ

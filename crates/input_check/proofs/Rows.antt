@@ -1,6 +1,6 @@
 -- Whether a row fits. The greatest length tells whether each is at most the bytes left; and where no character goes on over the places from the
 -- position to where it ends, each of them is an edge.
-use mathlib.Core.Path.{◌≡◌, refl, sym, ap, subst, ◌∙◌}
+use mathlib.Core.Path.{◌≡◌, refl, sym, ap, ◌∙◌}
 use mathlib.Core.Bool.{Bool, true, false, true≢false}
 use mathlib.Core.List.{List}
 use mathlib.Core.Logic.{⊎_elim}
@@ -21,12 +21,11 @@ use Rattle.area.specs.Contents.{contents, entry_format}
 use Rattle.area.specs.Lists.{all}
 use Rattle.area.proofs.Contents.{contents_count, contents_read}
 use Rattle.area.proofs.All.{all-at, all_from}
+use Rattle.winner.specs.declared.Row.{Row}
 use Rattle.winner.specs.Winner.{length_in, greatest}
-use Rattle.winner.proofs.Winning.{below_greatest, greatest_low}
-use Rattle.input_check.specs.declared.RowTop.{RowTop}
-use Rattle.input_check.specs.declared.RowTop.TheVariants.{Fits, Misfit}
+use Rattle.winner.proofs.Winning.{below_greatest, greatest_low, of_row}
 use Rattle.input_check.specs.InputCheck.{length_fits, good_row}
-use Rattle.input_check.specs.Top.{RowFits, RowTopIs}
+use Rattle.input_check.specs.Top.{RowFits}
 
 -- the loop that looks for a byte inside a character
 pub ruleset looking_inside = (rules, none_ruled_out, rules_out_again, rules_out_ended, answer_rules_out)
@@ -76,13 +75,15 @@ module _ (text : List ℕ) (left position l : ℕ) where
   fits_edge e = and_right (leb l left) (is_edge text (position + l)) e
 
 -- the lengths of a row that fits are not above what is left
-pub row_low : (text : List ℕ) (left position rules : ℕ) (row : List ℕ) (top : ℕ) → RowFits (length_fits text left position) rules row top
-    → RowFits (λ l. leb l left) rules row top
-row_low text left position rules row top h =
+pub row_low : (text : List ℕ) (left position rules : ℕ) (row : List ℕ) (x : Row) → RowFits (length_fits text left position) rules row x
+    → RowFits (λ l. leb l left) rules row x
+row_low text left position rules row x h =
     let test : ℕ → Bool = length_fits text left position in
     record {
       good = row_good (λ l. leb l left) rules row (row_long test rules row h.good)
           (λ k l. fits_low text left position (entry_at row k) (row-length test rules row h.good k l));
+      bytes_are = h.bytes_are;
+      rules_are = h.rules_are;
       greatest_is = h.greatest_is;
     }
 
@@ -132,18 +133,16 @@ module _ (text : List ℕ) (position rules : ℕ) (row : List ℕ) (top : ℕ) (
             absurd (true≢false (sym edges ∙ sym q ∙ f))
         by false e = refl
 
-    pub row_within : length row ≡ rules * entry_width → top ≤ left → (t : Bool) → t ≡ all_at_edge → t ≡ true → RowFits test rules row top
+    pub row_within : length row ≡ rules * entry_width → top ≤ left → (t : Bool) → t ≡ all_at_edge → t ≡ true → good_row test rules row ≡ true
     unfolding length_fits
-    row_within long h t q f = record {
-      good = row_good test rules row long
-          (λ k g. rw (le-leb (entry_at row k) left (omega (arith, length_low k g, h))) (length_passes at_edge rules row (sym q ∙ f) k g));
-      greatest_is = is;
-    }
+    row_within long h t q f = row_good test rules row long
+        (λ k g. rw (le-leb (entry_at row k) left (omega (arith, length_low k g, h))) (length_passes at_edge rules row (sym q ∙ f) k g))
 
--- what a match tells
-module _ (test : ℕ → Bool) (rules : ℕ) (row : List ℕ) (t : RowTop) (is : RowTopIs test rules row t) where
-  pub told_fits : (top : ℕ) → t ≡ Fits top → RowFits test rules row top
-  told_fits top e = subst (RowTopIs test rules row) e is
+-- ---- a row that was made
 
-  pub told_misfit : t ≡ Misfit → good_row test rules row ≡ false
-  told_misfit e = subst (RowTopIs test rules row) e is
+module _ (test : ℕ → Bool) (rules : ℕ) (row : List ℕ) (x : Row) (made : (x.bytes.now ≡ row) × (x.rules ≡ rules)) where
+  pub row_fits : good_row test x.rules x.bytes.now ≡ true → RowFits test rules row x
+  row_fits good = of_row rules row x made (λ n l. RowFits test n l x) (record { good = good; bytes_are = refl; rules_are = refl; greatest_is = x.greatest_is })
+
+  pub row_misfits : good_row test x.rules x.bytes.now ≡ false → good_row test rules row ≡ false
+  row_misfits bad = of_row rules row x made (λ n l. good_row test n l ≡ false) bad

@@ -9,20 +9,13 @@ ghost use Rattle.characters.specs.Shortcuts.{RulesOut};
 ghost use Rattle.characters.specs.Utf8.{is_continuation, is_edge};
 ghost use Rattle.characters.specs.Walk.{any};
 ghost use Rattle.characters.specs.Whitespace.{byte};
-ghost use Rattle.winner.specs.Winner.{length_in, greatest};
 ghost use Rattle.input_check.specs.InputCheck.{good_text, length_fits};
 ghost use Rattle.input_check.specs.Top.{RowTopIs};
 
-use area::{ENTRY_WIDTH, read_entry};
+use area::ENTRY_WIDTH;
+use area::list::Records;
 use characters::utf8::{is_continuation, is_edge, utf8};
-use winner::greatest_length;
-
-// Whether a row fits: its greatest length, or that it does not fit.
-#[derive(Clone, Copy)]
-pub enum RowTop {
-    Fits(u16),
-    Misfit,
-}
+use winner::Row;
 
 // The length first, so that a text of another length is not read.
 pub fn good_text(n: u64, text: &[u8]) -> bool
@@ -40,59 +33,53 @@ fn has_inside(text: &[u8], k: usize, n: usize) -> bool
     ensures { RulesOut (any (λ j. is_continuation (byte text.now (k + j))) n) result }
 {
     let mut found = false;
-    let mut j = 0;
-    while j < n {
-        found = found | is_continuation(text[k + j]);
-        j += 1;
+    for j in 0..n {
+        found |= is_continuation(text[k + j]);
     }
     found
 }
 
 // Whether each length ends at an edge, rule by rule.
-fn each_at_edge(text: &[u8], position: u16, rules: u16, row: &[u8]) -> bool
-    requires { rules * entry_width ≤ length row.now }
-    ensures { result ≡ all (λ l. is_edge text.now (position + l)) (contents entry_format row.now rules) }
+fn each_at_edge(text: &[u8], position: u16, row: Row) -> bool
+    ensures { result ≡ all (λ l. is_edge text.now (position + l)) (contents entry_format row.entry.bytes.now row.entry.rules) }
 {
     let from = position as usize;
-    let most = rules as usize;
-    let mut good = true;
-    let mut k = 0;
-    while k < most {
-        good = good & is_edge(text, from + read_entry(row, k) as usize);
-        k += 1;
-    }
-    good
+    row.lengths().all(|l| is_edge(text, from + l as usize))
 }
 
 // The same. Where the greatest length ends at an edge and no byte before that stands inside a character, every length ends at an edge.
-fn all_at_edge(text: &[u8], position: u16, rules: u16, row: &[u8], top: u16) -> bool
-    requires entry_width_in_bounds { rules * entry_width ≤ length row.now }
-    requires top_in_bounds { position + top ≤ length text.now }
-    requires top_value { top ≡ greatest (length_in row.now) rules }
-    ensures { result ≡ all (λ l. is_edge text.now (position + l)) (contents entry_format row.now rules) }
+fn all_at_edge(text: &[u8], position: u16, row: Row) -> bool
+    requires { position + row.top ≤ length text.now }
+    ensures { result ≡ all (λ l. is_edge text.now (position + l)) (contents entry_format row.entry.bytes.now row.entry.rules) }
 {
-    if is_edge(text, position as usize + top as usize) {
-        if !has_inside(text, position as usize, top as usize) {
+    if is_edge(text, position as usize + row.top as usize) {
+        if !has_inside(text, position as usize, row.top as usize) {
             return true;
         }
     }
-    each_at_edge(text, position, rules, row)
+    each_at_edge(text, position, row)
 }
 
-// Every length is at most the bytes left where the greatest is; then the edges.
-pub fn row_top(text: &[u8], left: u16, position: u16, rules: u16, row: &[u8]) -> RowTop
+// The row, where it fits. Every length is at most the bytes left where the greatest is; then the edges.
+pub fn row_top<'a>(
+    text: &[u8],
+    left: u16,
+    position: u16,
+    rules: u16,
+    row: &'a [u8],
+) -> Option<Row<'a>>
     requires { position + left ≤ length text.now }
     ensures { RowTopIs (length_fits text.now left position) rules row.now result }
 {
     if row.len() != rules as usize * ENTRY_WIDTH {
-        return RowTop::Misfit;
+        return None;
     }
-    let top = greatest_length(row, rules);
-    if left < top {
-        return RowTop::Misfit;
+    let lengths = Row::new(row, rules);
+    if left < lengths.top {
+        return None;
     }
-    if all_at_edge(text, position, rules, row, top) {
-        return RowTop::Fits(top);
+    if all_at_edge(text, position, lengths) {
+        return Some(lengths);
     }
-    RowTop::Misfit
+    None
 }

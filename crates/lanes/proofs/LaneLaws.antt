@@ -1,13 +1,15 @@
 -- The quick tests are right where they pass. A number that bits are joined to is 0 only where it was 0 and they are (`or_none`), so at the end
 -- each lane of each rule keeps its limits, and the limits of its lanes are those of a rule's fields and sums.
-use Rattle.std.proofs.Common.{◌≡◌, ℕ, ◌+◌, ◌-◌, ◌*◌, ◌%◌, ◌<◌, ◌≤◌, min, Bool, true, false, eqb, List, length, get_or, set, sym, refl, ap, ◌∙◌, subst, ⊎_elim, arith, length-set, get_or-set_other, get_or-set_same, eqb-true}
+use Rattle.std.proofs.Common.{◌≡◌, ℕ, zero, suc, ◌+◌, ◌-◌, ◌*◌, ◌%◌, ◌<◌, ◌≤◌, min, Bool, true, false, eqb, List, [], ◌∷◌, length, get_or, set, sym, refl, ap, ◌∙◌, subst, ⊎_elim, arith, length-set, get_or-set_other, get_or-set_same, eqb-true}
+use Rattle.std.specs.List.{fold}
 use borrow.Author.Tests.{eqb-false}
 use lib.Bits.{bit_and, bit_or, or_add_and, and_le_l, and_le_r, and_zero_r, or_zero_l, or_zero_r}
 use Rattle.characters.proofs.Tests.{le_or_lt}
 use Rattle.area.specs.Bytes.{field_at, field_from}
 use Rattle.area.specs.Records.{rule_at, rule_of, rule_width, entry_at}
 use Rattle.lanes.specs.declared.Lane.{Lane}
-use Rattle.lanes.specs.Lanes.{lane_count, lane_at, FieldsWithin, SumWithin, Limits, FieldsAt, SumAt, JoinedTo, Joined, AllZero}
+use Rattle.lanes.specs.declared.Limits.{Limits}
+use Rattle.lanes.specs.Lanes.{lane_count, lane_at, FieldsWithin, SumWithin, FieldsAt, SumAt, JoinedTo, Joined, AllZero}
 use Rattle.lanes.specs.Lanes.{RuleWithin, RulesWithin, EntriesWithin}
 
 -- ---- a lane
@@ -79,26 +81,24 @@ module _ (l : List ℕ) (at j : ℕ) (x : Lane) (is : x ≡ lane_at l at j) (r :
   pub sum_at : (sums more : ℕ) → (r ≡ 0 → SumWithin x sums more) → r ≡ 0 → SumWithin (lane_at l at j) sums more
   sum_at sums more f e = subst (λ (y : Lane). SumWithin y sums more) is (f e)
 
-pub joined_all : {l : List ℕ} {limits : Limits} {at m : ℕ} {f t f' t' : List ℕ} → m ≡ lane_count → Joined l limits at m f t f' t'
-    → Joined l limits at lane_count f t f' t'
-joined_all {l} {limits} {at} {m} {f} {t} {f'} {t'} e joined = subst (λ (k : ℕ). Joined l limits at k f t f' t') e joined
-
 -- ---- numbers that are all 0
 
-module _ (f t : List ℕ) (joint j : ℕ) (before : joint ≡ 0 → (i : ℕ) → i < j → (get_or f i 0 ≡ 0) × (get_or t i 0 ≡ 0)) where
-  pub zero_next : bit_or (bit_or joint (get_or f j 0)) (get_or t j 0) ≡ 0 → (i : ℕ) → i < j + 1 → (get_or f i 0 ≡ 0) × (get_or t i 0 ≡ 0)
-  zero_next e i g =
-      let o = or_none (bit_or joint (get_or f j 0)) (get_or t j 0) e in
-      let p = or_none joint (get_or f j 0) o.0 in
-      ⊎_elim
-      (λ w.
-      let z : i ≡ j = omega (arith, g, w) in
-      (ap (λ (k : ℕ). get_or f k 0) z ∙ p.1, ap (λ (k : ℕ). get_or t k 0) z ∙ o.1))
-      (λ w. before p.0 i w)
-      (le_or_lt j i)
+-- the bits of all numbers are 0 only where each number is
+bits_none : (a : ℕ) (xs : List ℕ) → fold bit_or a xs ≡ 0 → (a ≡ 0) × ((j : ℕ) → get_or xs j 0 ≡ 0)
+bits_none a [] e = (e, λ j. refl)
+bits_none a (x ∷ xs) e =
+    let h = bits_none (bit_or a x) xs e in
+    let o = or_none a x h.0 in
+    (o.0, at_each x xs o.1 h.1)
+  where
+    at_each : (x : ℕ) (xs : List ℕ) → x ≡ 0 → ((j : ℕ) → get_or xs j 0 ≡ 0) → (j : ℕ) → get_or (x ∷ xs) j 0 ≡ 0
+    at_each x xs here behind zero = here
+    at_each x xs here behind (suc j) = behind j
 
-  pub zero_all : lane_count ≤ j → eqb joint 0 ≡ true → AllZero f t
-  zero_all g e = record { each = λ i w. before (eqb-true joint 0 e) i (omega (arith, g, w)) }
+pub zero_all : {f t : List ℕ} {a b : ℕ} → a ≡ fold bit_or 0 f → b ≡ fold bit_or 0 t → eqb (bit_or a b) 0 ≡ true → AllZero f t
+zero_all {f} {t} {a} {b} p q e =
+    let o = or_none a b (eqb-true (bit_or a b) 0 e) in
+    record { each = λ j g. ((bits_none 0 f (sym p ∙ o.0)).1 j, (bits_none 0 t (sym q ∙ o.1)).1 j) }
 
 -- ---- the rules of an area
 
@@ -178,17 +178,17 @@ module _ (a b place sums more n : ℕ) (small : n ≤ 65534) (keeps : min (a + b
 
 -- limits of lanes that are these limits of a rule: of its fields, and of its sums
 pub record RuleLimits (limits : Limits) (source highest entries text : ℕ) : Type 0 where
-  pub has_id : (get_or limits.heres 0 0 ≡ 1) × (get_or limits.order 0 0 ≡ 0)
-  pub named : (get_or limits.heres 2 0 ≡ 1) × (get_or limits.order 2 0 ≡ 0)
-  pub place : (get_or limits.heres 7 0 ≡ 1) × (get_or limits.order 7 0 ≡ 0)
-  pub span_start : get_or limits.heres 3 0 ≡ 0
-  pub span_end : (get_or limits.heres 4 0 ≡ source) × (get_or limits.order 4 0 ≡ 0)
-  pub operation : get_or limits.lasts 6 0 ≡ 3
-  pub target : get_or limits.lasts 7 0 ≡ highest
-  pub name : (get_or limits.sums 0 0 ≡ source) × (get_or limits.more 0 0 ≡ 0)
-  pub source_text_lem : get_or limits.sums 3 0 ≡ source
-  pub rewritten_text : (get_or limits.more 3 0 + get_or limits.sums 3 0) % 65536 ≡ text
-  pub list : (get_or limits.sums 5 0 ≡ entries) × (get_or limits.more 5 0 ≡ 0)
+  pub has_id : (get_or limits.heres.now 0 0 ≡ 1) × (get_or limits.order.now 0 0 ≡ 0)
+  pub named : (get_or limits.heres.now 2 0 ≡ 1) × (get_or limits.order.now 2 0 ≡ 0)
+  pub place : (get_or limits.heres.now 7 0 ≡ 1) × (get_or limits.order.now 7 0 ≡ 0)
+  pub span_start : get_or limits.heres.now 3 0 ≡ 0
+  pub span_end : (get_or limits.heres.now 4 0 ≡ source) × (get_or limits.order.now 4 0 ≡ 0)
+  pub operation : get_or limits.lasts.now 6 0 ≡ 3
+  pub target : get_or limits.lasts.now 7 0 ≡ highest
+  pub name : (get_or limits.sums.now 0 0 ≡ source) × (get_or limits.more.now 0 0 ≡ 0)
+  pub source_text_lem : get_or limits.sums.now 3 0 ≡ source
+  pub rewritten_text : (get_or limits.more.now 3 0 + get_or limits.sums.now 3 0) % 65536 ≡ text
+  pub list : (get_or limits.sums.now 5 0 ≡ entries) × (get_or limits.more.now 5 0 ≡ 0)
 
 -- limits of sums below 65,535
 abbrev pub Small : ℕ → ℕ → ℕ → Type 0
@@ -200,31 +200,31 @@ module _ (l : List ℕ) (limits : Limits) (source highest entries text : ℕ) (s
   abbrev at : ℕ → ℕ
   at j = field_from l (k * rule_width) j
 
-  field_limit : (j : ℕ) → j < lane_count → (n : ℕ) → (get_or limits.heres j 0 ≡ n) × (get_or limits.order j 0 ≡ 0) → at j ≤ n
+  field_limit : (j : ℕ) → j < lane_count → (n : ℕ) → (get_or limits.heres.now j 0 ≡ n) × (get_or limits.order.now j 0 ≡ 0) → at j ≤ n
   unfolding lane_at
-  field_limit j h n e = upper_limit (at j) (get_or limits.heres j 0) (get_or limits.order j 0) (at (j + 1)) n e (f j h).here
+  field_limit j h n e = upper_limit (at j) (get_or limits.heres.now j 0) (get_or limits.order.now j 0) (at (j + 1)) n e (f j h).here
 
-  last_limit : (j : ℕ) → j < lane_count → at (j + 6) ≤ get_or limits.lasts j 0
+  last_limit : (j : ℕ) → j < lane_count → at (j + 6) ≤ get_or limits.lasts.now j 0
   unfolding lane_at
   last_limit j h = (f j h).last
 
   span_ordered : at 3 ≤ at 4
   unfolding lane_at
-  span_ordered = next_limit (at 3) (get_or limits.heres 3 0) (get_or limits.order 3 0) (at 4) are.span_start (f 3 (omega arith)).here
+  span_ordered = next_limit (at 3) (get_or limits.heres.now 3 0) (get_or limits.order.now 3 0) (at 4) are.span_start (f 3 (omega arith)).here
 
-  range_inside : (j : ℕ) → j < lane_count → (n : ℕ) → n ≤ 65534 → (get_or limits.sums j 0 ≡ n) × (get_or limits.more j 0 ≡ 0)
+  range_inside : (j : ℕ) → j < lane_count → (n : ℕ) → n ≤ 65534 → (get_or limits.sums.now j 0 ≡ n) × (get_or limits.more.now j 0 ≡ 0)
       → at (j + 5) + at (j + 6) ≤ n
   unfolding lane_at
-  range_inside j h n g e = sum_limit (at (j + 5)) (at (j + 6)) (at (j + 4)) (get_or limits.sums j 0) (get_or limits.more j 0) n g (s j h).inside e
+  range_inside j h n g e = sum_limit (at (j + 5)) (at (j + 6)) (at (j + 4)) (get_or limits.sums.now j 0) (get_or limits.more.now j 0) n g (s j h).inside e
 
   text_source : at 7 ≡ 0 → at 8 + at 9 ≤ source
   unfolding lane_at
-  text_source none = source_limit (at 8) (at 9) (at 7) (get_or limits.sums 3 0) (get_or limits.more 3 0) source small.0
+  text_source none = source_limit (at 8) (at 9) (at 7) (get_or limits.sums.now 3 0) (get_or limits.more.now 3 0) source small.0
       (s 3 (omega arith)).inside are.source_text_lem none
 
   text_rewritten : at 7 ≡ 1 → at 8 + at 9 ≤ text
   unfolding lane_at
-  text_rewritten one = text_limit (at 8) (at 9) (at 7) (get_or limits.sums 3 0) (get_or limits.more 3 0) text small.2
+  text_rewritten one = text_limit (at 8) (at 9) (at 7) (get_or limits.sums.now 3 0) (get_or limits.more.now 3 0) text small.2
       (s 3 (omega arith)).inside are.rewritten_text one
 
   rule_within : RuleWithin source highest entries text (rule_at l k)
@@ -245,9 +245,9 @@ module _ (l : List ℕ) (limits : Limits) (source highest entries text : ℕ) (s
 
 pub rules_within : (l : List ℕ) (limits : Limits) (count source highest entries text : ℕ) (f t : List ℕ) → RulesJoined l limits count f t
     → AllZero f t → Small source entries text → RuleLimits limits source highest entries text → RulesWithin l count source highest entries text
-rules_within l limits count source highest entries text f t joined zero small are = record {
-  each = λ k g. rule_within l limits source highest entries text small are k (λ j w. joined.fields.each k j g w (zero.each j w).0)
-      (λ j w. joined.totals.each k j g w (zero.each j w).1);
+rules_within l limits count source highest entries text f t joined none small are = record {
+  each = λ k g. rule_within l limits source highest entries text small are k (λ j w. joined.fields.each k j g w (none.each j w).0)
+      (λ j w. joined.totals.each k j g w (none.each j w).1);
 }
 
 -- ---- the entries of an area

@@ -5,6 +5,7 @@ use Rattle.area.specs.declared.Rule.{Rule}
 use Rattle.area.specs.Bytes.{field_from}
 use Rattle.area.specs.Records.{rule_at, entry_at}
 use Rattle.lanes.specs.declared.Lane.{Lane}
+use Rattle.lanes.specs.declared.Limits.{Limits}
 
 -- how many lanes there are
 abbrev pub lane_count : ℕ
@@ -29,26 +30,13 @@ pub record FieldsWithin (x : Lane) (heres order lasts : ℕ) : Type 0 where
 pub record SumWithin (x : Lane) (sums more : ℕ) : Type 0 where
   pub inside : min (x.from + x.last) 65535 ≤ (sums + (x.place * more) % 65536) % 65536
 
--- the limits of the lanes, eight of each
-pub record Limits : Type 0 where
-  pub heres : List ℕ
-  pub order : List ℕ
-  pub lasts : List ℕ
-  pub sums : List ℕ
-  pub more : List ℕ
-
--- the limits, as they are lent
-abbrev pub limits_in : List ℕ → List ℕ → List ℕ → List ℕ → List ℕ → Limits
-limits_in heres order lasts sums more =
-    record { heres = heres; order = order; lasts = lasts; sums = sums; more = more }
-
 -- lane j of the rule at a place keeps its limits
 module _ (l : List ℕ) (limits : Limits) (at j : ℕ) where
   abbrev pub FieldsAt : Type 0
-  FieldsAt = FieldsWithin (lane_at l at j) (slice_index limits.heres j) (slice_index limits.order j) (slice_index limits.lasts j)
+  FieldsAt = FieldsWithin (lane_at l at j) (slice_index limits.heres.now j) (slice_index limits.order.now j) (slice_index limits.lasts.now j)
 
   abbrev pub SumAt : Type 0
-  SumAt = SumWithin (lane_at l at j) (slice_index limits.sums j) (slice_index limits.more j)
+  SumAt = SumWithin (lane_at l at j) (slice_index limits.sums.now j) (slice_index limits.more.now j)
 
 -- eight numbers y, of which the first m are joined to those of x: one is 0 only where it was, and where its lane has what is asked
 pub record JoinedTo (Asked : ℕ → Type 0) (m : ℕ) (x y : List ℕ) : Type 0 where

@@ -3,16 +3,16 @@
 // it does not, nothing is known.
 #![tactic(auto)]
 
-ghost use Rattle.std.specs.Prelude.{◌≡◌, ◌+◌, ◌-◌, ◌*◌, ◌%◌, ◌≤◌, min, true, length};
+ghost use Rattle.std.specs.Prelude.{◌≡◌, ◌+◌, ◌*◌, ◌≤◌, true, length, bit_or};
+ghost use Rattle.std.specs.List.{fold};
 ghost use Rattle.area.specs.Records.{rule_width, entry_width};
 ghost use Rattle.area.specs.Phrases.{before, after};
-ghost use Rattle.lanes.specs.Lanes.{lane_count, lane_at, FieldsWithin, SumWithin, Joined, limits_in, AllZero, RulesWithin, EntriesWithin};
+ghost use Rattle.lanes.specs.Lanes.{lane_count, lane_at, FieldsWithin, SumWithin, Joined, AllZero, RulesWithin, EntriesWithin};
 
 use area::{RULE_WIDTH, read_entry, read_field};
-use std::num::{wrapping_add_u16, wrapping_sub_u16};
 
 // No limit: no field is above it.
-const ANY: u16 = 65535;
+const ANY: u16 = u16::MAX;
 
 const LANES: usize = 8;
 
@@ -26,33 +26,15 @@ struct Lane {
     last: u16,
 }
 
-// ---- numbers
-
-// By how much x is above a limit.
-fn saturating_sub(x: u16, limit: u16) -> u16
-    ensures { result ≡ x - limit }
-{
-    if x < limit {
-        return 0;
-    }
-    x - limit
-}
-
-// The sum, cut at 65,535.
-fn saturating_add(x: u16, y: u16) -> u16
-    ensures { result ≡ min (x + y) 65535 }
-{
-    if x > ANY - y {
-        return ANY;
-    }
-    x + y
-}
-
-// The product, wrapped at 65,536.
-fn wrapping_mul(x: u16, y: u16) -> u16
-    ensures { result ≡ (x * y) % 65536 }
-{
-    (x as u32 * y as u32 % 65536) as u16
+// The limits of the lanes: what `field_excess` and `sum_excess` ask of lane j stands at place j of each. The limits of a kind are one array, so
+// that they become one vector; they are lent, since arrays that a struct holds are laid out in memory first.
+#[derive(Clone, Copy)]
+struct Limits<'a> {
+    heres: &'a [u16; 8],
+    order: &'a [u16; 8],
+    lasts: &'a [u16; 8],
+    sums: &'a [u16; 8],
+    more: &'a [u16; 8],
 }
 
 // ---- a lane
@@ -75,60 +57,44 @@ fn read_lane(area: &[u8], at: usize, j: usize) -> Lane
 fn field_excess(x: Lane, heres: u16, order: u16, lasts: u16) -> u16
     ensures { result ≡ 0 → FieldsWithin x heres order lasts }
 {
-    saturating_sub(x.here, heres | (x.next & order)) | saturating_sub(x.last, lasts)
+    x.here.saturating_sub(heres | (x.next & order)) | x.last.saturating_sub(lasts)
 }
 
 // 0 only where the sum of two fields keeps its limit: `sums` where the place is 0, and `more` beyond it where the place is 1.
 fn sum_excess(x: Lane, sums: u16, more: u16) -> u16
     ensures { result ≡ 0 → SumWithin x sums more }
 {
-    saturating_sub(
-        saturating_add(x.from, x.last),
-        wrapping_add_u16(sums, wrapping_mul(x.place, more)),
-    )
+    let limit = sums.wrapping_add(x.place.wrapping_mul(more));
+    x.from.saturating_add(x.last).saturating_sub(limit)
 }
 
 // ---- the lanes of a rule
 
 // The lanes of the rule at a place are joined to the numbers of those before: what is not 0 stays so. Fields and sums have a number each, in
 // one loop: with one number for both, or with two loops, the code is slower.
-fn join(
-    area: &[u8],
-    at: usize,
-    heres: &[u16; 8],
-    order: &[u16; 8],
-    lasts: &[u16; 8],
-    sums: &[u16; 8],
-    more: &[u16; 8],
-    fields: &mut [u16; 8],
-    totals: &mut [u16; 8],
-)
-    requires rule_width_in_bounds { at + rule_width ≤ length area.now }
-    requires fields_len { (length fields.old ≡ lane_count) × (length totals.old ≡ lane_count) }
-    ensures { Joined area.now (limits_in heres.now order.now lasts.now sums.now more.now) at lane_count
-        fields.old totals.old fields.new totals.new }
+fn join(area: &[u8], at: usize, limits: Limits, fields: &mut [u16; 8], totals: &mut [u16; 8])
+    requires { at + rule_width ≤ length area.now }
+    ensures { Joined area.now limits.entry at lane_count fields.old totals.old fields.new totals.new }
 {
-    let mut j = 0;
-    while j < LANES {
+    for j in 0..LANES {
         let x = read_lane(area, at, j);
-        fields[j] = fields[j] | field_excess(x, heres[j], order[j], lasts[j]);
-        totals[j] = totals[j] | sum_excess(x, sums[j], more[j]);
-        j += 1;
+        fields[j] |= field_excess(x, limits.heres[j], limits.order[j], limits.lasts[j]);
+        totals[j] |= sum_excess(x, limits.sums[j], limits.more[j]);
     }
+}
+
+// The bits of all numbers.
+fn joint(xs: &[u16; 8]) -> u16
+    ensures { result ≡ fold bit_or 0 xs.now }
+{
+    xs.iter().fold(0, |bits, x| bits | *x)
 }
 
 // Whether each number of both is 0.
 fn all_zero(fields: &[u16; 8], totals: &[u16; 8]) -> bool
-    requires { (length fields.now ≡ lane_count) × (length totals.now ≡ lane_count) }
     ensures { result ≡ true → AllZero fields.now totals.now }
 {
-    let mut joint = 0;
-    let mut j = 0;
-    while j < LANES {
-        joint = joint | fields[j] | totals[j];
-        j += 1;
-    }
-    joint == 0
+    joint(fields) | joint(totals) == 0
 }
 
 // A rule's fields: 0 has_id, 1 id, 2 named, 3 span_start, 4 span_end, 5 name_from, 6 name_length, 7 place, 8 text_from, 9 text_length,
@@ -152,56 +118,34 @@ pub fn quick_rules(
     let order = [0, 0, 0, ANY, 0, 0, 0, 0];
     let lasts = [ANY, ANY, ANY, ANY, ANY, ANY, 3, highest];
     let sums = [source, ANY, ANY, source, ANY, entries, ANY, ANY];
-    let more = [0, 0, 0, wrapping_sub_u16(text, source), 0, 0, 0, 0];
+    let more = [0, 0, 0, text.wrapping_sub(source), 0, 0, 0, 0];
+    let limits = Limits {
+        heres: &heres,
+        order: &order,
+        lasts: &lasts,
+        sums: &sums,
+        more: &more,
+    };
     let mut fields = [0; 8];
     let mut totals = [0; 8];
-    let most = count as usize;
-    let mut k = 0;
-    while k < most {
-        join(
-            area,
-            k * RULE_WIDTH,
-            &heres,
-            &order,
-            &lasts,
-            &sums,
-            &more,
-            &mut fields,
-            &mut totals,
-        );
-        k += 1;
+    for k in 0..count as usize {
+        join(area, k * RULE_WIDTH, limits, &mut fields, &mut totals);
     }
     all_zero(&fields, &totals)
 }
 
 // ---- the entries of an area
 
-// One loop of eight without a branch, which the compiler makes one vector.
-fn eight_within(area: &[u8], from: usize, highest: u16) -> bool
-    requires { (from + lane_count) * entry_width ≤ length area.now }
-    ensures { result ≡ true → EntriesWithin area.now from (from + lane_count) highest }
+// Whether n entries, from one on, are within. It looks at all of them without a branch, so that the compiler makes one vector of eight.
+fn each_within(area: &[u8], from: usize, n: usize, highest: u16) -> bool
+    requires { (from + n) * entry_width ≤ length area.now }
+    ensures { result ≡ true → EntriesWithin area.now from (from + n) highest }
 {
     let mut excess = 0;
-    let mut j = 0;
-    while j < LANES {
-        excess = excess | saturating_sub(read_entry(area, from + j), highest);
-        j += 1;
+    for j in 0..n {
+        excess |= read_entry(area, from + j).saturating_sub(highest);
     }
     excess == 0
-}
-
-fn rest_within(area: &[u8], from: usize, most: usize, highest: u16) -> bool
-    requires { (from ≤ most) × (most * entry_width ≤ length area.now) }
-    ensures { result ≡ true → EntriesWithin area.now from most highest }
-{
-    let mut k = from;
-    while k < most {
-        if highest < read_entry(area, k) {
-            return false;
-        }
-        k += 1;
-    }
-    true
 }
 
 // It leaves at the first eight that do not pass, so that the compiler does not gather one entry of each eight.
@@ -211,13 +155,10 @@ pub fn entries_within(area: &[u8], count: u16, highest: u16) -> bool
 {
     let most = count as usize;
     let blocks = most / LANES;
-    let rest = blocks * LANES;
-    let mut k = 0;
-    while k < blocks {
-        if !eight_within(area, k * LANES, highest) {
+    for k in 0..blocks {
+        if !each_within(area, k * LANES, LANES, highest) {
             return false;
         }
-        k += 1;
     }
-    rest_within(area, rest, most, highest)
+    each_within(area, blocks * LANES, most % LANES, highest)
 }

@@ -10,6 +10,8 @@ use native.Mathlib.Omega.{arith}
 use borrow.Author.Tests.{eqb-true}
 use lib.Dec.{eqb}
 use lib.ListN.{length}
+use Rattle.std.specs.Prelude.{Ok, Err}
+use Rattle.std.proofs.lemmas.Bool.{false_from_ne_true}
 use Rattle.characters.specs.Utf8.{at_edge}
 use Rattle.characters.specs.Unicode.{encode, encode_all, Edge}
 use Rattle.characters.specs.Walk.{one_if, last, count}
@@ -19,11 +21,11 @@ use Rattle.characters.proofs.Ascii.{ascii_whole}
 use Rattle.characters.proofs.Edges.{edge_behind, no_edge_inside, edge_at, edge_passes, edge_is}
 use Rattle.characters.proofs.Decoding.{utf8_judges}
 use Rattle.lines.specs.declared.Place.{Place}
-use Rattle.lines.specs.declared.LineColumn.TheVariants.{Known, LongFile, InvalidUtf8, NoSuchPlace}
+use Rattle.lines.specs.declared.PlaceError.TheVariants.{NoSuchPlace}
 use Rattle.lines.specs.Lines.{ends_line, line_num, col_num, behind_end, place, is_allowed, place_in, line_column}
 use Rattle.lines.specs.Places.{place_at}
 use Rattle.lines.specs.CodePoints.{behind_one, behind_all, ByCodePointsHolds}
-use Rattle.lines.proofs.Testing.{text_tested}
+use Rattle.lines.proofs.Testing.{tested_text}
 use Rattle.lines.proofs.Moving.{line_on, column_on, column_anew, start_inside}
 use Rattle.lines.proofs.Placing.{first_placed}
 
@@ -44,15 +46,24 @@ module _ (ws : List ℕ) (x : ℕ) (ys : List ℕ) where
   one_starts =
       let first : at_edge whole here ≡ true = edge_at ws (x ∷ ys) in
       let o : one_if (at_edge whole here) ≡ 1 = rw first in
-      let none : count (at_edge whole) (here + 1) (here + width) ≡ 0 = count_failing (at_edge whole) (here + 1) (here + width) (λ m h l. no_edge_inside ws x ys m h l) in
-      omega (arith, o, none, count_none (at_edge whole) here here (omega arith), count_next (at_edge whole) here here (omega arith), count_split (at_edge whole) here (here + 1) (here + width) (omega arith) (omega (arith, encode_long x)))
+      let none : count (at_edge whole) (here + 1) (here + width) ≡ 0 =
+      count_failing (at_edge whole) (here + 1) (here + width) (λ m h l. no_edge_inside ws x ys m h l) in
+      omega (
+        arith,
+        o,
+        none,
+        count_none (at_edge whole) here here (omega arith),
+        count_next (at_edge whole) here here (omega arith),
+        count_split (at_edge whole) here (here + 1) (here + width) (omega arith) (omega (arith, encode_long x)),
+      )
 
   -- a line ends in it exactly if it is U+000A, which has one byte
   ends_at : (m : ℕ) → here ≤ m → m < here + width → eqb x 0x0a ≡ false → ends_line whole m ≡ false
   ends_at m h l e =
       ⊎_elim
       (λ q. ap (ends_line whole) (sym q) ∙ (ascii_whole ws x ys 0x0a (omega arith)).edge ∙ e)
-      (λ g. let q : m ≡ here + (m - here) = omega arith in ap (ends_line whole) q ∙ (ascii_whole ws x ys 0x0a (omega arith)).inside (m - here) (omega arith) (omega arith))
+      (λ g. let q : m ≡ here + (m - here) = omega arith in
+      ap (ends_line whole) q ∙ (ascii_whole ws x ys 0x0a (omega arith)).inside (m - here) (omega arith) (omega arith))
       (eq-or-lt_of_le h)
 
   -- U+000A goes to the next line
@@ -62,7 +73,12 @@ module _ (ws : List ℕ) (x : ℕ) (ys : List ℕ) where
       let w : width ≡ 1 = (ascii_whole ws x ys 0x0a (omega arith)).wide (eqb-true x 0x0a e) in
       let ends : ends_line whole here ≡ true = (ascii_whole ws x ys 0x0a (omega arith)).edge ∙ e in
       let o : one_if (ends_line whole here) ≡ 1 = rw ends in
-      let n : count (ends_line whole) here (here + 1) ≡ 1 = omega (arith, o, count_none (ends_line whole) here here (omega arith), count_next (ends_line whole) here here (omega arith)) in
+      let n : count (ends_line whole) here (here + 1) ≡ 1 = omega (
+        arith,
+        o,
+        count_none (ends_line whole) here here (omega arith),
+        count_next (ends_line whole) here here (omega arith),
+      ) in
       let some : count (ends_line whole) here (here + 1) ≡ 0 → ⊥ = λ z. omega (arith, n, z) in
       let inside = start_inside whole here (here + 1) (omega arith) some in
       let none = count_none (at_edge whole) (behind_end (last (ends_line whole) here (here + 1))) (here + 1) (omega (arith, inside.0)) in
@@ -83,7 +99,8 @@ module _ (ws : List ℕ) (x : ℕ) (ys : List ℕ) where
   unfolding place_at behind_one
   behind_character = go (eqb x 0x0a) refl
     where
-      go : (t : Bool) → eqb x 0x0a ≡ t → place_at whole (here + width) ≡ cond t (place (line_num whole here + 1) 1) (place (line_num whole here) (col_num whole here + 1))
+      go : (t : Bool) → eqb x 0x0a ≡ t → place_at whole (here + width)
+          ≡ cond t (place (line_num whole here + 1) 1) (place (line_num whole here) (col_num whole here + 1))
       go true e = behind_line_feed e
       go false e = behind_other e
 
@@ -91,12 +108,14 @@ module _ (ws : List ℕ) (x : ℕ) (ys : List ℕ) where
 
 behind_from :
     (ws xs ys : List ℕ)
-    → place_at (encode_all (ws ++ (xs ++ ys))) (length (encode_all (ws ++ xs))) ≡ behind_all (place_at (encode_all (ws ++ (xs ++ ys))) (length (encode_all ws))) xs
+    → place_at (encode_all (ws ++ (xs ++ ys))) (length (encode_all (ws ++ xs)))
+    ≡ behind_all (place_at (encode_all (ws ++ (xs ++ ys))) (length (encode_all ws))) xs
 unfolding behind_all
 behind_from ws [] ys = ap (λ (zs : List ℕ). place_at (encode_all (ws ++ ys)) (length (encode_all zs))) (append-nil ws)
 behind_from ws (x ∷ xs) ys = rest (behind_from (ws ++ x ∷ []) xs ys)
   where
-    one : place_at (encode_all (ws ++ x ∷ (xs ++ ys))) (length (encode_all (ws ++ x ∷ []))) ≡ behind_one (place_at (encode_all (ws ++ x ∷ (xs ++ ys))) (length (encode_all ws))) x
+    one : place_at (encode_all (ws ++ x ∷ (xs ++ ys))) (length (encode_all (ws ++ x ∷ [])))
+        ≡ behind_one (place_at (encode_all (ws ++ x ∷ (xs ++ ys))) (length (encode_all ws))) x
     one = ap (place_at (encode_all (ws ++ x ∷ (xs ++ ys)))) (edge_behind ws x) ∙ behind_character ws x (xs ++ ys)
 
     rest :
@@ -118,29 +137,25 @@ place_behind xs ys = behind_from [] xs ys ∙ ap (λ (p : Place). behind_all p x
 -- ---- the call
 
 module _ (cs : List ℕ) (b : ℕ) where
-  at_edge_lem : (e : Edge cs b) → place_in (encode_all cs) b ≡ Known (behind_all (place 1 1) e.before)
+  at_edge_lem : (e : Edge cs b) → place_in (encode_all cs) b ≡ Ok (behind_all (place 1 1) e.before)
   unfolding place_in place_at
   at_edge_lem e =
       let found : place_at (encode_all cs) b ≡ behind_all (place 1 1) e.before =
       ap (λ (zs : List ℕ). place_at (encode_all zs) b) e.all
       ∙ ap (place_at (encode_all (e.before ++ e.behind))) e.bytes
       ∙ place_behind e.before e.behind in
-      rw (edge_passes cs b e) (ap Known found)
+      rw (edge_passes cs b e) (ap Ok found)
 
-  off_edge : (Edge cs b → ⊥) → place_in (encode_all cs) b ≡ NoSuchPlace
+  off_edge : (Edge cs b → ⊥) → place_in (encode_all cs) b ≡ Err NoSuchPlace
   unfolding place_in
-  off_edge none = go (is_allowed (encode_all cs) b) refl
-    where
-      go : (t : Bool) → is_allowed (encode_all cs) b ≡ t → cond t (Known (place (line_num (encode_all cs) b) (col_num (encode_all cs) b))) NoSuchPlace ≡ NoSuchPlace
-      go true e = absurd (none (edge_is cs b e))
-      go false e = refl
+  off_edge none = rw (false_from_ne_true (is_allowed (encode_all cs) b) (λ e. none (edge_is cs b e)))
 
 pub by_code_points : ByCodePointsHolds
 unfolding line_column
 by_code_points s short formed =
     let text = (utf8_judges s).sound formed in
     let same : (b : ℕ) → line_column s b ≡ place_in (encode_all text.scalar_values) b =
-    λ b. text_tested s LongFile InvalidUtf8 (place_in s b) (record { short = short; well_formed = formed }) ∙ ap (λ (x : List ℕ). place_in x b) (sym text.bytes) in
+    λ b. tested_text s (place_in s b) (record { short = short; well_formed = formed }) ∙ ap (λ (x : List ℕ). place_in x b) (sym text.bytes) in
     record {
       text = text;
       edge = λ b e. same b ∙ at_edge_lem text.scalar_values b e;

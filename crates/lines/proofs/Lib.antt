@@ -1,10 +1,9 @@
+pub mod Testing
 pub mod Counting
 pub mod Moving
 pub mod Placing
 pub mod Ordering
 pub mod Searching
-pub mod Testing
-pub mod Writing
 pub mod CodePoints
 pub mod ThereAndBack
 pub mod Limits

@@ -10,6 +10,7 @@ use native.Mathlib.Omega.{arith}
 use borrow.Author.Tests.{ltb-true, lt-ltb, eqb-true, eq-eqb, ne_eqb, not-false}
 use lib.Dec.{eqb, leb, ltb}
 use lib.ListN.{length}
+use Rattle.std.proofs.lemmas.Bool.{false_from_ne_true}
 use Rattle.characters.specs.Utf8.{is_continuation, at_edge}
 use Rattle.characters.specs.Walk.{count}
 use Rattle.characters.specs.Whitespace.{byte}
@@ -32,7 +33,10 @@ module _ (p q : Place) where
       go : (t : Bool) → ltb (line_of q) (line_of p) ≡ t → t || (eqb (line_of q) (line_of p) && ltb (column_of q) (column_of p)) ≡ true → Past p q
       go true f g = inl (ltb-true (line_of q) (line_of p) f)
       go false f g =
-          inr (eqb-true (line_of q) (line_of p) (and_left (eqb (line_of q) (line_of p)) (ltb (column_of q) (column_of p)) g), ltb-true (column_of q) (column_of p) (and_right (eqb (line_of q) (line_of p)) (ltb (column_of q) (column_of p)) g))
+          inr (
+            eqb-true (line_of q) (line_of p) (and_left (eqb (line_of q) (line_of p)) (ltb (column_of q) (column_of p)) g),
+            ltb-true (column_of q) (column_of p) (and_right (eqb (line_of q) (line_of p)) (ltb (column_of q) (column_of p)) g),
+          )
 
   past_is : Past p q → is_past p q ≡ true
   past_is (inl h) = rw (lt-ltb (line_of q) (line_of p) h)
@@ -59,11 +63,7 @@ itself_not_past : (p : Place) → is_past p p ≡ true → ⊥
 itself_not_past p e = ⊎_elim (λ h. omega arith) (λ h. omega (arith, h.1)) (past_says p p e)
 
 pub not_past_itself : (p : Place) → is_past p p ≡ false
-not_past_itself p = go (is_past p p) refl
-  where
-    go : (t : Bool) → is_past p p ≡ t → t ≡ false
-    go true e = absurd (itself_not_past p e)
-    go false e = refl
+not_past_itself p = false_from_ne_true (is_past p p) (itself_not_past p)
 
 -- ---- the places of a text
 
@@ -139,20 +139,14 @@ stands_where s q m a p = rw (a, eq-eqb (line_num s m) (line_of q) (ap line_of p)
 module _ (s : List ℕ) (q : Place) (m k : ℕ) where
   -- none from an offset on whose place is past it
   pub none_behind : is_past (place_at s k) q ≡ true → k ≤ m → stands s q m ≡ false
-  none_behind p h = go (stands s q m) refl
-    where
-      go : (t : Bool) → stands s q m ≡ t → t ≡ false
-      go true e = absurd (itself_not_past q (subst (λ (x : Place). is_past x q ≡ true) (stands_at s q m e) (places_rise s k m q h p)))
-      go false e = refl
+  none_behind p h =
+      false_from_ne_true (stands s q m) (λ e. itself_not_past q (subst (λ (x : Place). is_past x q ≡ true) (stands_at s q m e) (places_rise s k m q h p)))
 
   -- and none before one whose place is not
   pub none_before : is_past (place_at s k) q ≡ false → m < k → stands s q m ≡ false
-  none_before p h = go (stands s q m) refl
+  none_before p h =
+      false_from_ne_true (stands s q m)
+      (λ e. true≢false (sym (subst (λ (x : Place). is_past (place_at s k) x ≡ true) (stands_at s q m e) (edges_rise s m k h (edge e))) ∙ p))
     where
       edge : stands s q m ≡ true → at_edge s m ≡ true
       edge e = and_right (leb m (length s)) (at_edge s m) (stands_allowed s q m e)
-
-      go : (t : Bool) → stands s q m ≡ t → t ≡ false
-      go true e =
-          absurd (true≢false (sym (subst (λ (x : Place). is_past (place_at s k) x ≡ true) (stands_at s q m e) (edges_rise s m k h (edge e))) ∙ p))
-      go false e = refl

@@ -2,17 +2,18 @@
 use mathlib.Core.Path.{◌≡◌, sym, ap, ◌∙◌}
 use mathlib.Core.Bool.{Bool, true, false, not}
 use mathlib.Core.List.{List}
-use Prim.Native.Nat.{ℕ, ◌+◌, ◌≤◌, ◌<◌}
+use Prim.Native.Nat.{ℕ, ◌≤◌, ◌<◌}
 use native.Mathlib.Omega.{arith}
 use borrow.Author.Rules.{rules}
 use borrow.Author.Tests.{le-leb, lt-leb}
 use lib.ListN.{length}
+use Rattle.std.specs.Prelude.{Ok, Err}
 use Rattle.characters.specs.Utf8.{is_continuation, at_edge}
 use Rattle.characters.specs.Whitespace.{byte}
 use Rattle.lines.specs.declared.Place.{Place}
-use Rattle.lines.specs.declared.LineColumn.TheVariants.{Known, NoSuchPlace}
+use Rattle.lines.specs.declared.PlaceError.TheVariants.{NoSuchPlace}
 use Rattle.lines.specs.Lines.{line_num, col_num, place, place_in}
-use Rattle.lines.specs.Places.{ShortRange, place_at}
+use Rattle.lines.specs.Places.{place_at}
 use Rattle.lines.proofs.Moving.{line_from, line_to, column_from, column_to}
 
 pub first_placed : (s : List ℕ) → place 1 1 ≡ place_at s 0
@@ -25,15 +26,10 @@ first_placed s =
 pub place_begins : (s : List ℕ) (p : Place) → p ≡ place 1 1 → p ≡ place_at s 0
 place_begins s p is = is ∙ first_placed s
 
-pub range_is : (s : List ℕ) (i e : ℕ) → i ≤ e → e ≤ i + 64 → e ≤ length s → ShortRange s i e
-range_is s i e h l g = record { ordered = h; short = l; inside = g }
-
-pub ruleset passing_blocks = (rules, place_begins, range_is)
-
 -- ---- number 11
 
 module _ (s : List ℕ) (b : ℕ) where
-  pub place_above : length s < b → NoSuchPlace ≡ place_in s b
+  pub place_above : length s < b → Err NoSuchPlace ≡ place_in s b
   unfolding place_in
   place_above h = rw (lt-leb b (length s) h)
 
@@ -41,12 +37,12 @@ module _ (s : List ℕ) (b : ℕ) where
     edge_answer : at_edge s b ≡ not r
     edge_answer = ap (λ (y : ℕ). not (is_continuation y)) (sym q) ∙ ap not (sym inside)
 
-    pub place_inside : r ≡ true → NoSuchPlace ≡ place_in s b
+    pub place_inside : r ≡ true → Err NoSuchPlace ≡ place_in s b
     unfolding place_in
     place_inside t = rw (le-leb b (length s) h, edge_answer, t)
 
-    pub place_known : (p : Place) → r ≡ false → p ≡ place_at s b → Known p ≡ place_in s b
+    pub place_known : (p : Place) → r ≡ false → p ≡ place_at s b → Ok p ≡ place_in s b
     unfolding place_in place_at
-    place_known p t is = rw (le-leb b (length s) h, edge_answer, t) (ap Known is)
+    place_known p t is = rw (le-leb b (length s) h, edge_answer, t) (ap Ok is)
 
 pub ruleset judging_offset = (rules, place_above, place_inside, place_known)

@@ -1,5 +1,5 @@
 -- The search for the offset of a place: it comes to the last offset whose place is not past it. That offset stands there if any does.
-use mathlib.Core.Path.{◌≡◌, refl, sym, ap, subst, ◌∙◌}
+use mathlib.Core.Path.{◌≡◌, refl, sym, ap, ◌∙◌}
 use mathlib.Core.Bool.{Bool, true, false, true≢false}
 use mathlib.Core.List.{List}
 use mathlib.Core.Logic.{◌⊎◌, inl, inr, ⊎_elim}
@@ -9,6 +9,8 @@ use native.Mathlib.Omega.{arith}
 use borrow.Author.Rules.{rules}
 use borrow.Author.Tests.{le-leb, lt-leb}
 use lib.ListN.{length}
+use Rattle.std.specs.Prelude.{Ok, Err}
+use Rattle.std.proofs.lemmas.Bool.{false_from_ne_true}
 use Rattle.characters.specs.Utf8.{at_edge}
 use Rattle.characters.proofs.Tests.{le_or_lt}
 use Rattle.characters.proofs.Walks.{first_none, first_over}
@@ -16,51 +18,18 @@ use Rattle.characters.proofs.Firsts.{first_only}
 use Rattle.characters.proofs.Edges.{end_edge}
 use Rattle.lines.specs.declared.Place.{Place}
 use Rattle.lines.specs.declared.search.Reached.{Reached}
-use Rattle.lines.specs.declared.OffsetAt.TheVariants.{Known, NoSuchPlace}
+use Rattle.lines.specs.declared.PlaceError.TheVariants.{NoSuchPlace}
 use Rattle.lines.specs.Lines.{place, is_allowed, stands, offset_of, offset_in}
 use Rattle.lines.specs.Places.{place_at, is_past, Reaches, Passes}
-use Rattle.lines.proofs.Placing.{place_begins, range_is}
+use Rattle.lines.proofs.Placing.{place_begins}
 use Rattle.lines.proofs.Ordering.{neither_past, inside_stays, stands_at, stands_where, none_behind, none_before}
-
--- ---- one pass, by w bytes at a time
 
 abbrev reached_at : ℕ → Place → Reached
 reached_at k p = record { byte = record { 0 = k }; place = p }
 
--- it stands at k, at the place p
-module _ (s : List ℕ) (q : Place) (w k : ℕ) (p : Place) (inside : k ≤ length s) (is : p ≡ place_at s k) (near : is_past p q ≡ false) where
-  pub reaches_here : Reaches s q (reached_at k p)
-  reaches_here = record { inside = inside; is = is; near = near }
-
-  -- the next place is past what is sought
-  pub pass_stops : (t : Bool) (e : ℕ) (there : Place) → e ≡ k + w → there ≡ place_at s e → t ≡ is_past there q → t ≡ true → Passes s q w (reached_at k p)
-  pass_stops t e there n r a b =
-      record { reaches = reaches_here; next = λ h. subst (λ (x : ℕ). is_past (place_at s x) q ≡ true) n (ap (λ (x : Place). is_past x q) (sym r) ∙ sym a ∙ b) }
-
-  -- or behind the text
-  pub pass_ends : length s < k + w → Passes s q w (reached_at k p)
-  pass_ends h = record { reaches = reaches_here; next = λ l. absurd (omega (arith, h, l)) }
-
--- where it begins
-pub reached_is : (s : List ℕ) (q : Place) (r : Reached) → Reaches s q r → r.place ≡ place_at s r.byte.0
-reached_is s q r h = h.is
-
-pub reached_near : (s : List ℕ) (q : Place) (r : Reached) → Reaches s q r → is_past r.place q ≡ false
-reached_near s q r h = h.near
-
-pub reached_inside : (s : List ℕ) (q : Place) (r : Reached) → Reaches s q r → r.byte.0 ≤ length s
-reached_inside s q r h = h.inside
-
-pub near_again : (t : Bool) (p q : Place) → t ≡ is_past p q → t ≡ false → is_past p q ≡ false
-near_again t p q a b = sym a ∙ b
-
-pub ruleset passing = (rules, range_is, reached_is, reached_near, reached_inside, near_again, pass_stops, pass_ends)
-
--- ---- what the search comes to
-
 module _ (s : List ℕ) (q : Place) where
   -- no offset stands there
-  none_stands : ((m : ℕ) → m ≤ length s → stands s q m ≡ false) → NoSuchPlace ≡ offset_in s q
+  none_stands : ((m : ℕ) → m ≤ length s → stands s q m ≡ false) → Err NoSuchPlace ≡ offset_in s q
   unfolding offset_in
   none_stands f =
       let past : offset_of s q ≡ length s + 1 =
@@ -69,7 +38,7 @@ module _ (s : List ℕ) (q : Place) where
       rw (lt-leb (offset_of s q) (length s) (omega (arith, past)))
 
   -- the text begins past what is sought
-  pub search_begins_past : (t : Bool) (p : Place) → p ≡ place 1 1 → t ≡ is_past p q → t ≡ true → NoSuchPlace ≡ offset_in s q
+  pub search_begins_past : (t : Bool) (p : Place) → p ≡ place 1 1 → t ≡ is_past p q → t ≡ true → Err NoSuchPlace ≡ offset_in s q
   search_begins_past t p b a e =
       none_stands (λ m h. none_behind s q m 0 (ap (λ (x : Place). is_past x q) (sym (place_begins s p b)) ∙ sym a ∙ e) (omega arith))
 
@@ -86,31 +55,33 @@ module _ (s : List ℕ) (q : Place) where
 
     module _ (t : Bool) (is : t ≡ is_past q r.place) where
       -- its place is before what is sought: no offset stands there
-      pub search_passes : t ≡ true → NoSuchPlace ≡ offset_in s q
+      pub search_passes : t ≡ true → Err NoSuchPlace ≡ offset_in s q
       search_passes e = none_stands (λ m h. by m h (le_or_lt (r.byte.0 + 1) m))
         where
           at_most : (m : ℕ) → m < r.byte.0 + 1 → m ≤ r.byte.0
           at_most m l = omega arith
 
-          not_here : (m : ℕ) → m ≡ r.byte.0 → (u : Bool) → stands s q m ≡ u → u ≡ false
-          not_here m g true f =
+          not_here : (m : ℕ) → m ≡ r.byte.0 → stands s q m ≡ true → ⊥
+          not_here m g f =
               let same : r.place ≡ q = here ∙ ap (place_at s) (sym g) ∙ stands_at s q m f in
-              absurd (true≢false (sym (sym is ∙ e) ∙ ap (λ (x : Place). is_past q x) same ∙ ap (λ (x : Place). is_past x q) (sym same) ∙ passes.reaches.near))
-          not_here m g false f = refl
+              true≢false
+              (sym (sym is ∙ e) ∙ ap (λ (x : Place). is_past q x) same ∙ ap (λ (x : Place). is_past x q) (sym same) ∙ passes.reaches.near)
 
           by : (m : ℕ) → m ≤ length s → (r.byte.0 + 1 ≤ m) ⊎ (m < r.byte.0 + 1) → stands s q m ≡ false
           by m h (inl l) = none_behind s q m (r.byte.0 + 1) (passes.next (omega arith)) l
           by m h (inr l) =
-              ⊎_elim (λ g. not_here m g (stands s q m) refl) (λ g. none_before s q m r.byte.0 near g) (eq-or-lt_of_le (at_most m l))
+              ⊎_elim (λ g. false_from_ne_true (stands s q m) (not_here m g)) (λ g. none_before s q m r.byte.0 near g) (eq-or-lt_of_le (at_most m l))
 
       -- its place is what is sought: it stands there, and no other does
-      pub search_finds : t ≡ false → Known r.byte ≡ offset_in s q
+      pub search_finds : t ≡ false → Ok r.byte ≡ offset_in s q
       unfolding offset_in
       search_finds e =
           let same : place_at s r.byte.0 ≡ q = sym here ∙ neither_past r.place q passes.reaches.near (sym is ∙ e) in
           let at = stands_where s q r.byte.0 (allowed same) same in
-          let found = first_only (stands s q) 0 r.byte.0 (length s + 1) (omega arith) (omega (arith, passes.reaches.inside)) at (λ m h l. none_before s q m r.byte.0 near l) in
-          rw (le-leb (offset_of s q) (length s) (omega (arith, found, passes.reaches.inside))) (ap (λ (x : ℕ). Known (record { 0 = x })) (sym found))
+          let found =
+          first_only (stands s q) 0 r.byte.0 (length s + 1) (omega arith) (omega (arith, passes.reaches.inside)) at
+          (λ m h l. none_before s q m r.byte.0 near l) in
+          rw (le-leb (offset_of s q) (length s) (omega (arith, found, passes.reaches.inside))) (ap (λ (x : ℕ). Ok (record { 0 = x })) (sym found))
         where
           edge : place_at s r.byte.0 ≡ q → (u : Bool) → at_edge s r.byte.0 ≡ u → (r.byte.0 ≡ length s) ⊎ (r.byte.0 < length s) → u ≡ true
           edge same true f g = refl

@@ -1,15 +1,17 @@
--- The tests of a source that both calls begin with: one law for each of the three ways, whatever the call answers, and what an answer says of the
--- source.
-use mathlib.Core.Path.{◌≡◌, refl, sym, ◌∙◌}
-use mathlib.Core.Bool.{Bool, true, false, cond, not, false≢true}
+-- The tests of a source that both calls begin with, whatever the call answers then, and what an answer says of the source.
+use mathlib.Core.Path.{◌≡◌, refl, sym, ap, ◌∙◌}
+use mathlib.Core.Bool.{Bool, true, false, cond, false≢true}
 use mathlib.Core.List.{List}
-use Prim.Native.Nat.{ℕ, ◌≤◌, ◌<◌}
-use borrow.Author.Rules.{rules}
-use borrow.Author.Tests.{lt-ltb, le-ltb, ltb-false, not-true, not-false}
+use Prim.Native.Nat.{ℕ, ◌≤◌}
+use borrow.Author.Tests.{le-ltb, ltb-false}
 use lib.Dec.{ltb}
 use lib.ListN.{length}
+use Rattle.std.specs.Prelude.{Result, Ok, Err}
+use Rattle.std.specs.Result.{is_ok, result_and}
 use Rattle.answers.specs.Numbers.{most_source}
 use Rattle.characters.specs.Utf8.{utf8}
+use Rattle.lines.specs.declared.PlaceError.{PlaceError}
+use Rattle.lines.specs.declared.PlaceError.TheVariants.{LongFile, InvalidUtf8}
 use Rattle.lines.specs.Lines.{tested}
 
 -- the source passes the tests 1 and 3
@@ -17,32 +19,49 @@ pub record Text (s : List ℕ) : Type 0 where
   pub short : length s ≤ most_source
   pub well_formed : utf8 s ≡ true
 
-module _ {A : Type 0} (s : List ℕ) (long invalid answer : A) where
-  pub tested_long : most_source < length s → long ≡ tested s long invalid answer
+-- what is known, and y of a refusal
+abbrev pub ok_or_else : {A : Type 0} → Result A PlaceError → A → A
+ok_or_else (Ok x) y = x
+ok_or_else (Err e) y = y
+
+module _ {A : Type 0} (s : List ℕ) (answer : Result A PlaceError) where
+  -- the tests come first, and then the answer
+  tests_first : tested s answer ≡ result_and (tested s (Ok (tt {0}))) answer
   unfolding tested
-  tested_long h = rw (lt-ltb most_source (length s) h)
-
-  module _ (h : length s ≤ most_source) (t : Bool) (is : t ≡ utf8 s) where
-    pub tested_invalid : not t ≡ true → invalid ≡ tested s long invalid answer
-    unfolding tested
-    tested_invalid e = rw (le-ltb most_source (length s) h, sym is ∙ not-true t e)
-
-    pub tested_text : (r : A) → not t ≡ false → r ≡ answer → r ≡ tested s long invalid answer
-    unfolding tested
-    tested_text r e f = rw (le-ltb most_source (length s) h, sym is ∙ not-false t e) f
-
-  pub text_tested : Text s → tested s long invalid answer ≡ answer
-  unfolding tested
-  text_tested h = rw (le-ltb most_source (length s) h.short, h.well_formed)
-
-  -- an answer that is no refusal by 1 or 3 is one of a text
-  pub tested_of_text : (P : A → Bool) → P long ≡ false → P invalid ≡ false → P (tested s long invalid answer) ≡ true → Text s
-  unfolding tested
-  tested_of_text P not-long not-invalid e = go (ltb most_source (length s)) (utf8 s) refl refl e
+  tests_first = go (ltb most_source (length s)) (utf8 s)
     where
-      go : (t u : Bool) → ltb most_source (length s) ≡ t → utf8 s ≡ u → P (cond t long (cond u answer invalid)) ≡ true → Text s
-      go true u x y e = absurd (false≢true (sym not-long ∙ e))
-      go false false x y e = absurd (false≢true (sym not-invalid ∙ e))
-      go false true x y e = record { short = ltb-false most_source (length s) x; well_formed = y }
+      go : (t u : Bool) → cond t (Err LongFile) (cond u answer (Err InvalidUtf8))
+          ≡ result_and (cond t (Err LongFile) (cond u (Ok (tt {0})) (Err InvalidUtf8))) answer
+      go true u = refl
+      go false true = refl
+      go false false = refl
 
-pub ruleset testing = (rules, tested_long, tested_invalid, tested_text)
+  pub tested_text : Text s → tested s answer ≡ answer
+  unfolding tested
+  tested_text h = rw (le-ltb most_source (length s) h.short, h.well_formed)
+
+  -- what is known is known of a text
+  pub text_known : (x : A) → tested s answer ≡ Ok x → Text s × (answer ≡ Ok x)
+  unfolding tested
+  text_known x e = go (ltb most_source (length s)) (utf8 s) refl refl e
+    where
+      go : (t u : Bool) → ltb most_source (length s) ≡ t → utf8 s ≡ u → cond t (Err LongFile) (cond u answer (Err InvalidUtf8)) ≡ Ok x
+          → Text s × (answer ≡ Ok x)
+      go true u l w e = absurd (false≢true (ap is_ok e))
+      go false false l w e = absurd (false≢true (ap is_ok e))
+      go false true l w e = (record { short = ltb-false most_source (length s) l; well_formed = w }, e)
+
+  -- ---- the tests alone gave r
+
+  module _ (r : Result (Unit {0}) PlaceError) (is : r ≡ tested s (Ok tt)) where
+    then_answer : tested s answer ≡ result_and r answer
+    then_answer = tests_first ∙ ap (λ (x : Result (Unit {0}) PlaceError). result_and x answer) (sym is)
+
+    pub refused_first : (e : PlaceError) → r ≡ Err e → Err e ≡ tested s answer
+    refused_first e h = sym (then_answer ∙ ap (λ (x : Result (Unit {0}) PlaceError). result_and x answer) h)
+
+    pub passed_first : (u : Unit {0}) → r ≡ Ok u → tested s answer ≡ answer
+    passed_first u h = then_answer ∙ ap (λ (x : Result (Unit {0}) PlaceError). result_and x answer) h
+
+pub passed_short : (s : List ℕ) (r : Result (Unit {0}) PlaceError) (u : Unit {0}) → r ≡ tested s (Ok tt) → r ≡ Ok u → length s ≤ most_source
+passed_short s r u is h = (text_known s (Ok tt) u (sym is ∙ h)).0.short

@@ -3,7 +3,7 @@
 use Rattle.characters.specs.Computing.{computing as characters-computing}
 use Rattle.area.specs.Computing.{computing as area-computing}
 use Rattle.lines.specs.CodePoints.{behind_one, behind_all}
-use Rattle.lines.specs.Lines.{line_num, behind_end, line_byte, col_num, tested, place_in, line_column, offset_in, offset_at, line_column_fields, place_left, offset_fields}
+use Rattle.lines.specs.Lines.{line_num, behind_end, line_byte, col_num, tested, place_in, line_column, offset_in, offset_at, refusal_number, line_column_fields, place_left, offset_fields}
 use Rattle.lines.specs.Places.{place_at}
 
 unfoldable code_points_file : Unit {0}
@@ -11,7 +11,7 @@ unfolding behind_one behind_all
 code_points_file = tt
 
 unfoldable lines_file : Unit {0}
-unfolding line_num behind_end line_byte col_num tested place_in line_column offset_in offset_at line_column_fields place_left offset_fields
+unfolding line_num behind_end line_byte col_num tested place_in line_column offset_in offset_at refusal_number line_column_fields place_left offset_fields
 lines_file = tt
 
 unfoldable places_file : Unit {0}

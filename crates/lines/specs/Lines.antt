@@ -1,17 +1,14 @@
 -- The line and column of an offset, and the offset of a line and column (02, 1/13).
-use Rattle.std.specs.Prelude.{ℕ, ◌+◌, Bool, cond, ◌&&◌, List, [], ◌∷◌, eqb, leb, ltb, length}
+use Rattle.std.specs.Prelude.{ℕ, ◌+◌, Bool, cond, ◌&&◌, List, [], ◌∷◌, eqb, leb, ltb, length, Option, Some, None, Result, Ok, Err}
 use Rattle.answers.specs.Numbers.{accepted_number, long_file_number, invalid_utf8_number, no_such_place_number, most_source}
 use Rattle.answers.specs.Words.{Fields, fields, word}
 use Rattle.characters.specs.Utf8.{at_edge, is_edge, utf8}
 use Rattle.characters.specs.Walk.{first, last, count}
 use Rattle.characters.specs.Whitespace.{byte}
-use Rattle.characters.specs.declared.Found.{Found}
-use Rattle.characters.specs.declared.Found.TheVariants.{At, Nothing}
+use Rattle.lines.specs.declared.Byte.{Byte}
 use Rattle.lines.specs.declared.Place.{Place}
-use Rattle.lines.specs.declared.LineColumn.{LineColumn}
-use Rattle.lines.specs.declared.LineColumn.TheVariants as L
-use Rattle.lines.specs.declared.OffsetAt.{OffsetAt}
-use Rattle.lines.specs.declared.OffsetAt.TheVariants as O
+use Rattle.lines.specs.declared.PlaceError.{PlaceError}
+use Rattle.lines.specs.declared.PlaceError.TheVariants.{LongFile, InvalidUtf8, NoSuchPlace}
 
 -- ---- the line and column of an offset
 
@@ -28,9 +25,9 @@ unfoldable pub line_num : List ℕ → ℕ → ℕ
 line_num s b = 1 + count (ends_line s) 0 b
 
 -- behind a line end; 0 where there is none
-unfoldable pub behind_end : Found → ℕ
-behind_end Nothing = 0
-behind_end (At k) = k + 1
+unfoldable pub behind_end : Option ℕ → ℕ
+behind_end None = 0
+behind_end (Some k) = k + 1
 
 -- where that line starts: behind the last line end before b, or at 0
 unfoldable pub line_byte : List ℕ → ℕ → ℕ
@@ -59,16 +56,16 @@ is_allowed s b = is_edge s b
 -- ---- the calls
 
 -- what a call answers by the tests 1 and 3, and otherwise of the text (02, 1/13)
-unfoldable pub tested : {A : Type 0} → List ℕ → A → A → A → A
-tested s long invalid answer = cond (ltb most_source (length s)) long (cond (utf8 s) answer invalid)
+unfoldable pub tested : {A : Type 0} → List ℕ → Result A PlaceError → Result A PlaceError
+tested s answer = cond (ltb most_source (length s)) (Err LongFile) (cond (utf8 s) answer (Err InvalidUtf8))
 
 -- the place of an offset of a text, number 11 where the offset is not allowed (02, 1/13)
-unfoldable pub place_in : List ℕ → ℕ → LineColumn
-place_in s b = cond (is_allowed s b) (L.Known (place (line_num s b) (col_num s b))) L.NoSuchPlace
+unfoldable pub place_in : List ℕ → ℕ → Result Place PlaceError
+place_in s b = cond (is_allowed s b) (Ok (place (line_num s b) (col_num s b))) (Err NoSuchPlace)
 
 -- the line and column of an offset: 1, 3, then 11 (02, 1/13)
-unfoldable pub line_column : List ℕ → ℕ → LineColumn
-line_column s b = tested s L.LongFile L.InvalidUtf8 (place_in s b)
+unfoldable pub line_column : List ℕ → ℕ → Result Place PlaceError
+line_column s b = tested s (place_in s b)
 
 -- the offset b is allowed, and has the line and column of p
 abbrev pub stands : List ℕ → Place → ℕ → Bool
@@ -79,31 +76,37 @@ abbrev pub offset_of : List ℕ → Place → ℕ
 offset_of s p = first (stands s p) 0 (length s + 1)
 
 -- the same, number 11 where there is none (02, 1/13)
-unfoldable pub offset_in : List ℕ → Place → OffsetAt
-offset_in s p = cond (leb (offset_of s p) (length s)) (O.Known (record { 0 = offset_of s p })) O.NoSuchPlace
+unfoldable pub offset_in : List ℕ → Place → Result Byte PlaceError
+offset_in s p = cond (leb (offset_of s p) (length s)) (Ok (record { 0 = offset_of s p })) (Err NoSuchPlace)
 
 -- the offset of a line and column: 1, 3, then 11 (02, 1/13)
-unfoldable pub offset_at : List ℕ → Place → OffsetAt
-offset_at s p = tested s O.LongFile O.InvalidUtf8 (offset_in s p)
+unfoldable pub offset_at : List ℕ → Place → Result Byte PlaceError
+offset_at s p = tested s (offset_in s p)
 
 -- ---- the answers as words, and what is left
 
--- the number of each answer of line_column; its values do not fit a word
-unfoldable pub line_column_fields : LineColumn → Fields
-line_column_fields (L.Known p) = fields accepted_number 0 0 0
-line_column_fields L.LongFile = fields long_file_number 0 0 0
-line_column_fields L.InvalidUtf8 = fields invalid_utf8_number 0 0 0
-line_column_fields L.NoSuchPlace = fields no_such_place_number 0 0 0
+-- the number of each refusal
+unfoldable pub refusal_number : PlaceError → ℕ
+refusal_number LongFile = long_file_number
+refusal_number InvalidUtf8 = invalid_utf8_number
+refusal_number NoSuchPlace = no_such_place_number
 
-abbrev pub line_column_word : LineColumn → ℕ
+-- a refusal has no values
+abbrev pub refusal_fields : PlaceError → Fields
+refusal_fields e = fields (refusal_number e) 0 0 0
+
+-- the number of each answer of line_column; its values do not fit a word
+unfoldable pub line_column_fields : Result Place PlaceError → Fields
+line_column_fields (Ok p) = fields accepted_number 0 0 0
+line_column_fields (Err e) = refusal_fields e
+
+abbrev pub line_column_word : Result Place PlaceError → ℕ
 line_column_word x = word (line_column_fields x)
 
 -- what stands then where the line and column are written; a refusal leaves it as it was
-unfoldable pub place_left : LineColumn → List ℕ → List ℕ
-place_left (L.Known p) was = line_of p ∷ column_of p ∷ []
-place_left L.LongFile was = was
-place_left L.InvalidUtf8 was = was
-place_left L.NoSuchPlace was = was
+unfoldable pub place_left : Result Place PlaceError → List ℕ → List ℕ
+place_left (Ok p) was = line_of p ∷ column_of p ∷ []
+place_left (Err e) was = was
 
 -- what the line_column call leaves: its word, and the line and column
 pub record LineColumnLeft : Type 0 where
@@ -118,11 +121,9 @@ abbrev pub line_column_call : List ℕ → ℕ → List ℕ → LineColumnLeft
 line_column_call s b was = line_column_left (line_column_word (line_column s b)) (place_left (line_column s b) was)
 
 -- the number and the value of each answer of offset_at
-unfoldable pub offset_fields : OffsetAt → Fields
-offset_fields (O.Known b) = fields accepted_number b.0 0 0
-offset_fields O.LongFile = fields long_file_number 0 0 0
-offset_fields O.InvalidUtf8 = fields invalid_utf8_number 0 0 0
-offset_fields O.NoSuchPlace = fields no_such_place_number 0 0 0
+unfoldable pub offset_fields : Result Byte PlaceError → Fields
+offset_fields (Ok b) = fields accepted_number b.0 0 0
+offset_fields (Err e) = refusal_fields e
 
-abbrev pub offset_word : OffsetAt → ℕ
+abbrev pub offset_word : Result Byte PlaceError → ℕ
 offset_word x = word (offset_fields x)

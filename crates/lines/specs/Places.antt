@@ -1,11 +1,11 @@
 -- What the code of lines and columns goes by. No sentence of 02 is in this file, and no answer depends on it.
 use Rattle.std.specs.Prelude.{ℕ, ◌+◌, ◌≤◌, ◌<◌, ◌≡◌, Bool, true, false, ◌&&◌, ◌||◌, List, eqb, ltb, length}
+use Rattle.std.specs.Prelude.{Result, Ok, Option, MatchOption}
+use Rattle.characters.specs.Walk.{count}
+use Rattle.characters.specs.Whitespace.{byte}
 use Rattle.lines.specs.declared.Byte.{Byte}
 use Rattle.lines.specs.declared.Place.{Place}
-use Rattle.lines.specs.declared.LineColumn.{LineColumn}
-use Rattle.lines.specs.declared.LineColumn.TheVariants as L
-use Rattle.lines.specs.declared.OffsetAt.{OffsetAt}
-use Rattle.lines.specs.declared.OffsetAt.TheVariants as O
+use Rattle.lines.specs.declared.PlaceError.{PlaceError}
 use Rattle.lines.specs.declared.search.Reached.{Reached}
 use Rattle.lines.specs.Lines.{line_num, col_num, place, line_of, column_of}
 
@@ -14,6 +14,11 @@ pub record ShortRange (s : List ℕ) (i e : ℕ) : Type 0 where
   pub ordered : i ≤ e
   pub inside : e ≤ length s
   pub short : e ≤ i + 64
+
+-- n bytes from i to before e pass the test whose answers are given: any that tells of each byte what it answers
+abbrev pub Counts : (ℕ → Bool → Type 0) → List ℕ → ℕ → ℕ → ℕ → Type 0
+Counts answers s i e n =
+    (passes : ℕ → Bool) → ((b : ℕ) (r : Bool) → answers b r → r ≡ passes b) → n ≡ count (λ k. passes (byte s k)) i e
 
 -- the line and column of any offset, allowed or not
 unfoldable pub place_at : List ℕ → ℕ → Place
@@ -34,11 +39,16 @@ pub record Passes (s : List ℕ) (sought : Place) (width : ℕ) (r : Reached) : 
   pub reaches : Reaches s sought r
   pub next : r.byte.0 + width ≤ length s → is_past (place_at s (r.byte.0 + width)) sought ≡ true
 
+-- what comes next so many bytes behind r; or nothing does, and a pass by that width ends at r
+abbrev pub Next : List ℕ → Place → ℕ → Reached → Option Reached → Type 0
+Next s sought width r next =
+    MatchOption next (Passes s sought width r) (λ t. Reaches s sought t × (t.byte.0 ≡ r.byte.0 + width))
+
 -- the line and column that are answered have four bytes at most
-pub record SmallPlace (x : LineColumn) : Type 0 where
-  pub line : (p : Place) → x ≡ L.Known p → line_of p < 4294967296
-  pub column : (p : Place) → x ≡ L.Known p → column_of p < 4294967296
+pub record SmallPlace (x : Result Place PlaceError) : Type 0 where
+  pub line : (p : Place) → x ≡ Ok p → line_of p < 4294967296
+  pub column : (p : Place) → x ≡ Ok p → column_of p < 4294967296
 
 -- the offset that is answered has two
-pub record SmallOffset (x : OffsetAt) : Type 0 where
-  pub offset : (b : Byte) → x ≡ O.Known b → b.0 < 65536
+pub record SmallOffset (x : Result Byte PlaceError) : Type 0 where
+  pub offset : (b : Byte) → x ≡ Ok b → b.0 < 65536

@@ -1,10 +1,10 @@
-// What is counted in a range of at most 64 bytes. The counts look at every byte, so that the compiler can take many at once, and are one byte wide.
-ghost use Rattle.std.specs.Prelude.{◌≡◌, ◌+◌, eqb};
-ghost use Rattle.area.specs.Phrases.{before};
-ghost use Rattle.characters.specs.Utf8.{at_edge};
-ghost use Rattle.characters.specs.Walk.{one_if, last, count};
+// What is counted in a block. The counts look at every byte, so that the compiler can take many at once, and are one byte wide.
+ghost use Rattle.std.specs.Prelude.{◌≡◌, ◌≤◌, ◌+◌, not, eqb, length};
+ghost use Rattle.answers.specs.Numbers.{most_source};
+ghost use Rattle.characters.specs.Utf8.{is_continuation, at_edge};
+ghost use Rattle.characters.specs.Walk.{last, count};
 ghost use Rattle.lines.specs.Lines.{line_feed, ends_line, behind_end};
-ghost use Rattle.lines.specs.Places.{ShortRange};
+ghost use Rattle.lines.specs.Places.{ShortRange, Counts};
 
 use crate::{Byte, ColNum, LineByte};
 use characters::utf8::is_continuation;
@@ -18,62 +18,73 @@ fn ends_line(b: u8) -> bool
     b == LINE_FEED
 }
 
-fn one_if(t: bool) -> u8
-    ensures { result ≡ one_if t }
+fn starts_character(b: u8) -> bool
+    ensures { result ≡ not (is_continuation b) }
 {
-    if t { 1 } else { 0 }
+    !is_continuation(b)
 }
 
-// How many lines end there.
-pub fn line_ends(s: &[u8], from: Byte, to: Byte) -> u8
-    requires { ShortRange s.now from.0 to.0 }
-    ensures { result ≡ count (ends_line s.now) from.0 to.0 }
-{
-    let e = to.0;
-    let mut k = from.0;
-    let mut n = 0;
-    while k < e {
-        n += one_if(ends_line(s[k]));
-        k += 1;
-    }
-    n
+// A source that is not too long.
+#[derive(Clone, Copy)]
+pub struct Source<'a> {
+    pub bytes: &'a [u8],
+    ghost short: { length bytes.now ≤ most_source },
 }
 
-// How many characters start there.
-pub fn characters(s: &[u8], from: Byte, to: Byte) -> u8
-    requires { ShortRange s.now from.0 to.0 }
-    ensures { result ≡ count (at_edge s.now) from.0 to.0 }
-{
-    let e = to.0;
-    let mut k = from.0;
-    let mut n = 0;
-    while k < e {
-        n += one_if(!is_continuation(s[k]));
-        k += 1;
-    }
-    n
+// At most 64 bytes of a source, so that what is counted fits one byte.
+#[derive(Clone, Copy)]
+pub struct Block<'a> {
+    pub source: Source<'a>,
+    pub from: Byte,
+    pub to: Byte,
+    ghost range: { ShortRange source.bytes.now from.0 to.0 },
 }
 
-// The column of an offset whose line starts there.
-pub fn col_num(s: &[u8], start: LineByte, byte: Byte) -> ColNum
-    requires { ShortRange s.now start.0 byte.0 }
-    ensures { result.0 ≡ 1 + count (at_edge s.now) start.0 byte.0 }
-{
-    ColNum(1 + characters(s, Byte(start.0), byte) as u64)
-}
-
-// Where the line starts that follows the last line end there; 0 where no line ends there.
-pub fn line_byte(s: &[u8], from: Byte, to: Byte) -> LineByte
-    requires { ShortRange s.now from.0 to.0 }
-    ensures { result.0 ≡ behind_end (last (ends_line s.now) from.0 to.0) }
-{
-    let i = from.0;
-    let mut k = to.0;
-    while i < k {
-        if ends_line(s[k - 1]) {
-            return LineByte(k);
+impl Block<'_> {
+    // How many bytes pass a test.
+    fn count<F: Fn(u8) -> bool>(&self, test: F) -> u8
+        requires { F.IsAlwaysCallable test }
+        ensures { Counts (F.post test) self.now.source.bytes.now self.now.from.0 self.now.to.0 result }
+    {
+        let bytes = &self.source.bytes[self.from.0..self.to.0];
+        let mut n = 0;
+        for b in bytes {
+            n += u8::from(test(*b));
         }
-        k -= 1;
+        n
     }
-    LineByte(0)
+
+    // How many lines end there.
+    pub fn line_ends(&self) -> u8
+        ensures { result ≡ count (ends_line self.now.source.bytes.now) self.now.from.0 self.now.to.0 }
+    {
+        self.count(ends_line)
+    }
+
+    // How many characters start there.
+    pub fn characters(&self) -> u8
+        ensures { result ≡ count (at_edge self.now.source.bytes.now) self.now.from.0 self.now.to.0 }
+    {
+        self.count(starts_character)
+    }
+
+    // Where the line starts that follows the last line end there; 0 where no line ends there.
+    pub fn line_byte(&self) -> LineByte
+        ensures { result.0 ≡ behind_end (last (ends_line self.now.source.bytes.now) self.now.from.0 self.now.to.0) }
+    {
+        let bytes = &self.source.bytes[self.from.0..self.to.0];
+        for k in (0..bytes.len()).rev() {
+            if ends_line(bytes[k]) {
+                return LineByte(self.from.0 + k + 1);
+            }
+        }
+        LineByte(0)
+    }
+
+    // The column of the block's end, where its line starts with the block.
+    pub fn col_num(&self) -> ColNum
+        ensures { result.0 ≡ 1 + count (at_edge self.now.source.bytes.now) self.now.from.0 self.now.to.0 }
+    {
+        ColNum(1 + u64::from(self.characters()))
+    }
 }

@@ -3,46 +3,36 @@
 #![tactic(auto)]
 
 pub mod call; // the two calls
-mod counts; // what is counted in a range of bytes
+mod counts; // what is counted in a block
 mod places; // from offset to place
 mod search; // from place to offset
 
 // A byte offset.
-#[derive(Clone, Copy)]
+#[derive(Clone, Copy, PartialEq, Eq, PartialOrd, Ord, Debug)]
 pub struct Byte(pub usize);
 
 // The byte offset of a line's start.
-#[derive(Clone, Copy)]
+#[derive(Clone, Copy, PartialEq, Eq, PartialOrd, Ord, Debug)]
 pub struct LineByte(pub usize);
 
 // A line's number, from 1.
-#[derive(Clone, Copy)]
+#[derive(Clone, Copy, PartialEq, Eq, PartialOrd, Ord, Debug)]
 pub struct LineNum(pub u64);
 
 // A column's number, from 1, in characters.
-#[derive(Clone, Copy)]
+#[derive(Clone, Copy, PartialEq, Eq, PartialOrd, Ord, Debug)]
 pub struct ColNum(pub u64);
 
-// A line and a column.
-#[derive(Clone, Copy)]
+// A line and a column, ordered as they stand in a text.
+#[derive(Clone, Copy, PartialEq, Eq, PartialOrd, Ord, Debug)]
 pub struct Place {
     pub line_num: LineNum,
     pub col_num: ColNum,
 }
 
-// What is answered of an offset.
-#[derive(Clone, Copy)]
-pub enum LineColumn {
-    Known(Place),
-    LongFile,
-    InvalidUtf8,
-    NoSuchPlace,
-}
-
-// What is answered of a line and column.
-#[derive(Clone, Copy)]
-pub enum OffsetAt {
-    Known(Byte),
+// Why no place, or no offset, is answered.
+#[derive(Clone, Copy, PartialEq, Eq, Debug)]
+pub enum PlaceError {
     LongFile,
     InvalidUtf8,
     NoSuchPlace,

@@ -1,83 +1,74 @@
 // From a place to its offset: the places of a text only go up, so it is passed, in blocks and then byte by byte, as long as none is past the place
 // that is sought.
-ghost use Rattle.std.specs.Prelude.{◌≡◌, ◌≤◌, ◌<◌, length};
-ghost use Rattle.answers.specs.Numbers.{most_source};
-ghost use Rattle.area.specs.Phrases.{before};
+ghost use Rattle.std.specs.Prelude.{◌≡◌, ◌≤◌, ◌<◌};
 ghost use Rattle.lines.specs.Lines.{offset_in};
-ghost use Rattle.lines.specs.Places.{is_past, Reaches, Passes};
+ghost use Rattle.lines.specs.Places.{Reaches, Passes, Next};
 
-use crate::places::{BLOCK, first_place, place_behind};
-use crate::{Byte, OffsetAt, Place};
+use crate::counts::{Block, Source};
+use crate::places::BLOCK;
+use crate::{Byte, Place, PlaceError};
 
 // An offset, and its place.
-#[derive(Clone, Copy)]
+#[derive(Clone, Copy, PartialEq, Eq, PartialOrd, Ord, Debug)]
 pub struct Reached {
     pub byte: Byte,
     pub place: Place,
 }
 
-// Whether a place stands behind another.
-fn is_past(here: Place, other: Place) -> bool
-    ensures { result ≡ is_past here other }
-{
-    let line_num = here.line_num;
-    let col_num = here.col_num;
-    let other_line = other.line_num;
-    let other_col = other.col_num;
-    (other_line.0 < line_num.0) | ((other_line.0 == line_num.0) & (other_col.0 < col_num.0))
-}
-
-// Goes on from what is reached, by `width` bytes at a time, as long as the place is not past what is sought.
-fn pass_by(s: &[u8], width: usize, reached: Reached, sought: Place) -> Reached
-    requires width_nonzero { (0 < width) × (width ≤ 64) }
-    requires s_len_bound { length s.now ≤ most_source }
-    requires reaches { Reaches s.now sought reached }
-    ensures { Passes s.now sought width result }
-{
-    let start = reached.byte;
-    let mut k = start.0;
-    let mut here = reached.place;
-    while k + width <= s.len() {
-        let next = k + width;
-        let there = place_behind(s, here, Byte(k), Byte(next));
-        if is_past(there, sought) {
-            return Reached {
-                byte: Byte(k),
-                place: here,
-            };
+impl Reached {
+    // What is reached by WIDTH bytes more, where they are in the text and its place is not past what is sought.
+    fn next<const WIDTH: usize>(self, source: &Source, sought: Place) -> Option<Reached>
+        requires width_nonzero { (0 < WIDTH) × (WIDTH ≤ 64) }
+        requires reaches { Reaches source.now.bytes.now sought self }
+        ensures { Next source.now.bytes.now sought WIDTH self result }
+    {
+        let byte = Byte(self.byte.0 + WIDTH);
+        if byte.0 > source.bytes.len() {
+            return None;
         }
-        here = there;
-        k = next;
+        let place = self.place.behind(&Block {
+            source: *source,
+            from: self.byte,
+            to: byte,
+        });
+        if place.is_past(sought) {
+            return None;
+        }
+        Some(Reached { byte, place })
     }
-    Reached {
-        byte: Byte(k),
-        place: here,
+
+    // Goes on by WIDTH bytes at a time, as long as the place is not past what is sought.
+    fn pass_by<const WIDTH: usize>(self, source: &Source, sought: Place) -> Reached
+        requires width_nonzero { (0 < WIDTH) × (WIDTH ≤ 64) }
+        requires reaches { Reaches source.now.bytes.now sought self }
+        ensures { Passes source.now.bytes.now sought WIDTH result }
+    {
+        let mut reached = self;
+        while let Some(next) = reached.next::<WIDTH>(source, sought) {
+            reached = next;
+        }
+        reached
     }
 }
 
-// The offset that stands at a place.
-pub fn offset_of(s: &[u8], sought: Place) -> OffsetAt
-    requires { length s.now ≤ most_source }
-    ensures { result ≡ offset_in s.now sought }
-{
-    let start = first_place();
-    if is_past(start, sought) {
-        return OffsetAt::NoSuchPlace;
-    }
-    let near = pass_by(
-        s,
-        BLOCK,
-        Reached {
+impl Source<'_> {
+    // The offset that stands at a place.
+    pub fn offset_of(&self, sought: Place) -> Result<Byte, PlaceError>
+        ensures { result ≡ offset_in self.now.bytes.now sought }
+    {
+        let start = Reached {
             byte: Byte(0),
-            place: start,
-        },
-        sought,
-    );
-    let reached = pass_by(s, 1, near, sought);
-    let place = reached.place;
-    if is_past(sought, place) {
-        return OffsetAt::NoSuchPlace;
+            place: Place::first(),
+        };
+        if start.place.is_past(sought) {
+            return Err(PlaceError::NoSuchPlace);
+        }
+        let reached = start
+            .pass_by::<BLOCK>(self, sought)
+            .pass_by::<1>(self, sought);
+        if sought.is_past(reached.place) {
+            return Err(PlaceError::NoSuchPlace);
+        }
+        Ok(reached.byte)
     }
-    let byte = reached.byte;
-    OffsetAt::Known(byte)
 }

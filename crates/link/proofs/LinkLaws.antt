@@ -1,5 +1,6 @@
 -- What a link leaves of a sheet: only the marks and ids of named rules change, the sheet passes its check as before, and a named rule whose name
 -- is in the map has the map's id. Each is a law of one rule, carried over the list and then to the bytes.
+use Rattle.std.specs.Prelude.{Err}
 use mathlib.Core.Path.{◌≡◌, refl, sym, ap, ◌∙◌}
 use mathlib.Core.Bool.{Bool, true, false, cond, ◌&&◌}
 use mathlib.Core.List.{List, []}
@@ -22,10 +23,9 @@ use Rattle.sheet_check.specs.declared.Sizes.{Sizes}
 use Rattle.sheet_check.specs.SheetCheck.{SheetBytes, sheet_bytes, name_in, count, decoded, sizes_of, mark, ordered, within, declared, text_bytes, good_rule, good_records, sheet_check}
 use Rattle.area.proofs.All.{all_map}
 use Rattle.sheet_check.proofs.Checked.{GoodRecords, good_rule_lem, checked_sizes, checked_long, checked_records, rules_count}
-use Rattle.link.specs.declared.LinkAnswer.{LinkAnswer}
-use Rattle.link.specs.declared.LinkAnswer.TheVariants.{Linked, BrokenSheet, BrokenMap, AreaFull}
+use Rattle.link.specs.declared.LinkError.TheVariants.{BrokenSheet, BrokenMap, AreaFull}
 use Rattle.name_map.specs.Map.{Entry, entries_of, nth, id_at, id_of, distinct, map_check}
-use Rattle.link.specs.Link.{is_named, with_id, with_found, link_rule, link_rules, LinkLeft, link_left, fits, unmapped, unused, link_all, link_checked, link_call}
+use Rattle.link.specs.Link.{is_named, with_id, with_found, link_rule, link_rules, LinkAnswer, linked_answer, LinkLeft, link_left, fits, unmapped, unused, link_all, link_checked, link_call}
 use Rattle.name_map.proofs.Maps.{entry_first}
 use Rattle.link.proofs.Outcomes.{link_count, link_at, rules_read_back}
 
@@ -155,7 +155,7 @@ module _ (b : SheetBytes) (names entries x7 x8 : List ℕ) where
   abbrev done : LinkLeft
   done =
       let xs : List Rule = (decoded b).rules in
-      link_all (name_in b) (Linked (length (unmapped (name_in b) es xs)) (length (unused (name_in b) es xs))) xs es b.area2 x7 x8
+      link_all (name_in b) (linked_answer (length (unmapped (name_in b) es xs)) (length (unused (name_in b) es xs))) xs es b.area2 x7 x8
 
   -- what is left by a refusal
   abbrev refused : LinkAnswer → LinkLeft
@@ -164,13 +164,13 @@ module _ (b : SheetBytes) (names entries x7 x8 : List ℕ) where
   -- area 2 is as it was, or it has the linked rules
   module _ (P : List ℕ → Type 0) (p : P b.area2) where
     by_areas : (t u : Bool) → P (relaid rule_format b.area2 (link_rules (name_in b) es (decoded b).rules))
-        → P (cond t (cond u done (refused (AreaFull 8))) (refused (AreaFull 7))).area2
+        → P (cond t (cond u done (refused (Err (AreaFull 8)))) (refused (Err (AreaFull 7)))).area2
     unfolding link_all
     by_areas true true q = q
     by_areas true false q = p
     by_areas false u q = p
 
-    by_checks : (t u : Bool) (y : LinkLeft) → P y.area2 → P (cond t (cond u y (refused BrokenMap)) (refused BrokenSheet)).area2
+    by_checks : (t u : Bool) (y : LinkLeft) → P y.area2 → P (cond t (cond u y (refused (Err BrokenMap))) (refused (Err BrokenSheet))).area2
     by_checks true true y q = q
     by_checks true false y q = p
     by_checks false u y q = p

@@ -1,22 +1,24 @@
 -- The words of the link call tell its answers apart.
+use Rattle.std.specs.Prelude.{Ok, Err}
 use mathlib.Core.Path.{◌≡◌, refl}
 use mathlib.Core.Bool.{cond}
 use lib.Dec.{eqb}
 use Rattle.answers.specs.Words.{Fields, TellsApart}
 use Rattle.answers.proofs.Words.{tells_by}
-use Rattle.link.specs.declared.LinkAnswer.{LinkAnswer}
-use Rattle.link.specs.declared.LinkAnswer.TheVariants.{Linked, BrokenSheet, BrokenMap, AreaFull}
-use Rattle.link.specs.Link.{link_fields}
+use Rattle.link.specs.declared.LinkError.TheVariants.{BrokenSheet, BrokenMap, AreaFull}
+use Rattle.link.specs.Link.{LinkAnswer, linked_answer, link_fields}
 
 link_back : Fields → LinkAnswer
-link_back f = cond (eqb f.number 0) (Linked f.a f.b) (cond (eqb f.number 6) BrokenSheet (cond (eqb f.number 7) BrokenMap (AreaFull f.a)))
+link_back f =
+    cond (eqb f.number 0) (linked_answer f.a f.b)
+    (cond (eqb f.number 6) (Err BrokenSheet) (cond (eqb f.number 7) (Err BrokenMap) (Err (AreaFull f.a))))
 
 again : (x : LinkAnswer) → link_back (link_fields x) ≡ x
 unfolding link_back link_fields
-again (Linked a b) = refl
-again BrokenSheet = refl
-again BrokenMap = refl
-again (AreaFull n) = refl
+again (Ok x) = refl
+again (Err BrokenSheet) = refl
+again (Err BrokenMap) = refl
+again (Err (AreaFull n)) = refl
 
 pub link_tells : TellsApart link_fields
 link_tells = tells_by link_fields link_back again

@@ -1,59 +1,58 @@
 -- A rule gets its entry's id. The rules of an area are linked one after the other, each written back over itself: so the bytes in front are
 -- those of the linked rules, the bytes behind are untouched, and a rule is read as it was.
+use Rattle.std.specs.Prelude.{Option, Some, None}
 use mathlib.Core.Path.{◌≡◌, refl, sym, ap, ◌∙◌}
 use mathlib.Core.Bool.{Bool, true, false, cond}
 use mathlib.Core.List.{List}
 use Prim.Native.Nat.{ℕ, ◌+◌, ◌*◌, ◌≤◌, ◌<◌}
-use native.Mathlib.Omega.{arith}
-use borrow.Author.Rules.{rules}
-use borrow.Author.Tests.{eqb-true, eq-eqb, ne_eqb, lt-ltb, le-ltb}
+use borrow.Author.Tests.{eqb-true, eq-eqb, ne_eqb}
+use lib.Dec.{ltb}
 use lib.ListN.{length, get_or}
 use Rattle.area.specs.declared.Rule.{Rule}
 use Rattle.area.specs.declared.Appended.{Appended}
 use Rattle.area.specs.Records.{rule_width, most_rules, rule_at, rule_bytes}
 use Rattle.area.specs.Areas.{Pushed}
 use Rattle.area.specs.Contents.{contents, rule_format, relaid}
-use Rattle.area.proofs.Areas.{pushed_length}
 use Rattle.area.proofs.Contents.{rule_sound}
-use Rattle.area.proofs.Relaid.{rule_local, after_none, after_read, after_next, after_all, record_inside, pushed_writes}
-use Rattle.name_map.specs.declared.MapEntry.{MapEntry}
-use Rattle.name_map.specs.Map.{map_entry_at, entry_count, Entry, entry_of, entries_of, nth, find_entry, id_at, id_of}
-use Rattle.link.specs.Link.{is_named, with_id, with_found, link_rule, link_rules}
-use Rattle.link.specs.Matches.{EntriesFound, link_to}
-use Rattle.name_map.proofs.Maps.{entries_count, entries_at}
+use Rattle.area.proofs.Relaid.{rule_local, after_none, after_read, after_next, record_inside, pushed_writes}
+use Rattle.name_map.proofs.Maps.{some_found}
+use Rattle.name_map.specs.Map.{Entry, nth, find_entry, found_entry, option_of, id_at, id_of}
+use mathlib.Core.Option as M
+use mathlib.Core.Option.{some, none}
+use Rattle.link.specs.Link.{is_named, with_found, link_rule, link_rules}
+use Rattle.link.specs.Matches.{EntriesFound, found_id, link_to}
 
 -- ---- a rule
 
-module _ (names entries : List ℕ) (j : ℕ) (x : Rule) where
-  abbrev es : List Entry
-  es = entries_of names entries
-
-  pub link_unnamed : (x.named ≡ 1 → ⊥) → x ≡ link_to (entries_of names entries) j x
+module _ (es : List Entry) (found : Option ℕ) (x : Rule) where
+  pub link_unnamed : (x.named ≡ 1 → ⊥) → x ≡ link_to es found x
   unfolding link_to
   link_unnamed h = rw (ne_eqb x.named 1 h)
 
-  module _ (h : x.named ≡ 1) (r : Rule) where
-    pub link_found : j < entry_count entries → (y : MapEntry) → y ≡ map_entry_at entries j → r ≡ with_id 1 y.id x → r ≡ link_to (entries_of names entries) j x
-    unfolding link_to with_found id_at entry_of
-    link_found g y q e =
-        let i : y.id ≡ (nth es j).id = sym (ap (λ (z : Entry). z.id) (entries_at names entries j g ∙ ap (entry_of names) (sym q))) in
-        rw (eq-eqb x.named 1 h, lt-ltb j (length es) (omega (arith, entries_count names entries))) (e ∙ ap (λ (z : ℕ). with_id 1 z x) i)
-
-    pub link_missing : entry_count entries ≤ j → r ≡ with_id 0 0 x → r ≡ link_to (entries_of names entries) j x
-    unfolding link_to with_found id_at
-    link_missing g e = rw (eq-eqb x.named 1 h, le-ltb j (length es) (omega (arith, entries_count names entries))) e
-
-pub ruleset linking_rule = (rules, link_unnamed, link_found, link_missing)
+  pub link_named : x.named ≡ 1 → (id : Option ℕ) → option_of id ≡ found_id es found → (r : Rule) → r ≡ with_found (option_of id) x → r ≡ link_to es found x
+  unfolding link_to
+  link_named h id is r e = rw (eq-eqb x.named 1 h, ← is) e
 
 -- ---- the rules of an area
 
--- a rule is linked by the entry that is found for its name
-linked_by : (name : Rule → List ℕ) (es : List Entry) (j : ℕ) (x : Rule) → (x.named ≡ 1 → j ≡ find_entry es (name x)) → link_to es j x ≡ link_rule name es x
-unfolding link_to link_rule id_of
-linked_by name es j x f = by (is_named x) refl
+-- the id of what is found for a name is that of the name
+id_found : (es : List Entry) (bytes : List ℕ) → found_id es (found_entry es bytes) ≡ id_of es bytes
+unfolding found_entry id_of id_at
+id_found es bytes = by (ltb (find_entry es bytes) (length es)) refl
   where
-    by : (t : Bool) → is_named x ≡ t → cond t (with_found (id_at es j) x) x ≡ cond t (with_found (id_at es (find_entry es (name x))) x) x
-    by true e = ap (λ (i : ℕ). with_found (id_at es i) x) (f (eqb-true x.named 1 e))
+    by : (t : Bool) → ltb (find_entry es bytes) (length es) ≡ t
+        → found_id es (cond t (Some (find_entry es bytes)) None) ≡ cond (ltb (find_entry es bytes) (length es)) (some (nth es (find_entry es bytes)).id) none
+    by true e = refl
+    by false e = rw e
+
+-- a rule is linked by the entry that is found for its name
+linked_by : (name : Rule → List ℕ) (es : List Entry) (found : Option ℕ) (x : Rule) → (x.named ≡ 1 → found ≡ found_entry es (name x))
+    → link_to es found x ≡ link_rule name es x
+unfolding link_to link_rule
+linked_by name es found x f = by (is_named x) refl
+  where
+    by : (t : Bool) → is_named x ≡ t → cond t (with_found (found_id es found) x) x ≡ cond t (with_found (id_of es (name x)) x) x
+    by true e = ap (λ (i : Option ℕ). with_found (found_id es i) x) (f (eqb-true x.named 1 e)) ∙ ap (λ (i : M.Option ℕ). with_found i x) (id_found es (name x))
     by false e = refl
 
 module _ (name : Rule → List ℕ) (es : List Entry) (l : List ℕ) where
@@ -64,23 +63,21 @@ module _ (name : Rule → List ℕ) (es : List Entry) (l : List ℕ) where
   unfolding link_rules
   rules_none = after_none rule_sound rule_local (link_rule name es) l
 
-  module _ (k count : ℕ) (a : List ℕ) (is : a ≡ linked_to k) where
-    pub rules_next : k < count → count ≤ most_rules → count * rule_width ≤ length a → (found : List ℕ) → EntriesFound name es l count found
-        → (x y : Rule) (r : Appended) (e : List ℕ)
-        → x ≡ rule_at a k → y ≡ link_to es (get_or found k 0) x → Pushed rule_width most_rules 1 (rule_bytes y) a k r e → e ≡ linked_to (k + 1)
+  module _ (k count : ℕ) (a : List ℕ) (is : a ≡ linked_to k) (h : k < count) (found : List (Option ℕ)) (F : EntriesFound name es l count found) (x : Rule)
+      (read : x ≡ rule_at a k) where
+    as_before : x ≡ rule_at l k
     unfolding link_rules
-    rules_next h few long found F x y r e q z p =
-        after_next rule_sound rule_local (link_rule name es) l k a is x y e (record_inside p count h few long) q
-        (z ∙ linked_by name es (get_or found k 0) x by_name) (pushed_writes p count h few long)
-      where
-        as_before : x ≡ rule_at l k
-        as_before = q ∙ after_read rule_sound rule_local (link_rule name es) l k a is
+    as_before = read ∙ after_read rule_sound rule_local (link_rule name es) l k a is
 
-        by_name : x.named ≡ 1 → get_or found k 0 ≡ find_entry es (name x)
-        by_name named = F.each k h (ap (λ (w : Rule). w.named) (sym as_before) ∙ named) ∙ ap (λ (w : Rule). find_entry es (name w)) (sym as_before)
+    by_name : x.named ≡ 1 → get_or found k None ≡ found_entry es (name x)
+    by_name named = F.each k h (ap (λ (w : Rule). w.named) (sym as_before) ∙ named) ∙ ap (λ (w : Rule). found_entry es (name w)) (sym as_before)
 
-    pub rules_all : count ≤ k → k ≤ count → a ≡ linked_to count
+    pub found_inside : x.named ≡ 1 → (j : ℕ) → get_or found k None ≡ Some j → j < length es
+    found_inside named j e = (some_found es (name x) j (sym e ∙ by_name named)).0
+
+    pub rules_next : count ≤ most_rules → count * rule_width ≤ length a → (y : Rule) (r : Appended) (e : List ℕ)
+        → y ≡ link_to es (get_or found k None) x → Pushed rule_width most_rules 1 (rule_bytes y) a k r e → e ≡ linked_to (k + 1)
     unfolding link_rules
-    rules_all h g = after_all rule_sound rule_local (link_rule name es) l k a is count h g
-
-pub ruleset linking_rules = (rules, rules_none, rules_all, pushed_length)
+    rules_next few long y r e z p =
+        after_next rule_sound rule_local (link_rule name es) l k a is x y e (record_inside p count h few long) read
+        (z ∙ linked_by name es (get_or found k None) x by_name) (pushed_writes p count h few long)

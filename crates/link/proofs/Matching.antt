@@ -1,5 +1,6 @@
 -- One pass over the rules. The names of a map are distinct, so an entry has a rule's name exactly if it is the entry that was found for it. A named
 -- rule marks that entry alone; so the entries without a mark are the unused ones.
+use Rattle.std.specs.Prelude.{Option, Some, None}
 use mathlib.Core.Path.{◌≡◌, refl, sym, ap, subst, ◌∙◌}
 use mathlib.Core.Bool.{Bool, true, false, not, ◌&&◌, and-true}
 use mathlib.Core.List.{List}
@@ -20,10 +21,10 @@ use Rattle.area.specs.Contents.{contents, rule_format}
 use Rattle.area.specs.Lists.{numbers}
 use Rattle.area.proofs.All.{all_none, all_next}
 use Rattle.area.proofs.Numbers.{numbers_same, count_none, count_yes, count_no, counted, passes_at, record_fails, record_passes}
-use Rattle.name_map.specs.Map.{most_entries, entry_count, Entry, entries_of, nth, find_entry, id_at, id_of, distinct}
+use Rattle.name_map.specs.Map.{most_entries, entry_count, Entry, entries_of, nth, find_entry, found_entry, id_at, id_of, distinct}
 use Rattle.link.specs.Link.{is_none, is_unmapped, has_that_name, is_unused, unused}
 use Rattle.link.specs.Matches.{unmarked, EntriesFound, Matched}
-use Rattle.name_map.proofs.Maps.{entries_count, entry_first}
+use Rattle.name_map.proofs.Maps.{some_found, none_found, entries_count, entry_first}
 use Rattle.link.proofs.Counting.{unmapped_is}
 
 -- ---- an entry by a name
@@ -78,20 +79,20 @@ module _ (name : Rule → List ℕ) (es : List Entry) (x : Rule) where
 -- ---- the entries that were found for the first k rules
 
 module _ (name : Rule → List ℕ) (es : List Entry) (l : List ℕ) where
-  found_none : (found : List ℕ) → length found ≡ most_rules → EntriesFound name es l 0 found
+  found_none : (found : List (Option ℕ)) → length found ≡ most_rules → EntriesFound name es l 0 found
   found_none found long = record { long = long; each = λ i h. absurd (omega (arith, h)) }
 
-  module _ {k : ℕ} {found : List ℕ} (F : EntriesFound name es l k found) (x : Rule) (is : x ≡ rule_at l k) where
+  module _ {k : ℕ} {found : List (Option ℕ)} (F : EntriesFound name es l k found) (x : Rule) (is : x ≡ rule_at l k) where
     -- the rules before k, and rule k
-    found_next : (m : List ℕ) → length m ≡ length found → ((i : ℕ) → i < k → get_or m i 0 ≡ get_or found i 0)
-        → (x.named ≡ 1 → get_or m k 0 ≡ find_entry es (name x)) → EntriesFound name es l (k + 1) m
+    found_next : (m : List (Option ℕ)) → length m ≡ length found → ((i : ℕ) → i < k → get_or m i None ≡ get_or found i None)
+        → (x.named ≡ 1 → get_or m k None ≡ found_entry es (name x)) → EntriesFound name es l (k + 1) m
     found_next m long same here = record {
       long = long ∙ F.long;
       each = λ i h. ⊎_elim
           (λ g.
           let q : k ≡ i = omega (arith, h, g) in
-          subst (λ (j : ℕ). (rule_at l j).named ≡ 1 → get_or m j 0 ≡ find_entry es (name (rule_at l j))) q
-          (subst (λ (y : Rule). y.named ≡ 1 → get_or m k 0 ≡ find_entry es (name y)) is here))
+          subst (λ (j : ℕ). (rule_at l j).named ≡ 1 → get_or m j None ≡ found_entry es (name (rule_at l j))) q
+          (subst (λ (y : Rule). y.named ≡ 1 → get_or m k None ≡ found_entry es (name y)) is here))
           (λ g named. same i g ∙ F.each i g named)
           (le_or_lt k i);
     }
@@ -99,11 +100,11 @@ module _ (name : Rule → List ℕ) (es : List Entry) (l : List ℕ) where
     found_unnamed : (x.named ≡ 1 → ⊥) → EntriesFound name es l (k + 1) found
     found_unnamed d = found_next found refl (λ i h. refl) (λ named. absurd (d named))
 
-    found-set : (j : ℕ) → j ≡ find_entry es (name x) → k < most_rules → EntriesFound name es l (k + 1) (set found k j)
-    found-set j at h =
-        found_next (set found k j) (length-set found k j)
-        (λ i g. get_or-set_other found k i j 0 (λ q. omega (arith, g, q)))
-        (λ _. get_or-set_same found k j 0 (omega (arith, h, F.long)) ∙ at)
+    found-set : (o : Option ℕ) → o ≡ found_entry es (name x) → k < most_rules → EntriesFound name es l (k + 1) (set found k o)
+    found-set o is_found h =
+        found_next (set found k o) (length-set found k o)
+        (λ i g. get_or-set_other found k i o None (λ q. omega (arith, g, q)))
+        (λ _. get_or-set_same found k o None (omega (arith, h, F.long)) ∙ is_found)
 
 -- ---- the marks of the entries that the first k rules have
 
@@ -170,7 +171,7 @@ unmarked_unused name names entries l k used U =
 
 -- ---- the loop over the rules
 
-pub record Matching (name : Rule → List ℕ) (names entries l : List ℕ) (count k n : ℕ) (found used : List ℕ) : Type 0 where
+pub record Matching (name : Rule → List ℕ) (names entries l : List ℕ) (count k n : ℕ) (found : List (Option ℕ)) (used : List ℕ) : Type 0 where
   pub missing : n ≡ length (numbers (passes_at rule_format (is_unmapped name (entries_of names entries)) l count) k)
   pub kept : EntriesFound name (entries_of names entries) l k found
   pub marks : EntriesMarked name (entries_of names entries) l k used
@@ -179,7 +180,7 @@ module _ (name : Rule → List ℕ) (names entries l : List ℕ) (count : ℕ) w
   abbrev es : List Entry
   es = entries_of names entries
 
-  pub matching_none : (found used : List ℕ) → length found ≡ most_rules → used ≡ replicate most_entries 0 → entry_count entries ≤ most_entries
+  pub matching_none : (found : List (Option ℕ)) (used : List ℕ) → length found ≡ most_rules → used ≡ replicate most_entries 0 → entry_count entries ≤ most_entries
       → Matching name names entries l count 0 0 found used
   matching_none found used long zeros few = record {
     missing = count_none (passes_at rule_format (is_unmapped name es) l count);
@@ -187,7 +188,7 @@ module _ (name : Rule → List ℕ) (names entries l : List ℕ) (count : ℕ) w
     marks = marked_none name es l used zeros (omega (arith, few, entries_count names entries));
   }
 
-  module _ {k n : ℕ} {found used : List ℕ} (M : Matching name names entries l count k n found used) where
+  module _ {k n : ℕ} {found : List (Option ℕ)} {used : List ℕ} (M : Matching name names entries l count k n found used) where
     module _ (h : k < count) (x : Rule) (is : x ≡ rule_at l k) where
       abbrev test : ℕ → Bool
       test = passes_at rule_format (is_unmapped name es) l count
@@ -207,24 +208,24 @@ module _ (name : Rule → List ℕ) (names entries l : List ℕ) (count : ℕ) w
         marks = marked_kept name es l M.marks x is (λ j _. unnamed_lacks name es x d (nth es j).name);
       }
 
-      module _ (different : distinct es ≡ true) (few : count ≤ most_rules) (named : x.named ≡ 1) (j : ℕ) (at : j ≡ find_entry es (name x)) where
-        pub matching_found : j < entry_count entries → entry_count entries ≤ most_entries
-            → Matching name names entries l count (k + 1) n (set found k j) (set used j 1)
-        matching_found g most =
-            let inside : j < length es = omega (arith, g, entries_count names entries) in
+      module _ (different : distinct es ≡ true) (few : count ≤ most_rules) (named : x.named ≡ 1) where
+        pub matching_found : (j : ℕ) → Some j ≡ found_entry es (name x) → entry_count entries ≤ most_entries
+            → Matching name names entries l count (k + 1) n (set found k (Some j)) (set used j 1)
+        matching_found j is_found most =
+            let at = some_found es (name x) j is_found in
             record {
-              missing = none_counted (found_mapped name es x named j at inside);
-              kept = found-set name es l M.kept x is j at (omega (arith, h, few));
-              marks = marked-set name es l M.marks x is different named j at inside (omega (arith, most, entries_count names entries));
+              missing = none_counted (found_mapped name es x named j at.1 at.0);
+              kept = found-set name es l M.kept x is (Some j) is_found (omega (arith, h, few));
+              marks = marked-set name es l M.marks x is different named j at.1 at.0 (omega (arith, most, entries_count names entries));
             }
 
-        pub matching_missing : entry_count entries ≤ j → Matching name names entries l count (k + 1) (n + 1) (set found k j) used
-        matching_missing g =
-            let past : length es ≤ j = omega (arith, g, entries_count names entries) in
+        pub matching_missing : None ≡ found_entry es (name x) → Matching name names entries l count (k + 1) (n + 1) (set found k None) used
+        matching_missing is_found =
+            let past : length es ≤ find_entry es (name x) = none_found es (name x) is_found in
             record {
-              missing = one_counted (missing_unmapped name es x named j at past);
-              kept = found-set name es l M.kept x is j at (omega (arith, h, few));
-              marks = marked_missing name es l M.marks x is different named j at past;
+              missing = one_counted (missing_unmapped name es x named (find_entry es (name x)) refl past);
+              kept = found-set name es l M.kept x is None is_found (omega (arith, h, few));
+              marks = marked_missing name es l M.marks x is different named (find_entry es (name x)) refl past;
             }
 
     pub matched : count ≤ k → k ≤ count → Matched name names entries l count n found used

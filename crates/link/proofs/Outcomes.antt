@@ -1,11 +1,11 @@
 -- The area of the linked rules is read back as the linked rules, so those without an id are the unmapped ones; then a law for each way out
 -- of the call.
+use Rattle.std.specs.Prelude.{Ok, Err}
 use mathlib.Core.Path.{◌≡◌, refl, sym, ap, ◌∙◌}
 use mathlib.Core.Bool.{Bool, true, false, cond, ◌&&◌}
 use mathlib.Core.List.{List, map}
 use mathlib.Core.Option.{Option, none, some}
 use Prim.Native.Nat.{ℕ, ◌*◌, ◌%◌, ◌≤◌, ◌<◌}
-use native.Mathlib.Omega.{arith}
 use borrow.Author.Tests.{le-leb, lt-leb, leb-true}
 use lib.Dec.{eqb, leb}
 use lib.ListN.{length, get_or, length-map, length-replicate, get_or-map}
@@ -20,10 +20,10 @@ use Rattle.area.specs.Lists.{all, numbers}
 use Rattle.area.proofs.Relaid.{rule_local, relaid_contents}
 use Rattle.area.proofs.Numbers.{numbers_same}
 use Rattle.sheet_check.proofs.Checked.{checked_long, checked_counts}
-use Rattle.link.specs.declared.LinkAnswer.{LinkAnswer}
-use Rattle.link.specs.declared.LinkAnswer.TheVariants.{Linked, BrokenSheet, BrokenMap, AreaFull}
+use Rattle.link.specs.declared.LinkError.{LinkError}
+use Rattle.link.specs.declared.LinkError.TheVariants.{BrokenSheet, BrokenMap, AreaFull}
 use Rattle.name_map.specs.Map.{map_width, most_entries, map_format, entry_count, Entry, entries_of, id_of, name_inside, distinct, map_check}
-use Rattle.link.specs.Link.{is_named, with_id, with_found, link_rule, link_rules, is_none, is_unmapped, is_unlinked, unmapped, unlinked, unused, link_left, fits, link_all, link_checked, link_call}
+use Rattle.link.specs.Link.{is_named, with_id, with_found, link_rule, link_rules, is_none, is_unmapped, is_unlinked, unmapped, unlinked, unused, LinkAnswer, linked_answer, link_left, fits, room_for, link_all, link_checked, link_call}
 
 -- ---- linked rules
 
@@ -71,9 +71,6 @@ module _ (l c : List ℕ) (cleared : c ≡ zeros (length l)) where
   cleared-length : length c ≡ length l
   cleared-length = ap length cleared ∙ length-replicate (length l) 0
 
-  pub cleared_zeros : c ≡ zeros (length c)
-  cleared_zeros = cleared ∙ ap zeros (sym cleared-length)
-
   pub cleared_fits : (ns : List ℕ) → fits ns l ≡ true → fits ns c ≡ true
   unfolding fits
   cleared_fits ns e = ap (leb (length ns * entry_width)) cleared-length ∙ e
@@ -103,29 +100,52 @@ module _ (name : Rule → List ℕ) (es : List Entry) (x2 : List ℕ) (n : ℕ) 
 
 -- ---- areas 7 and 8 have room, or one of them has not
 
-module _ (ns l : List ℕ) (m : ℕ) (counted : m ≡ length ns) where
-  pub count_fits : m * entry_width ≤ length l → fits ns l ≡ true
-  unfolding fits
-  count_fits h = le-leb (length ns * entry_width) (length l) (omega (arith, counted))
+module _ (l : List ℕ) (m area : ℕ) where
+  pub room_short : length l < m * entry_width → Err (AreaFull area) ≡ room_for m l area
+  unfolding room_for
+  room_short h = rw (lt-leb (m * entry_width) (length l) h)
 
-  pub count_over : length l < m * entry_width → fits ns l ≡ false
-  unfolding fits
-  count_over h = lt-leb (length ns * entry_width) (length l) (omega (arith, counted))
+  pub room_enough : m * entry_width ≤ length l → Ok tt ≡ room_for m l area
+  unfolding room_for
+  room_enough h = rw (le-leb (m * entry_width) (length l) h)
 
-module _ (name : Rule → List ℕ) (xs : List Rule) (es : List Entry) (x2 x7 x8 : List ℕ) where
-  pub short_7 : fits (unmapped name es xs) x7 ≡ false → link_left (AreaFull 7) x2 x7 x8 ≡ link_checked name xs es x2 x7 x8
+module _ (ns l : List ℕ) (m area : ℕ) (counted : m ≡ length ns) where
+  room_is : room_for m l area ≡ cond (fits ns l) (Ok tt) (Err (AreaFull area))
+  unfolding room_for fits
+  room_is = rw counted
+
+  pub room_left : (u : Unit {0}) → Ok u ≡ room_for m l area → fits ns l ≡ true
+  room_left u e = by (fits ns l) (e ∙ room_is)
+    where
+      by : (t : Bool) → Ok u ≡ cond t (Ok (tt {0})) (Err (AreaFull area)) → t ≡ true
+      by true q = refl
+      by false q = cc
+
+  pub room_full : (e : LinkError) → Err e ≡ room_for m l area → (fits ns l ≡ false) × (e ≡ AreaFull area)
+  room_full e q = by (fits ns l) (q ∙ room_is)
+    where
+      by : (t : Bool) → Err e ≡ cond t (Ok (tt {0})) (Err (AreaFull area)) → (t ≡ false) × (e ≡ AreaFull area)
+      by true q = cc
+      by false q = (refl, cc)
+
+module _ (name : Rule → List ℕ) (xs : List Rule) (es : List Entry) (x2 x7 x8 : List ℕ) (m : ℕ) (missing : m ≡ length (unmapped name es xs)) where
+  pub short_7 : (e : LinkError) → Err e ≡ room_for m x7 7 → link_left (Err e) x2 x7 x8 ≡ link_checked name xs es x2 x7 x8
   unfolding link_checked
-  short_7 h = rw h
+  short_7 e q =
+      let full = room_full (unmapped name es xs) x7 m 7 missing e q in
+      rw (full.0, full.1)
 
-  module _ (h : fits (unmapped name es xs) x7 ≡ true) where
-    pub short_8 : fits (unused name es xs) x8 ≡ false → link_left (AreaFull 8) x2 x7 x8 ≡ link_checked name xs es x2 x7 x8
+  module _ (u : Unit {0}) (room : Ok u ≡ room_for m x7 7) (k : ℕ) (idle : k ≡ length (unused name es xs)) where
+    pub short_8 : (e : LinkError) → Err e ≡ room_for k x8 8 → link_left (Err e) x2 x7 x8 ≡ link_checked name xs es x2 x7 x8
     unfolding link_checked
-    short_8 g = rw (h, g)
+    short_8 e q =
+        let full = room_full (unused name es xs) x8 k 8 idle e q in
+        rw (room_left (unmapped name es xs) x7 m 7 missing u room, full.0, full.1)
 
-    pub none_short : fits (unused name es xs) x8 ≡ true → (m k : ℕ) → m ≡ length (unmapped name es xs) → k ≡ length (unused name es xs)
-        → link_all name (Linked m k) xs es x2 x7 x8 ≡ link_checked name xs es x2 x7 x8
+    pub none_short : (v : Unit {0}) → Ok v ≡ room_for k x8 8 → link_all name (linked_answer m k) xs es x2 x7 x8 ≡ link_checked name xs es x2 x7 x8
     unfolding link_checked
-    none_short g m k p q = rw (h, g, ← p, ← q)
+    none_short v q =
+        rw (room_left (unmapped name es xs) x7 m 7 missing u room, room_left (unused name es xs) x8 k 8 idle v q, ← missing, ← idle)
 
 -- ---- the call
 
@@ -149,12 +169,12 @@ pub call_entries : (names entries : List ℕ) (u : Bool) → u ≡ map_check nam
 call_entries names entries u says g = map_few names entries (sym says ∙ g)
 
 module _ (b : SheetBytes) (names entries x7 x8 : List ℕ) (t : Bool) (is : t ≡ sheet_check b) where
-  pub call_sheet : t ≡ false → link_left BrokenSheet b.area2 x7 x8 ≡ link_call b names entries x7 x8
+  pub call_sheet : t ≡ false → link_left (Err BrokenSheet) b.area2 x7 x8 ≡ link_call b names entries x7 x8
   unfolding link_call
   call_sheet h = rw (← is, h)
 
   module _ (h : t ≡ true) (u : Bool) (says : u ≡ map_check names entries) where
-    pub call_map : u ≡ false → link_left BrokenMap b.area2 x7 x8 ≡ link_call b names entries x7 x8
+    pub call_map : u ≡ false → link_left (Err BrokenMap) b.area2 x7 x8 ≡ link_call b names entries x7 x8
     unfolding link_call
     call_map g = rw (passed b t is h, ← says, g)
 

@@ -1,5 +1,5 @@
 -- Linking: the ids of named rules by a map; the numbers of rules and of entries that find no partner; and the link call (01, Linking).
-use Rattle.std.specs.Prelude.{ℕ, ◌*◌, Bool, true, false, cond, not, ◌&&◌, List, [], map, eqb, leb, length}
+use Rattle.std.specs.Prelude.{ℕ, ◌*◌, Bool, true, false, cond, not, ◌&&◌, List, [], map, eqb, leb, length, Result, Ok, Err}
 use Rattle.std.proofs.Math.Option.{Option, none, some}
 use Rattle.text.specs.Range.{same_bytes}
 use Rattle.area.specs.declared.Rule.{Rule}
@@ -9,8 +9,9 @@ use Rattle.area.specs.Lists.{all, numbers_of}
 use Rattle.answers.specs.Numbers.{accepted_number, area_full_number, broken_sheet_number, broken_map_number}
 use Rattle.answers.specs.Words.{Fields, fields, word}
 use Rattle.sheet_check.specs.SheetCheck.{SheetBytes, name_in, decoded, sheet_check}
-use Rattle.link.specs.declared.LinkAnswer.{LinkAnswer}
-use Rattle.link.specs.declared.LinkAnswer.TheVariants.{Linked, BrokenSheet, BrokenMap, AreaFull}
+use Rattle.link.specs.declared.Linked.{Linked}
+use Rattle.link.specs.declared.LinkError.{LinkError}
+use Rattle.link.specs.declared.LinkError.TheVariants.{BrokenSheet, BrokenMap, AreaFull}
 use Rattle.name_map.specs.Map.{Entry, entry, entries_of, id_of, map_check}
 
 -- ---- a rule
@@ -87,6 +88,13 @@ module _ (name : Rule → List ℕ) where
 
 -- ---- the call
 
+-- the counts of areas 7 and 8, or why it is refused
+abbrev pub LinkAnswer : Type 0
+LinkAnswer = Result Linked LinkError
+
+abbrev pub linked_answer : ℕ → ℕ → LinkAnswer
+linked_answer a b = Ok (record { unmapped_count = a; unused_count = b })
+
 -- what the call leaves: its answer, and areas 2, 7 and 8
 pub record LinkLeft : Type 0 where
   pub answer : LinkAnswer
@@ -101,6 +109,10 @@ link_left r x2 x7 x8 = record { answer = r; area2 = x2; area7 = x7; area8 = x8 }
 unfoldable pub fits : List ℕ → List ℕ → Bool
 fits ns l = leb (length ns * entry_width) (length l)
 
+-- the same of so many numbers, or number 4 for that area
+unfoldable pub room_for : ℕ → List ℕ → ℕ → Result (Unit {0}) LinkError
+room_for n l area = cond (leb (n * entry_width) (length l)) (Ok tt) (Err (AreaFull area))
+
 module _ (name : Rule → List ℕ) where
   -- all three areas written
   unfoldable pub link_all : LinkAnswer → List Rule → List Entry → List ℕ → List ℕ → List ℕ → LinkLeft
@@ -114,9 +126,9 @@ module _ (name : Rule → List ℕ) where
   link_checked xs es x2 x7 x8 =
       cond (fits (unmapped name es xs) x7)
       (cond (fits (unused name es xs) x8)
-      (link_all (Linked (length (unmapped name es xs)) (length (unused name es xs))) xs es x2 x7 x8)
-      (link_left (AreaFull 8) x2 x7 x8))
-      (link_left (AreaFull 7) x2 x7 x8)
+      (link_all (linked_answer (length (unmapped name es xs)) (length (unused name es xs))) xs es x2 x7 x8)
+      (link_left (Err (AreaFull 8)) x2 x7 x8))
+      (link_left (Err (AreaFull 7)) x2 x7 x8)
 
 -- the link call: 6, 7, then 4; a refusal changes nothing
 unfoldable pub link_call : SheetBytes → List ℕ → List ℕ → List ℕ → List ℕ → LinkLeft
@@ -124,15 +136,15 @@ link_call b names entries x7 x8 =
     cond (sheet_check b)
     (cond (map_check names entries)
     (link_checked (name_in b) (decoded b).rules (entries_of names entries) b.area2 x7 x8)
-    (link_left BrokenMap b.area2 x7 x8))
-    (link_left BrokenSheet b.area2 x7 x8)
+    (link_left (Err BrokenMap) b.area2 x7 x8))
+    (link_left (Err BrokenSheet) b.area2 x7 x8)
 
 -- the number and the values of each answer (01, Numbers given at the counter)
 unfoldable pub link_fields : LinkAnswer → Fields
-link_fields (Linked a b) = fields accepted_number a b 0
-link_fields BrokenSheet = fields broken_sheet_number 0 0 0
-link_fields BrokenMap = fields broken_map_number 0 0 0
-link_fields (AreaFull n) = fields area_full_number n 0 0
+link_fields (Ok x) = fields accepted_number x.unmapped_count x.unused_count 0
+link_fields (Err BrokenSheet) = fields broken_sheet_number 0 0 0
+link_fields (Err BrokenMap) = fields broken_map_number 0 0 0
+link_fields (Err (AreaFull n)) = fields area_full_number n 0 0
 
 abbrev pub link_word : LinkAnswer → ℕ
 link_word x = word (link_fields x)

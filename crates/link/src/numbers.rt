@@ -1,12 +1,12 @@
 // The numbers of rules and of entries that find no partner, written when both areas have room (01, Linking).
-ghost use Rattle.std.specs.Prelude.{◌≡◌, ◌+◌, ◌*◌, ◌≤◌, true, length};
+ghost use Rattle.std.specs.Prelude.{◌≡◌, ℕ, Bool, ◌+◌, ◌*◌, ◌≤◌, ◌<◌, true, length};
 ghost use Rattle.std.proofs.lemmas.List.Edits.{sets};
 ghost use Rattle.area.specs.Bytes.{zeros};
 ghost use Rattle.area.specs.Records.{rule_width, entry_width, entry_bytes};
 ghost use Rattle.area.specs.Contents.{contents, rule_format, entry_format, laid};
-ghost use Rattle.name_map.specs.Map.{most_entries};
+ghost use Rattle.area.specs.Lists.{numbers};
 ghost use Rattle.link.specs.Link.{is_unlinked, unlinked, fits};
-ghost use Rattle.link.specs.Matches.{unmarked};
+ghost use Rattle.link.specs.Matches.{unmarked, Tests};
 ghost use Rattle.area.specs.Phrases.{before, after};
 ghost use Rattle.link.specs.Phrases.{rules_in};
 
@@ -23,6 +23,23 @@ fn write_number(into: &mut [u8], n: u16, number: u16)
     write_field(into, n as usize * NUMBER_WIDTH, number);
 }
 
+// The numbers below `most` that pass, in order, into an area of zeros.
+fn write_numbers<F: Fn(u16) -> bool>(most: u16, passes: F, into: &mut [u8])
+    requires callable { (k : ℕ) → k < most → F.pre passes k }
+    requires into_value { into.old ≡ zeros (length into.old) }
+    requires room { (test : ℕ → Bool) × Tests (F.post passes) most test × (fits (numbers test most) into.old ≡ true) }
+    ensures { (test : ℕ → Bool) → Tests (F.post passes) most test → into.new ≡ laid entry_format (length into.old) (numbers test most) }
+{
+    let mut n = 0;
+    for k in 0..most {
+        if !passes(k) {
+            continue;
+        }
+        write_number(into, n, k);
+        n += 1;
+    }
+}
+
 fn is_unlinked(x: Rule) -> bool
     ensures { result ≡ is_unlinked x }
 {
@@ -36,54 +53,28 @@ pub fn write_unlinked(area: &[u8], count: u16, into: &mut [u8])
     requires into_value_2 { fits (unlinked (contents rule_format area.now count)) into.old ≡ true }
     ensures { into.new ≡ laid entry_format (length into.old) (unlinked (rules_in area.now count)) }
 {
-    let mut n = 0;
-    let mut k = 0;
-    while k < count {
-        let here = k;
-        let x = read_rule(area, here as usize);
-        k += 1;
-        if !is_unlinked(x) {
-            continue;
-        }
-        write_number(into, n, here);
-        n += 1;
-    }
+    write_numbers(count, |k| is_unlinked(read_rule(area, k as usize)), into);
 }
 
-// How many of so many entries have no mark.
-pub fn count_unused(used: &[u8], most: usize) -> u16
-    requires { (most ≤ most_entries) × (most ≤ length used.now) }
+// How many of so many entries have no mark. Each mark is added, with no branch, so that the compiler takes many at once; a filter and its count
+// go one by one.
+pub fn count_unused(used: &[u8], most: u16) -> u16
+    requires { most ≤ length used.now }
     ensures { result ≡ length (unmarked used.now most) }
 {
     let mut n = 0;
-    let mut j = 0;
-    while j < most {
-        let here = j;
-        j += 1;
-        if used[here] != 0 {
-            continue;
-        }
-        n += 1;
+    for j in 0..most as usize {
+        n += (used[j] == 0) as u16;
     }
     n
 }
 
 // Their numbers, into an area of zeros.
-pub fn write_unused(used: &[u8], most: usize, into: &mut [u8])
-    requires most_le_most_entries { (most ≤ most_entries) × (most ≤ length used.now) }
+pub fn write_unused(used: &[u8], most: u16, into: &mut [u8])
+    requires most_le_most_entries { most ≤ length used.now }
     requires into_value { into.old ≡ zeros (length into.old) }
     requires into_value_2 { fits (unmarked used.now most) into.old ≡ true }
     ensures { into.new ≡ laid entry_format (length into.old) (unmarked used.now most) }
 {
-    let mut n = 0;
-    let mut j = 0;
-    while j < most {
-        let here = j;
-        j += 1;
-        if used[here] != 0 {
-            continue;
-        }
-        write_number(into, n, here as u16);
-        n += 1;
-    }
+    write_numbers(most, |j| used[j as usize] == 0, into);
 }

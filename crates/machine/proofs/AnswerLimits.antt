@@ -18,8 +18,7 @@ use Rattle.answers.specs.Words.{TwoBytes}
 use Rattle.area.specs.Bytes.{AllBytes}
 use Rattle.answers.proofs.Words.{two_bytes, no_values}
 use Rattle.area.proofs.Fields.{field_small}
-use Rattle.sheet_check.specs.declared.Located.{Located}
-use Rattle.sheet_check.specs.declared.Located.TheVariants as C
+use Rattle.sheet_check.specs.declared.Part.{Part}
 use Rattle.sheet_check.specs.SheetCheck.{SheetBytes, name_in, decoded, sheet_check}
 use Rattle.area.specs.Lists.{all}
 use Rattle.sheet_check.specs.Pattern.{has_rule, part_of, pattern_part, pattern_fields}
@@ -32,10 +31,8 @@ use Rattle.link.specs.Link.{is_unmapped, is_unused, unmapped, unused, LinkLeft, 
 use Rattle.name_map.proofs.Maps.{entries_count}
 use Rattle.winner.specs.Winner.{Lexer, length_in, weight, greatest}
 use Rattle.winner.proofs.Winning.{weights_low}
-use Rattle.run.specs.declared.Begun.{Begun}
-use Rattle.run.specs.declared.Begun.TheVariants.{Started, StartRefused}
-use Rattle.run.specs.declared.Step.{Step}
-use Rattle.run.specs.Run.{Running, current, Input, RunLeft, good_run, fits_in, good_row, won_by, choose, step_row, step_run, lexer_of, step_call, start_fields, view, view_fields, step_fields}
+use Rattle.std.specs.Prelude.{Ok, Err, Option, Some, None}
+use Rattle.run.specs.Run.{StartAnswer, start_accepted, start_refused, StepAnswer, Running, current, Input, RunLeft, good_run, fits_in, good_row, won_by, choose, step_row, step_run, lexer_of, step_call, start_fields, view, view_fields, step_fields}
 use Rattle.run.proofs.Fitting.{run_is}
 
 -- ---- the pattern call
@@ -73,7 +70,7 @@ small_rule l n k h = ⊎_elim past before (le_or_lt n k)
 pub pattern_small : (b : SheetBytes) (k : ℕ) → AllBytes b.area2 → TwoBytes (pattern_fields (pattern_part b k))
 unfolding pattern_part pattern_fields decoded
 pattern_small b k h =
-    by_test (λ (x : Located). TwoBytes (pattern_fields x)) (has_rule b k) (part_of (nth_rule (decoded b).rules k)) C.BrokenSheet
+    by_test (λ (x : Option Part). TwoBytes (pattern_fields x)) (has_rule b k) (Some (part_of (nth_rule (decoded b).rules k))) None
     (λ _.
     let r = small_rule b.area2 (get_or b.counts 1 0) k h in
     two_bytes accepted_number _ _ _ (omega arith) r.place r.from r.len)
@@ -124,7 +121,7 @@ link_small b names entries x7 x8 =
 
 -- ---- the start call and the step call
 
-abbrev Small : RunLeft Step → Type 0
+abbrev Small : RunLeft StepAnswer → Type 0
 Small o = TwoBytes (step_fields o.answer)
 
 module _ (x : Lexer) (small : (k : ℕ) → SmallRule (nth_rule x.rules k)) (run : Running) (i : Input) (row-bytes : AllBytes i.row) where
@@ -165,7 +162,7 @@ step_small b run i rules-bytes row-bytes =
     by_test Small (sheet_check b) _ _ (λ _. run_small (lexer_of (decoded b)) (λ k. small_rule b.area2 (get_or b.counts 1 0) k rules-bytes) run i row-bytes)
     (λ _. no_values broken_sheet_number (omega arith))
 
-pub start_small : (x : Begun) → TwoBytes (start_fields x)
+pub start_small : (x : StartAnswer) → TwoBytes (start_fields x)
 unfolding start_fields
-start_small Started = no_values accepted_number (omega arith)
-start_small StartRefused = no_values start_refused_number (omega arith)
+start_small (Ok _) = no_values accepted_number (omega arith)
+start_small (Err _) = no_values start_refused_number (omega arith)

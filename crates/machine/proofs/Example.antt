@@ -14,10 +14,11 @@ use Rattle.section.specs.Request.{request, options}
 use Rattle.parse.specs.Parse.{Caps, caps}
 use Rattle.area.specs.Lists.{all}
 use Rattle.parsed_sheet.specs.Accepted.{is_byte}
+use Rattle.std.specs.Prelude.{Ok, Err}
+use Rattle.run.specs.declared.StepError.TheVariants.{RowMismatch}
+use Rattle.run.specs.declared.Step.TheVariants.{Done, Stopped, Skip, Token}
 use Rattle.run.specs.declared.Run.{Run}
-use Rattle.run.specs.declared.Step.{Step}
-use Rattle.run.specs.declared.Step.TheVariants.{RowMismatch, Done, Stopped, Skip, Token}
-use Rattle.run.specs.Run.{running, Input, input}
+use Rattle.run.specs.Run.{StepAnswer, running, Input, input}
 use Rattle.machine.specs.Computing.{computing}
 use Rattle.machine.specs.File.{FileRule}
 use Rattle.machine.specs.Machine.{Given, Machine, fresh, step}
@@ -81,7 +82,7 @@ session r = record {
 }
 
 -- the machine's answers
-unfoldable pub answers : Given → Machine → List Input → List Step
+unfoldable pub answers : Given → Machine → List Input → List StepAnswer
 answers g m [] = []
 answers g m (i ∷ is) = (step g m i).answer ∷ answers g (step g m i).machine is
 
@@ -108,7 +109,7 @@ met r = record { parsed = refl; unmapped = 0; unused = 0; linked = refl; started
 
 -- and these are the answers
 pub met_answers : (r : Run) → answers (given (session r)) fresh entry_rows
-    ≡ Token 300 0 2 ∷ Skip ∷ RowMismatch ∷ Skip ∷ Token 301 4 1 ∷ Token 302 5 1 ∷ Token 300 6 1 ∷ Stopped ∷ Token 302 7 1 ∷ Done ∷ []
+    ≡ Ok (Token 300 0 2) ∷ (Ok Skip) ∷ (Err RowMismatch) ∷ (Ok Skip) ∷ Ok (Token 301 4 1) ∷ Ok (Token 302 5 1) ∷ Ok (Token 300 6 1) ∷ (Ok Stopped) ∷ Ok (Token 302 7 1) ∷ (Ok Done) ∷ []
 unfolding computing answers
 met_answers r = refl
 

@@ -2,8 +2,7 @@
 use Prim.Native.Nat.{ℕ}
 use mathlib.Core.List.{List}
 use Rattle.area.specs.Contents.{entry_format, relaid}
-use Rattle.run.specs.declared.Step.{Step}
-use Rattle.run.specs.Run.{Running, running, RunLeft, leaving}
+use Rattle.run.specs.Run.{StepAnswer, Running, running, RunLeft, leaving}
 use Rattle.machine.specs.Machine.{Machine, Answered}
 use Rattle.machine.specs.Demand.{run_as}
 
@@ -16,5 +15,5 @@ abbrev pub running_as : ℕ → List ℕ → Machine → Running
 running_as n s m = running (run_as n m) (stack_as s m)
 
 -- what a call leaves whose answer and run are the machine's, where the stack's bytes were s
-abbrev pub left_as : ℕ → List ℕ → Answered → RunLeft Step
+abbrev pub left_as : ℕ → List ℕ → Answered → RunLeft StepAnswer
 left_as n s o = leaving o.answer (running_as n s o.machine)

@@ -15,7 +15,9 @@ use Rattle.text.proofs.Ranges.{same_equal, same_self}
 use Rattle.area.specs.Lists.{all}
 use Rattle.area.proofs.All.{all-at}
 use Rattle.name_map.specs.Map.{Entry}
-use Rattle.run.specs.declared.Step.TheVariants.{RowMismatch, Done, Stopped}
+use Rattle.std.specs.Prelude.{Ok, Err}
+use Rattle.run.specs.declared.StepError.TheVariants.{RowMismatch}
+use Rattle.run.specs.declared.Step.TheVariants.{Done, Stopped}
 use Rattle.run.specs.Run.{Input}
 use Rattle.machine.specs.File.{FileState, FileRule}
 use Rattle.machine.specs.Machine.{Given, Machine, current_state, lengths, fits, not_above, has, is_empty, is_live, Winner, winner, first_or_longer, winner_of, id_in, Answered, answered, token, wins, chooses, step}
@@ -260,15 +262,15 @@ module _ (g : Given) (m : Machine) (i : Input) where
     unfolding chooses
     chooses_means none p = (fitting, λ k x e l. absurd (p k x e (live_says g m x l)), refl)
     chooses_means (some w) p =
-        by_test Meant (eqb w.bytes 0) (answered Stopped m) (wins g w.rule.name w m)
+        by_test Meant (eqb w.bytes 0) (answered (Ok Stopped) m) (wins g w.rule.name w m)
         (λ z. (fitting, λ k x e l. omega (arith, has-length k x e, p.greatest k x e (live_says g m x l), eqb-true w.bytes 0 z), refl))
         (λ z. wins_means w (won w (omega (arith, eqb-false w.bytes 0 z)) p) w.rule.name refl)
 
   pub means : Means g m i (step g m i).answer (step g m i).machine
   unfolding step
   means =
-      by_test Meant (eqb m.position g.n) (answered Done m) _ (λ e. (eqb-true m.position g.n e, refl))
-      (λ e. by_test Meant (fits (not_above (g.n - m.position)) (length g.file.rules) i.row) _ (answered RowMismatch m)
+      by_test Meant (eqb m.position g.n) (answered (Ok Done) m) _ (λ e. (eqb-true m.position g.n e, refl))
+      (λ e. by_test Meant (fits (not_above (g.n - m.position)) (length g.file.rules) i.row) _ (answered (Err RowMismatch) m)
       (λ f.
       let fitting : Fitting g m i = row_fitting g m i (eqb-false m.position g.n e) f in
       let count = lengths_count (length g.file.rules) i.row fitting.size in

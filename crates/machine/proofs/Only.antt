@@ -8,9 +8,10 @@ use native.Mathlib.Omega.{arith}
 use lib.ListN.{get_elem?}
 use Rattle.characters.proofs.Tests.{le_or_lt}
 use Rattle.name_map.specs.Map.{Entry}
-use Rattle.run.specs.declared.Step.{Step}
-use Rattle.run.specs.declared.Step.TheVariants.{BrokenSheet, BrokenRun, RowMismatch, Done, Stopped, Unlinked, Skip, Token}
-use Rattle.run.specs.Run.{Input}
+use Rattle.std.specs.Prelude.{Ok, Err}
+use Rattle.run.specs.declared.StepError.TheVariants.{BrokenSheet, BrokenRun, RowMismatch}
+use Rattle.run.specs.declared.Step.TheVariants.{Done, Stopped, Unlinked, Skip, Token}
+use Rattle.run.specs.Run.{StepAnswer, Input}
 use Rattle.machine.specs.Machine.{Given, Machine, Winner, winner, move, answered}
 use Rattle.machine.specs.Means.{length_at, Fitting, Misfit, NoneMatches, Won, EntryOf, Means}
 use Rattle.machine.proofs.Options.{some_is, none_some}
@@ -57,61 +58,61 @@ module _ (g : Given) (m : Machine) (i : Input) where
   moved_same v w p q x y a b = a ∙ ap (λ (z : Winner). move z m) (same_winner v w p q) ∙ sym b
 
   module _ (distinct : Distinct g.map) where
-    pub only : (a : Step) (x : Machine) (b : Step) (y : Machine) → Means g m i a x → Means g m i b y → answered a x ≡ answered b y
-    only BrokenSheet x b y p q = absurd p
-    only BrokenRun x b y p q = absurd p
-    only Done x BrokenSheet y p q = absurd q
-    only Done x BrokenRun y p q = absurd q
-    only Done x Done y p q = ap (answered Done) (p.1 ∙ sym q.1)
-    only Done x RowMismatch y p q = absurd (q.0 p.0)
-    only Done x Stopped y p q = absurd (q.0.before p.0)
-    only Done x Unlinked y p q = absurd (q.1.fitting.before p.0)
-    only Done x Skip y p q = absurd (q.1.fitting.before p.0)
-    only Done x (Token id start bytes) y p q = absurd (q.1.fitting.before p.0)
-    only RowMismatch x BrokenSheet y p q = absurd q
-    only RowMismatch x BrokenRun y p q = absurd q
-    only RowMismatch x Done y p q = absurd (p.0 q.0)
-    only RowMismatch x RowMismatch y p q = ap (answered RowMismatch) (p.2 ∙ sym q.2)
-    only RowMismatch x Stopped y p q = absurd (fits_not q.0 p.1)
-    only RowMismatch x Unlinked y p q = absurd (fits_not q.1.fitting p.1)
-    only RowMismatch x Skip y p q = absurd (fits_not q.1.fitting p.1)
-    only RowMismatch x (Token id start bytes) y p q = absurd (fits_not q.1.fitting p.1)
-    only Stopped x BrokenSheet y p q = absurd q
-    only Stopped x BrokenRun y p q = absurd q
-    only Stopped x Done y p q = absurd (p.0.before q.0)
-    only Stopped x RowMismatch y p q = absurd (fits_not p.0 q.1)
-    only Stopped x Stopped y p q = ap (answered Stopped) (p.2 ∙ sym q.2)
-    only Stopped x Unlinked y p q = absurd (won_not q.0 q.1 p.1)
-    only Stopped x Skip y p q = absurd (won_not q.0 q.1 p.1)
-    only Stopped x (Token id start bytes) y p q = absurd (won_not q.0 q.1 p.1)
-    only Unlinked x BrokenSheet y p q = absurd q
-    only Unlinked x BrokenRun y p q = absurd q
-    only Unlinked x Done y p q = absurd (p.1.fitting.before q.0)
-    only Unlinked x RowMismatch y p q = absurd (fits_not p.1.fitting q.1)
-    only Unlinked x Stopped y p q = absurd (won_not p.0 p.1 q.1)
-    only Unlinked x Unlinked y p q = ap (answered Unlinked) (p.5 ∙ sym q.5)
-    only Unlinked x Skip y p q = absurd (name_not q.0 p.0 q.1 p.1 q.2 p.2 p.3)
-    only Unlinked x (Token id start bytes) y (v, pv, n, nv, nobody, ev) (w, qw, k, nw, (j, e, at, is, id_is), from, long, ew) =
+    pub only : (a : StepAnswer) (x : Machine) (b : StepAnswer) (y : Machine) → Means g m i a x → Means g m i b y → answered a x ≡ answered b y
+    only (Err BrokenSheet) x b y p q = absurd p
+    only (Err BrokenRun) x b y p q = absurd p
+    only (Ok Done) x (Err BrokenSheet) y p q = absurd q
+    only (Ok Done) x (Err BrokenRun) y p q = absurd q
+    only (Ok Done) x (Ok Done) y p q = ap (answered (Ok Done)) (p.1 ∙ sym q.1)
+    only (Ok Done) x (Err RowMismatch) y p q = absurd (q.0 p.0)
+    only (Ok Done) x (Ok Stopped) y p q = absurd (q.0.before p.0)
+    only (Ok Done) x (Ok Unlinked) y p q = absurd (q.1.fitting.before p.0)
+    only (Ok Done) x (Ok Skip) y p q = absurd (q.1.fitting.before p.0)
+    only (Ok Done) x (Ok (Token id start bytes)) y p q = absurd (q.1.fitting.before p.0)
+    only (Err RowMismatch) x (Err BrokenSheet) y p q = absurd q
+    only (Err RowMismatch) x (Err BrokenRun) y p q = absurd q
+    only (Err RowMismatch) x (Ok Done) y p q = absurd (p.0 q.0)
+    only (Err RowMismatch) x (Err RowMismatch) y p q = ap (answered (Err RowMismatch)) (p.2 ∙ sym q.2)
+    only (Err RowMismatch) x (Ok Stopped) y p q = absurd (fits_not q.0 p.1)
+    only (Err RowMismatch) x (Ok Unlinked) y p q = absurd (fits_not q.1.fitting p.1)
+    only (Err RowMismatch) x (Ok Skip) y p q = absurd (fits_not q.1.fitting p.1)
+    only (Err RowMismatch) x (Ok (Token id start bytes)) y p q = absurd (fits_not q.1.fitting p.1)
+    only (Ok Stopped) x (Err BrokenSheet) y p q = absurd q
+    only (Ok Stopped) x (Err BrokenRun) y p q = absurd q
+    only (Ok Stopped) x (Ok Done) y p q = absurd (p.0.before q.0)
+    only (Ok Stopped) x (Err RowMismatch) y p q = absurd (fits_not p.0 q.1)
+    only (Ok Stopped) x (Ok Stopped) y p q = ap (answered (Ok Stopped)) (p.2 ∙ sym q.2)
+    only (Ok Stopped) x (Ok Unlinked) y p q = absurd (won_not q.0 q.1 p.1)
+    only (Ok Stopped) x (Ok Skip) y p q = absurd (won_not q.0 q.1 p.1)
+    only (Ok Stopped) x (Ok (Token id start bytes)) y p q = absurd (won_not q.0 q.1 p.1)
+    only (Ok Unlinked) x (Err BrokenSheet) y p q = absurd q
+    only (Ok Unlinked) x (Err BrokenRun) y p q = absurd q
+    only (Ok Unlinked) x (Ok Done) y p q = absurd (p.1.fitting.before q.0)
+    only (Ok Unlinked) x (Err RowMismatch) y p q = absurd (fits_not p.1.fitting q.1)
+    only (Ok Unlinked) x (Ok Stopped) y p q = absurd (won_not p.0 p.1 q.1)
+    only (Ok Unlinked) x (Ok Unlinked) y p q = ap (answered (Ok Unlinked)) (p.5 ∙ sym q.5)
+    only (Ok Unlinked) x (Ok Skip) y p q = absurd (name_not q.0 p.0 q.1 p.1 q.2 p.2 p.3)
+    only (Ok Unlinked) x (Ok (Token id start bytes)) y (v, pv, n, nv, nobody, ev) (w, qw, k, nw, (j, e, at, is, id_is), from, long, ew) =
         absurd (nobody id (j, e, at, is ∙ sym (same_name v w pv qw n k nv nw), id_is))
-    only Skip x BrokenSheet y p q = absurd q
-    only Skip x BrokenRun y p q = absurd q
-    only Skip x Done y p q = absurd (p.1.fitting.before q.0)
-    only Skip x RowMismatch y p q = absurd (fits_not p.1.fitting q.1)
-    only Skip x Stopped y p q = absurd (won_not p.0 p.1 q.1)
-    only Skip x Unlinked y p q = absurd (name_not p.0 q.0 p.1 q.1 p.2 q.2 q.3)
-    only Skip x Skip y p q = ap (answered Skip) (moved_same p.0 q.0 p.1 q.1 x y p.3 q.3)
-    only Skip x (Token id start bytes) y p q = absurd (name_not p.0 q.0 p.1 q.1 p.2 q.2 q.3)
-    only (Token id start bytes) x BrokenSheet y p q = absurd q
-    only (Token id start bytes) x BrokenRun y p q = absurd q
-    only (Token id start bytes) x Done y p q = absurd (p.1.fitting.before q.0)
-    only (Token id start bytes) x RowMismatch y p q = absurd (fits_not p.1.fitting q.1)
-    only (Token id start bytes) x Stopped y p q = absurd (won_not p.0 p.1 q.1)
-    only (Token id start bytes) x Unlinked y (w, qw, k, nw, (j, e, at, is, id_is), from, long, ew) (v, pv, n, nv, nobody, ev) =
+    only (Ok Skip) x (Err BrokenSheet) y p q = absurd q
+    only (Ok Skip) x (Err BrokenRun) y p q = absurd q
+    only (Ok Skip) x (Ok Done) y p q = absurd (p.1.fitting.before q.0)
+    only (Ok Skip) x (Err RowMismatch) y p q = absurd (fits_not p.1.fitting q.1)
+    only (Ok Skip) x (Ok Stopped) y p q = absurd (won_not p.0 p.1 q.1)
+    only (Ok Skip) x (Ok Unlinked) y p q = absurd (name_not p.0 q.0 p.1 q.1 p.2 q.2 q.3)
+    only (Ok Skip) x (Ok Skip) y p q = ap (answered (Ok Skip)) (moved_same p.0 q.0 p.1 q.1 x y p.3 q.3)
+    only (Ok Skip) x (Ok (Token id start bytes)) y p q = absurd (name_not p.0 q.0 p.1 q.1 p.2 q.2 q.3)
+    only (Ok (Token id start bytes)) x (Err BrokenSheet) y p q = absurd q
+    only (Ok (Token id start bytes)) x (Err BrokenRun) y p q = absurd q
+    only (Ok (Token id start bytes)) x (Ok Done) y p q = absurd (p.1.fitting.before q.0)
+    only (Ok (Token id start bytes)) x (Err RowMismatch) y p q = absurd (fits_not p.1.fitting q.1)
+    only (Ok (Token id start bytes)) x (Ok Stopped) y p q = absurd (won_not p.0 p.1 q.1)
+    only (Ok (Token id start bytes)) x (Ok Unlinked) y (w, qw, k, nw, (j, e, at, is, id_is), from, long, ew) (v, pv, n, nv, nobody, ev) =
         absurd (nobody id (j, e, at, is ∙ sym (same_name v w pv qw n k nv nw), id_is))
-    only (Token id start bytes) x Skip y p q = absurd (name_not q.0 p.0 q.1 p.1 q.2 p.2 p.3)
-    only (Token id start bytes) x (Token id2 start2 bytes2) y (v, pv, n, nv, (j, e, at, is, id_is), from, long, ev) (w, qw, k, nw, en, from2, long2, ew) =
+    only (Ok (Token id start bytes)) x (Ok Skip) y p q = absurd (name_not q.0 p.0 q.1 p.1 q.2 p.2 p.3)
+    only (Ok (Token id start bytes)) x (Ok (Token id2 start2 bytes2)) y (v, pv, n, nv, (j, e, at, is, id_is), from, long, ev) (w, qw, k, nw, en, from2, long2, ew) =
         let ids : id ≡ id2 = distinct.one k id id2 (j, e, at, is ∙ same_name v w pv qw n k nv nw, id_is) en in
         let starts : start ≡ start2 = from ∙ sym from2 in
         let lengths : bytes ≡ bytes2 = long ∙ ap (λ (z : Winner). z.bytes) (same_winner v w pv qw) ∙ sym long2 in
         let nexts : x ≡ y = moved_same v w pv qw x y ev ew in
-        λ j. answered (Token (ids j) (starts j) (lengths j)) (nexts j)
+        λ j. answered (Ok (Token (ids j) (starts j) (lengths j))) (nexts j)

@@ -20,10 +20,10 @@ use Rattle.link.specs.Link.{is_named, with_id, with_found, link_rule, link_rules
 use Rattle.link.proofs.LinkLaws.{link_changes_ids}
 use Rattle.link.proofs.Outcomes.{link_at}
 use Rattle.winner.specs.Winner.{Lexer, in_list, live, length_in, weight}
-use Rattle.run.specs.declared.Run.{Run}
-use Rattle.run.specs.declared.Step.{Step}
+use Rattle.std.specs.Prelude.{Ok}
 use Rattle.run.specs.declared.Step.TheVariants.{Unlinked, Skip, Token}
-use Rattle.run.specs.Run.{Running, running, leaving, run_left, put_state, with_depth, advanced, popped, operated, move_by, won_by, lexer_of}
+use Rattle.run.specs.declared.Run.{Run}
+use Rattle.run.specs.Run.{StepAnswer, Running, running, leaving, run_left, put_state, with_depth, advanced, popped, operated, move_by, won_by, lexer_of}
 use Rattle.machine.specs.File.{keep, replace, push, pop, operation_by, name_from, file_rule}
 use Rattle.machine.specs.Machine.{Given, Machine, or_initial, operate, Winner, winner, move, answered, token, wins}
 use Rattle.machine.proofs.Laid.{left_as}
@@ -96,25 +96,25 @@ module _ (name : Rule → List ℕ) (es : List Entry) where
 
 -- ---- a call that does not move, and a winner
 
-pub still_as : (n : ℕ) (m : Machine) (b : List ℕ) → Begins m.stack b → (a : Step) → run_left a (run_as n m) b ≡ left_as n b (answered a m)
+pub still_as : (n : ℕ) (m : Machine) (b : List ℕ) → Begins m.stack b → (a : StepAnswer) → run_left a (run_as n m) b ≡ left_as n b (answered a m)
 still_as n m b h a = ap (run_left a (run_as n m)) (laid_again m.stack b h)
 
 -- the bytes b begin with the stack, with room for one id more; c is what stands in the areas
 module _ (n : ℕ) (m : Machine) (b : List ℕ) (begins : Begins m.stack b) (some_id : 1 ≤ length m.stack)
     (room : length m.stack * entry_width + entry_width ≤ length b) (name : Rule → List ℕ) (c : Contents) where
-  move_as : (a : Step) (x : Rule) (bytes : ℕ) → leaving a (move_by (running (run_as n m) b) x bytes)
+  move_as : (a : StepAnswer) (x : Rule) (bytes : ℕ) → leaving a (move_by (running (run_as n m) b) x bytes)
       ≡ left_as n b (answered a (move (winner (file_rule name c x) bytes) m))
   unfolding move_by move
   move_as a x bytes =
       ap (λ (z : Running). run_left a (advanced z.run bytes) z.stack) (operated_as (run_as n m) x m.stack b begins some_id room)
 
   -- the id of a named winner is the map's
-  named_as : (g : Given) (x : Rule) (w : Winner) → cond (is_named x) (token (id_of g.map (name x)) w m) (answered Skip (move w m))
+  named_as : (g : Given) (x : Rule) (w : Winner) → cond (is_named x) (token (id_of g.map (name x)) w m) (answered (Ok Skip) (move w m))
       ≡ wins g (name_from name x) w m
   unfolding wins name_from
   named_as g x w = go (is_named x)
     where
-      go : (t : Bool) → cond t (token (id_of g.map (name x)) w m) (answered Skip (move w m))
+      go : (t : Bool) → cond t (token (id_of g.map (name x)) w m) (answered (Ok Skip) (move w m))
           ≡ wins g (cond t (some (name x)) none) w m
       go true = ap (λ (o : Option ℕ). token o w m) (id_same g.map (name x))
       go false = refl
@@ -126,7 +126,7 @@ module _ (n : ℕ) (m : Machine) (b : List ℕ) (begins : Begins m.stack b) (som
     where
       go : (t : Bool) → is_named x ≡ t → (o : Option ℕ)
           → won_by (running (run_as n m) b) (cond t (with_found o x) x) bytes
-          ≡ left_as n b (cond t (token o (winner (file_rule name c x) bytes) m) (answered Skip (move (winner (file_rule name c x) bytes) m)))
-      go true e (some i) = rw e (move_as (Token i m.position bytes) x bytes)
-      go true e none = rw e (still_as n m b begins Unlinked)
-      go false e o = rw e (move_as Skip x bytes)
+          ≡ left_as n b (cond t (token o (winner (file_rule name c x) bytes) m) (answered (Ok Skip) (move (winner (file_rule name c x) bytes) m)))
+      go true e (some i) = rw e (move_as (Ok (Token i m.position bytes)) x bytes)
+      go true e none = rw e (still_as n m b begins (Ok Unlinked))
+      go false e o = rw e (move_as (Ok Skip) x bytes)

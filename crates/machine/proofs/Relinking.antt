@@ -1,4 +1,5 @@
 -- An accepted link wrote the linked rules over area 2, so the linked sheet is the sheet with linked rules; and its map passed the map's check.
+use Rattle.std.specs.Prelude.{Ok, Err}
 use mathlib.Core.Path.{◌≡◌, refl, sym, ap, ◌∙◌}
 use mathlib.Core.Bool.{Bool, true, false, cond, ◌&&◌}
 use mathlib.Core.List.{List, []}
@@ -12,10 +13,9 @@ use Rattle.area.specs.Contents.{contents, rule_format, relaid}
 use Rattle.parse.specs.Parse.{Contents}
 use Rattle.sheet_check.specs.SheetCheck.{SheetBytes, name_in, decoded, sheet_check}
 use Rattle.area.specs.Lists.{all}
-use Rattle.link.specs.declared.LinkAnswer.{LinkAnswer}
-use Rattle.link.specs.declared.LinkAnswer.TheVariants.{Linked, BrokenSheet, BrokenMap, AreaFull}
+use Rattle.link.specs.declared.LinkError.TheVariants.{BrokenSheet, BrokenMap, AreaFull}
 use Rattle.name_map.specs.Map.{Entry, entry, nth, map_width, most_entries, map_format, entry_count, entries_of, id_of, name_inside, distinct, map_check}
-use Rattle.link.specs.Link.{LinkLeft, link_left, link_rules, fits, unmapped, unused, link_all, link_checked, link_call}
+use Rattle.link.specs.Link.{LinkAnswer, linked_answer, LinkLeft, link_left, link_rules, fits, unmapped, unused, link_all, link_checked, link_call}
 use Rattle.link.proofs.LinkLaws.{linked_contents_lem, linked_passes, entry_id_lem}
 use borrow.Author.Tests.{eqb-true}
 use Rattle.characters.proofs.Tests.{and_left, and_right}
@@ -27,12 +27,10 @@ use Rattle.machine.proofs.Only.{Distinct}
 use Rattle.machine.proofs.Operations.{linked_lexer}
 
 is_linked : LinkAnswer → ℕ
-is_linked (Linked p q) = 1
-is_linked BrokenSheet = 0
-is_linked BrokenMap = 0
-is_linked (AreaFull a) = 0
+is_linked (Ok x) = 1
+is_linked (Err e) = 0
 
-module _ (b : SheetBytes) (names entries x7 x8 : List ℕ) (p q : ℕ) (accepted : (link_call b names entries x7 x8).answer ≡ Linked p q) where
+module _ (b : SheetBytes) (names entries x7 x8 : List ℕ) (p q : ℕ) (accepted : (link_call b names entries x7 x8).answer ≡ linked_answer p q) where
   linked_area : (link_call b names entries x7 x8).area2 ≡ relaid rule_format b.area2 (link_rules (name_in b) (entries_of names entries) (decoded b).rules)
   unfolding link_call link_checked link_all is_linked
   linked_area =
@@ -44,14 +42,14 @@ module _ (b : SheetBytes) (names entries x7 x8 : List ℕ) (p q : ℕ) (accepted
       done =
           let name : Rule → List ℕ = name_in b in
           let es : List Entry = entries_of names entries in
-          link_all name (Linked (length (unmapped name es (decoded b).rules)) (length (unused name es (decoded b).rules))) (decoded b).rules es b.area2 x7 x8
+          link_all name (linked_answer (length (unmapped name es (decoded b).rules)) (length (unused name es (decoded b).rules))) (decoded b).rules es b.area2 x7 x8
 
       left : LinkAnswer → LinkLeft
       left a = link_left a b.area2 x7 x8
 
       go : (t u v w : Bool)
-          → (cond t (cond u (cond v (cond w done (left (AreaFull 8))) (left (AreaFull 7))) (left BrokenMap)) (left BrokenSheet)).answer ≡ Linked p q
-          → (cond t (cond u (cond v (cond w done (left (AreaFull 8))) (left (AreaFull 7))) (left BrokenMap)) (left BrokenSheet)).area2
+          → (cond t (cond u (cond v (cond w done (left (Err (AreaFull 8)))) (left (Err (AreaFull 7)))) (left (Err BrokenMap))) (left (Err BrokenSheet))).answer ≡ linked_answer p q
+          → (cond t (cond u (cond v (cond w done (left (Err (AreaFull 8)))) (left (Err (AreaFull 7)))) (left (Err BrokenMap))) (left (Err BrokenSheet))).area2
           ≡ relaid rule_format b.area2 (link_rules (name_in b) (entries_of names entries) (decoded b).rules)
       go true true true true e = refl
       go true true true false e = absurd (omega (arith, ap is_linked e))
@@ -81,7 +79,7 @@ module _ (b : SheetBytes) (names entries x7 x8 : List ℕ) (p q : ℕ) (accepted
       checked : LinkLeft
       checked = link_checked (name_in b) (decoded b).rules (entries_of names entries) b.area2 x7 x8
 
-      go : (t u : Bool) → (cond t (cond u checked (link_left BrokenMap b.area2 x7 x8)) (link_left BrokenSheet b.area2 x7 x8)).answer ≡ Linked p q → u ≡ true
+      go : (t u : Bool) → (cond t (cond u checked (link_left (Err BrokenMap) b.area2 x7 x8)) (link_left (Err BrokenSheet) b.area2 x7 x8)).answer ≡ linked_answer p q → u ≡ true
       go t true e = refl
       go true false e = absurd (omega (arith, ap is_linked e))
       go false false e = absurd (omega (arith, ap is_linked e))
@@ -129,7 +127,7 @@ pub record Relinked (b : SheetBytes) (names entries : List ℕ) (e : SheetBytes)
   pub whole : length entries ≡ entry_count entries * 6
   pub differ : Distinct (entries_of names entries)
 
-pub relink : (b : SheetBytes) (names entries x7 x8 : List ℕ) (p q : ℕ) → (link_call b names entries x7 x8).answer ≡ Linked p q → sheet_check b ≡ true
+pub relink : (b : SheetBytes) (names entries x7 x8 : List ℕ) (p q : ℕ) → (link_call b names entries x7 x8).answer ≡ linked_answer p q → sheet_check b ≡ true
     → Relinked b names entries (linked_sheet b (link_call b names entries x7 x8))
 relink b names entries x7 x8 p q accepted passed = record {
   checks = linked_checks b names entries x7 x8 p q accepted passed;

@@ -17,9 +17,10 @@ use Rattle.link.specs.Link.{link_rules}
 use Rattle.link.proofs.Outcomes.{link_count, link_at}
 use Rattle.winner.specs.Winner.{weight, greatest, earliest, best}
 use Rattle.winner.proofs.Winning.{greatest_low}
-use Rattle.run.specs.declared.Step.{Step}
-use Rattle.run.specs.declared.Step.TheVariants.{RowMismatch, Done, Stopped}
-use Rattle.run.specs.Run.{running, current, Input, RunLeft, run_left, good_run, won_by, choose, step_row, step_run, lexer_of}
+use Rattle.std.specs.Prelude.{Ok, Err}
+use Rattle.run.specs.declared.StepError.TheVariants.{RowMismatch}
+use Rattle.run.specs.declared.Step.TheVariants.{Done, Stopped}
+use Rattle.run.specs.Run.{StepAnswer, running, current, Input, RunLeft, run_left, good_run, won_by, choose, step_row, step_run, lexer_of}
 use Rattle.machine.specs.File.{FileRule, file_state, file_rule, file_in}
 use Rattle.machine.specs.Machine.{Given, Machine, current_state, lengths, fits, not_above, Winner, winner, winner_of, Answered, wins, chooses, step}
 use Rattle.machine.proofs.Laid.{left_as}
@@ -31,7 +32,7 @@ use Rattle.machine.proofs.Winners.{f, rules, alive, weights_under, top, place_sa
 use Rattle.machine.proofs.Keeping.{Runs, numbers, current_as}
 
 -- a test that call and machine share
-by_same_test : (n : ℕ) (b : List ℕ) (t : Bool) (x y : RunLeft Step) (p q : Answered) → (t ≡ true → x ≡ left_as n b p) → (t ≡ false → y ≡ left_as n b q)
+by_same_test : (n : ℕ) (b : List ℕ) (t : Bool) (x y : RunLeft StepAnswer) (p q : Answered) → (t ≡ true → x ≡ left_as n b p) → (t ≡ false → y ≡ left_as n b q)
     → cond t x y ≡ left_as n b (cond t p q)
 by_same_test n b true x y p q f k = f refl
 by_same_test n b false x y p q f k = k refl
@@ -71,12 +72,12 @@ module _ (name : Rule → List ℕ) (c : Contents) (es : List Entry) (limit n : 
       chooses_as none p =
           let under = weights_under name c sound m row fit 0 (λ k x e l. absurd (p k x e l)) in
           let low : top_weight ≤ 0 = greatest_low weigh 0 (length c.rules) under in
-          rw (eq-eqb top_weight 0 (omega arith)) (still_as n m b h.begins Stopped)
+          rw (eq-eqb top_weight 0 (omega arith)) (still_as n m b h.begins (Ok Stopped))
       chooses_as (some w) p =
-          let wonBy-rule : ℕ → ℕ → RunLeft Step = λ k bytes. won_by (running (run_as n m) b) (nth_rule (link_rules name es c.rules) k) bytes in
+          let wonBy-rule : ℕ → ℕ → RunLeft StepAnswer = λ k bytes. won_by (running (run_as n m) b) (nth_rule (link_rules name es c.rules) k) bytes in
           let first : ℕ = earliest weigh (length c.rules) in
-          ap (λ (v : ℕ). cond (eqb v 0) (run_left Stopped (run_as n m) b) (wonBy-rule first v)) (top name c sound m row fit w p)
-          ∙ by_same_test n b (eqb w.bytes 0) _ _ _ _ (λ _. still_as n m b h.begins Stopped)
+          ap (λ (v : ℕ). cond (eqb v 0) (run_left (Ok Stopped) (run_as n m) b) (wonBy-rule first v)) (top name c sound m row fit w p)
+          ∙ by_same_test n b (eqb w.bytes 0) _ _ _ _ (λ _. still_as n m b h.begins (Ok Stopped))
           (λ e.
           let same : first ≡ p.place = place_same name c sound m row fit w p (omega (arith, eqb-false w.bytes 0 e)) in
           ap (λ (k : ℕ). wonBy-rule k w.bytes) same ∙ won w p.place (is_rule name c sound m row fit w p))
@@ -105,5 +106,5 @@ module _ (name : Rule → List ℕ) (c : Contents) (es : List Entry) (limit n : 
     unfolding step_run step step_row
     step_as i =
         rw (run_good, length-map c.rules (file_rule name c), link_count name es c.rules, row_same test count i.row, weights_as i.row)
-        (by_same_test n b (eqb m.position n) _ _ _ _ (λ _. still_as n m b h.begins Done)
-        (λ e. by_same_test n b (fits test count i.row) _ _ _ _ (chosen i e) (λ _. still_as n m b h.begins RowMismatch)))
+        (by_same_test n b (eqb m.position n) _ _ _ _ (λ _. still_as n m b h.begins (Ok Done))
+        (λ e. by_same_test n b (fits test count i.row) _ _ _ _ (chosen i e) (λ _. still_as n m b h.begins (Err RowMismatch))))

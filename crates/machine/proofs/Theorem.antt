@@ -16,9 +16,7 @@ use Rattle.parsed_sheet.proofs.Decoding.{accepted_decodes, accepted_checks, answ
 use Rattle.parsed_sheet.proofs.Growing.{accepted_meaning}
 use Rattle.name_map.specs.Map.{Entry, entries_of}
 use Rattle.winner.specs.Winner.{Lexer}
-use Rattle.run.specs.declared.Begun.{Begun}
-use Rattle.run.specs.declared.Begun.TheVariants.{Started}
-use Rattle.run.specs.Run.{Running, most_bytes, put_state, Input, RunLeft, leaving, run_left, first_run, start_call}
+use Rattle.run.specs.Run.{StartAnswer, start_accepted, Running, most_bytes, put_state, Input, RunLeft, leaving, run_left, first_run, start_call}
 use Rattle.run_laws.specs.Calls.{calls, EachCall}
 use Rattle.run_laws.specs.Always.{SoundRun, SoundCall, AlwaysHolds}
 use Rattle.run_laws.proofs.Started.{start_small, start_long, start_left}
@@ -39,14 +37,14 @@ use Rattle.machine.proofs.Whole.{Sheet, as_machine, sheet_calls, AllSound, follo
 
 -- ---- the start
 
-module _ (n : ℕ) (x : Running) (started : (start_call n x).answer ≡ Started) where
+module _ (n : ℕ) (x : Running) (started : (start_call n x).answer ≡ start_accepted) where
   -- state 0 alone at the bottom
   first_as : put_state x.stack 0 0 ≡ stack_as x.stack fresh
   first_as = laid_bottom x.stack 0 (omega (arith, start_long n x started))
 
   -- it leaves the machine's first run
-  start_as : start_call n x ≡ leaving Started (running_as n x.stack fresh)
-  start_as = start_left n x started ∙ ap (run_left Started (first_run n)) first_as
+  start_as : start_call n x ≡ leaving start_accepted (running_as n x.stack fresh)
+  start_as = start_left n x started ∙ ap (run_left start_accepted (first_run n)) first_as
 
   start_begins : Begins fresh.stack (stack_as x.stack fresh)
   start_begins = laid_begins x.stack fresh.stack (omega (arith, start_long n x started))
@@ -55,8 +53,8 @@ module _ (n : ℕ) (x : Running) (started : (start_call n x).answer ≡ Started)
 
 -- the calls on a sheet with the linked rules follow the machine, from an accepted start on
 module _ (name : Rule → List ℕ) (c : Contents) (es : List Entry) (limit : ℕ) (sound : Sound c) (differ : Distinct es) (b : SheetBytes) (sheet : Sheet name c es b)
-    (n : ℕ) (x : Running) (started : (start_call n x).answer ≡ Started) (is : List Input) where
-  abbrev Followed : File → List Entry → RunLeft Begun → Type 0
+    (n : ℕ) (x : Running) (started : (start_call n x).answer ≡ start_accepted) (is : List Input) where
+  abbrev Followed : File → List Entry → RunLeft StartAnswer → Type 0
   Followed f map left =
       let g : Given = record { file = f; map = map; limit = limit; n = n } in
       AsMachine g fresh [] x.stack left.after × Follows g x.stack fresh [] is (calls b left.after is)
@@ -74,10 +72,10 @@ module _ (name : Rule → List ℕ) (c : Contents) (es : List Entry) (limit : �
       let sound-each = subst (λ (k : ℕ). EachCall (SoundCall k n size) (start_call n x).after (calls b (start_call n x).after is)) states w.each in
       let left = start_as n x started in
       let runs : Runs g size fresh first = record {
-        sound = subst (λ (z : RunLeft Begun). SoundAs g size z.after) left sound-first;
+        sound = subst (λ (z : RunLeft StartAnswer). SoundAs g size z.after) left sound-first;
         begins = start_begins n x started;
       } in
-      let each = subst (λ (z : RunLeft Begun). AllSound g size z.after (calls b z.after is)) left sound-each in
+      let each = subst (λ (z : RunLeft StartAnswer). AllSound g size z.after (calls b z.after is)) left sound-each in
       let places = place_next [] fresh.stack x.stack x.stack (place_first x.stack) in
       subst⁻¹ (Followed (file_in name c) es) left (
         as_machine g fresh [] x.stack first runs places,

@@ -9,9 +9,9 @@ use Rattle.parse.specs.Parse.{Contents}
 use Rattle.sheet_check.specs.SheetCheck.{SheetBytes, decoded, sheet_check}
 use Rattle.name_map.specs.Map.{Entry}
 use Rattle.winner.specs.Winner.{Lexer}
-use Rattle.run.specs.declared.Step.{Step}
+use Rattle.std.specs.Prelude.{Ok}
 use Rattle.run.specs.declared.Step.TheVariants.{Unlinked}
-use Rattle.run.specs.Run.{Running, running, Input, RunLeft, step_run, lexer_of, step_call}
+use Rattle.run.specs.Run.{StepAnswer, Running, running, Input, RunLeft, step_run, lexer_of, step_call}
 use Rattle.run_laws.specs.Calls.{calls, EachCall}
 use Rattle.run_laws.specs.Always.{SoundCall}
 use Rattle.machine.specs.File.{file_in}
@@ -59,11 +59,11 @@ as_machine g m held s l h places = record {
 }
 
 -- where the map holds the name of each named rule, a named winner is a token
-linked_answer : (g : Given) (m : Machine) (i : Input) (a : Step) (next : Machine) → Means g m i a next
-    → MapHolds g.file g.map → a ≡ Unlinked → ⊥
-linked_answer g m i a next h held e = go (subst (λ (z : Step). Means g m i z next) e h)
+linked_answer : (g : Given) (m : Machine) (i : Input) (a : StepAnswer) (next : Machine) → Means g m i a next
+    → MapHolds g.file g.map → a ≡ Ok Unlinked → ⊥
+linked_answer g m i a next h held e = go (subst (λ (z : StepAnswer). Means g m i z next) e h)
   where
-    go : Means g m i Unlinked next → ⊥
+    go : Means g m i (Ok Unlinked) next → ⊥
     go (w, won, name, named, none, q) =
         let r = held.holds won.place w.rule name won.rule named in
         none r.0 r.1
@@ -71,7 +71,7 @@ linked_answer g m i a next h held e = go (subst (λ (z : Step). Means g m i z ne
 -- ---- all calls
 
 -- each of them is sound
-abbrev pub AllSound : Given → ℕ → Running → List (RunLeft Step) → Type 0
+abbrev pub AllSound : Given → ℕ → Running → List (RunLeft StepAnswer) → Type 0
 AllSound g size x os = EachCall (SoundCall (length g.file.states) g.n size) x os
 
 -- over a stack whose bytes were s before the start call
@@ -83,13 +83,13 @@ module _ (g : Given) (differ : Distinct g.map) (b : SheetBytes) (by-machine : Ca
   follows [] m held l h places sound = tt
   follows (i ∷ is) m held l h places sound =
       let next : Machine = (step g m i).machine in
-      let a : Step = (step g m i).answer in
+      let a : StepAnswer = (step g m i).answer in
       let meant = means g m i in
       let left = by-machine.called (length s) m l i h in
-      let each = subst (λ (o : RunLeft Step). AllSound g (length s) (running (run_as g.n m) l) (o ∷ calls b o.after is)) left sound in
+      let each = subst (λ (o : RunLeft StepAnswer). AllSound g (length s) (running (run_as g.n m) l) (o ∷ calls b o.after is)) left sound in
       let runs = next_runs g (length s) m l h next each.0.after in
       let stand = place_next (m.stack ∷ held) next.stack s l places in
-      subst⁻¹ (λ (o : RunLeft Step). Follows g s m held (i ∷ is) (o ∷ calls b o.after is)) left (
+      subst⁻¹ (λ (o : RunLeft StepAnswer). Follows g s m held (i ∷ is) (o ∷ calls b o.after is)) left (
         record {
           answer = refl;
           means = meant;

@@ -1,5 +1,6 @@
 -- Demand 3 in words: an accepted call's word is told from the others, and the values of the machine's answers have two bytes, so that the words of
 -- the step calls are those of its answers and of no others.
+use Rattle.std.specs.Prelude.{Ok, Err}
 use mathlib.Core.Path.{◌≡◌, refl, sym, ap, ◌∙◌}
 use mathlib.Core.List.{List, [], ◌∷◌, map}
 use mathlib.Core.Option.{some}
@@ -14,15 +15,13 @@ use Rattle.parse.specs.declared.Answer.{Answer}
 use Rattle.parse.specs.declared.Answer.TheVariants as P
 use Rattle.parse.specs.Parse.{parse_fields, parse_word}
 use Rattle.sheet_check.specs.SheetCheck.{SheetBytes}
-use Rattle.link.specs.declared.LinkAnswer.{LinkAnswer}
-use Rattle.link.specs.declared.LinkAnswer.TheVariants as L
+use Rattle.link.specs.declared.LinkError.TheVariants as L
 use Rattle.name_map.specs.Map.{Entry}
-use Rattle.link.specs.Link.{link_fields, link_word}
-use Rattle.run.specs.declared.Begun.{Begun}
-use Rattle.run.specs.declared.Begun.TheVariants.{Started, StartRefused}
-use Rattle.run.specs.declared.Step.{Step}
-use Rattle.run.specs.declared.Step.TheVariants.{BrokenSheet, BrokenRun, RowMismatch, Done, Stopped, Unlinked, Skip, Token}
-use Rattle.run.specs.Run.{Running, Input, RunLeft, step_call, start_fields, start_word, view, view_fields, step_fields, step_word}
+use Rattle.link.specs.Link.{LinkAnswer, linked_answer, link_fields, link_word}
+use Rattle.std.specs.Prelude.{Ok, Err}
+use Rattle.run.specs.declared.StepError.TheVariants.{BrokenSheet, BrokenRun, RowMismatch}
+use Rattle.run.specs.declared.Step.TheVariants.{Done, Stopped, Unlinked, Skip, Token}
+use Rattle.run.specs.Run.{StartAnswer, start_accepted, start_refused, StepAnswer, Running, Input, RunLeft, step_call, start_fields, start_word, view, view_fields, step_fields, step_word}
 use Rattle.run.proofs.RunWords.{step_tells}
 use Rattle.run_laws.specs.Calls.{calls}
 use Rattle.troymantle.specs.RunWords.{step_in_words}
@@ -45,17 +44,17 @@ parse_zero P.InvalidUtf8 e = absurd (omega (arith, e))
 parse_zero (P.AreaFull n) e = absurd (omega (arith, e))
 parse_zero (P.FaultyFile n) e = absurd (omega (arith, e))
 
-link_zero : (x : LinkAnswer) → link_word x % 65536 ≡ 0 → (a : ℕ) × (b : ℕ) × (x ≡ L.Linked a b)
+link_zero : (x : LinkAnswer) → link_word x % 65536 ≡ 0 → (a : ℕ) × (b : ℕ) × (x ≡ linked_answer a b)
 unfolding link_fields
-link_zero (L.Linked a b) e = (a, b, refl)
-link_zero L.BrokenSheet e = absurd (omega (arith, e))
-link_zero L.BrokenMap e = absurd (omega (arith, e))
-link_zero (L.AreaFull n) e = absurd (omega (arith, e))
+link_zero (Ok x) e = (x.unmapped_count, x.unused_count, refl)
+link_zero (Err L.BrokenSheet) e = absurd (omega (arith, e))
+link_zero (Err L.BrokenMap) e = absurd (omega (arith, e))
+link_zero (Err (L.AreaFull n)) e = absurd (omega (arith, e))
 
-start_zero : (x : Begun) → start_word x ≡ 0 → x ≡ Started
+start_zero : (x : StartAnswer) → start_word x ≡ 0 → x ≡ start_accepted
 unfolding start_fields
-start_zero Started e = refl
-start_zero StartRefused e = absurd (omega (arith, e))
+start_zero (Ok _) e = refl
+start_zero (Err _) e = absurd (omega (arith, e))
 
 accepts : (q : Session) → AcceptsInWords q → Accepts q
 accepts q h =
@@ -83,16 +82,16 @@ ids_low names (a ∷ b ∷ c ∷ d ∷ e ∷ f ∷ l) h (suc j) x q = ids_low na
 
 -- ---- the machine's answers
 
-means_small : (g : Given) (m : Machine) (i : Input) (a : Step) (next : Machine) → g.n < 65536 → LowIds g.map → Means g m i a next → TwoBytes (step_fields a)
+means_small : (g : Given) (m : Machine) (i : Input) (a : StepAnswer) (next : Machine) → g.n < 65536 → LowIds g.map → Means g m i a next → TwoBytes (step_fields a)
 unfolding view view_fields
-means_small g m i BrokenSheet next h l e = absurd e
-means_small g m i BrokenRun next h l e = absurd e
-means_small g m i RowMismatch next h l e = no_values row_mismatch_number (omega arith)
-means_small g m i Done next h l e = no_values done_number (omega arith)
-means_small g m i Stopped next h l e = no_values stopped_number (omega arith)
-means_small g m i Unlinked next h l e = no_values unlinked_number (omega arith)
-means_small g m i Skip next h l e = no_values skip_number (omega arith)
-means_small g m i (Token id start bytes) next h l (w, won, name, named, (j, x, at, same, is), from, long, _) =
+means_small g m i (Err BrokenSheet) next h l e = absurd e
+means_small g m i (Err BrokenRun) next h l e = absurd e
+means_small g m i (Err RowMismatch) next h l e = no_values row_mismatch_number (omega arith)
+means_small g m i (Ok Done) next h l e = no_values done_number (omega arith)
+means_small g m i (Ok Stopped) next h l e = no_values stopped_number (omega arith)
+means_small g m i (Ok Unlinked) next h l e = no_values unlinked_number (omega arith)
+means_small g m i (Ok Skip) next h l e = no_values skip_number (omega arith)
+means_small g m i (Ok (Token id start bytes)) next h l (w, won, name, named, (j, x, at, same, is), from, long, _) =
     let low = won.fitting.low won.place (place_inside g.file.rules won.place w.rule won.rule) in
     two_bytes token_number id start bytes (omega arith) (omega (arith, is, l j x at))
     (omega (arith, from, low, won.has, won.some_bytes, h)) (omega (arith, long, low, won.has, h))
@@ -103,7 +102,7 @@ module _ (g : Given) (s : List ℕ) (b : SheetBytes) (small : g.n < 65536) (ids 
   unfolding Follows FollowsInWords calls calls_in_words
   in_words_follows [] x m held f = tt
   in_words_follows (i ∷ is) x m held f =
-      let o : RunLeft Step = step_call b x i in
+      let o : RunLeft StepAnswer = step_call b x i in
       let c = f.0 in
       let fits : TwoBytes (step_fields (step g m i).answer) = means_small g m i (step g m i).answer (step g m i).machine small ids c.means in
       let same : step_word o.answer ≡ step_word (step g m i).answer = ap step_word c.answer in (
@@ -114,7 +113,7 @@ module _ (g : Given) (s : List ℕ) (b : SheetBytes) (small : g.n < 65536) (ids 
 same_words : (b : SheetBytes) (is : List Input) (x : Running) → calls_in_words b x is ≡ map step_in_words (calls b x is)
 unfolding calls calls_in_words
 same_words b [] x = refl
-same_words b (i ∷ is) x = let o : RunLeft Step = step_call b x i in ap (λ (os : List (RunLeft ℕ)). step_in_words o ∷ os) (same_words b is o.after)
+same_words b (i ∷ is) x = let o : RunLeft StepAnswer = step_call b x i in ap (λ (os : List (RunLeft ℕ)). step_in_words o ∷ os) (same_words b is o.after)
 
 pub in_words : InWordsHolds
 unfolding InWordsHolds DemandHolds

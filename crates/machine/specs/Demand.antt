@@ -1,6 +1,6 @@
 -- Demand 3: one statement about a whole list of step calls, from an accepted parse, an accepted link and an accepted start. Where the link's map
 -- holds all rule names no answer is 'unlinked'; all else holds of any map (01, The run machine).
-use Rattle.std.specs.Prelude.{ℕ, ◌+◌, ◌*◌, ◌/◌, ◌%◌, ◌≤◌, ◌<◌, ◌≡◌, cond, List, [], ◌∷◌, ltb, length, get_or}
+use Rattle.std.specs.Prelude.{ℕ, ◌+◌, ◌*◌, ◌/◌, ◌%◌, ◌≤◌, ◌<◌, ◌≡◌, cond, List, [], ◌∷◌, ltb, length, get_or, Ok, Err}
 use Rattle.std.proofs.Math.Option.{Option, none, some}
 use Rattle.std.proofs.Math.ListN.{get_elem?}
 use Rattle.section.specs.Request.{Request}
@@ -8,15 +8,12 @@ use Rattle.parse.specs.declared.Answer.TheVariants.{Accepted}
 use Rattle.parse.specs.Parse.{Caps, parse_call}
 use Rattle.sheet_check.specs.SheetCheck.{SheetBytes, sheet_bytes}
 use Rattle.parsed_sheet.specs.Accepted.{sheet_left_by}
-use Rattle.link.specs.declared.LinkAnswer.TheVariants.{Linked}
 use Rattle.name_map.specs.Map.{Entry}
-use Rattle.link.specs.Link.{LinkLeft, link_call}
+use Rattle.link.specs.Link.{linked_answer, LinkLeft, link_call}
+use Rattle.run.specs.declared.StepError.TheVariants.{BrokenSheet, BrokenRun}
+use Rattle.run.specs.declared.Step.TheVariants.{Unlinked}
 use Rattle.run.specs.declared.Run.{Run}
-use Rattle.run.specs.declared.Begun.{Begun}
-use Rattle.run.specs.declared.Begun.TheVariants.{Started}
-use Rattle.run.specs.declared.Step.{Step}
-use Rattle.run.specs.declared.Step.TheVariants.{BrokenSheet, BrokenRun, Unlinked}
-use Rattle.run.specs.Run.{Running, most_bytes, Input, RunLeft, start_call}
+use Rattle.run.specs.Run.{StartAnswer, start_accepted, StepAnswer, Running, most_bytes, Input, RunLeft, start_call}
 use Rattle.run_laws.specs.Calls.{calls, last_position}
 use Rattle.run_laws.specs.Pieces.{pieces, Adjoin, covered}
 use Rattle.machine.specs.File.{FileRule, File, map_of, file_of}
@@ -57,22 +54,22 @@ pub record MapHolds (f : File) (es : List Entry) : Type 0 where
   pub holds : (k : ℕ) (x : FileRule) (name : List ℕ) → get_elem? f.rules k ≡ some x → x.name ≡ some name → (id : ℕ) × EntryOf es name id
 
 -- the answer is neither 6 nor 9, nor 'unlinked' where the map holds all rule names
-pub record Allowed (g : Given) (a : Step) : Type 0 where
-  pub not_6 : a ≡ BrokenSheet → ⊥
-  pub not_9 : a ≡ BrokenRun → ⊥
-  pub not_unlinked : MapHolds g.file g.map → a ≡ Unlinked → ⊥
+pub record Allowed (g : Given) (a : StepAnswer) : Type 0 where
+  pub not_6 : a ≡ Err BrokenSheet → ⊥
+  pub not_9 : a ≡ Err BrokenRun → ⊥
+  pub not_unlinked : MapHolds g.file g.map → a ≡ Ok Unlinked → ⊥
 
 -- a call that left o: its answer is the machine's; this and what the machine holds then mean what they should, and nothing else would; and the run
 -- and the stack's bytes are as the machine has them
-pub record Call (g : Given) (s : List ℕ) (m : Machine) (held : List (List ℕ)) (i : Input) (o : RunLeft Step) : Type 0 where
+pub record Call (g : Given) (s : List ℕ) (m : Machine) (held : List (List ℕ)) (i : Input) (o : RunLeft StepAnswer) : Type 0 where
   pub answer : o.answer ≡ (step g m i).answer
   pub means : Means g m i (step g m i).answer (step g m i).machine
-  pub only : (a : Step) (next : Machine) → Means g m i a next → answered a next ≡ step g m i
+  pub only : (a : StepAnswer) (next : Machine) → Means g m i a next → answered a next ≡ step g m i
   pub allowed : Allowed g o.answer
   pub leaves : AsMachine g (step g m i).machine (m.stack ∷ held) s o.after
 
 -- each of the calls, the machine going along
-unfoldable pub Follows : Given → List ℕ → Machine → List (List ℕ) → List Input → List (RunLeft Step) → Type 0
+unfoldable pub Follows : Given → List ℕ → Machine → List (List ℕ) → List Input → List (RunLeft StepAnswer) → Type 0
 Follows g s m held [] [] = Unit {0}
 Follows g s m held [] (o ∷ os) = ⊥
 Follows g s m held (i ∷ is) [] = ⊥
@@ -81,7 +78,7 @@ Follows g s m held (i ∷ is) (o ∷ os) = Call g s m held i o × Follows g s (s
 -- ---- the demand
 
 -- of step calls with these inputs that left os, after a start call that left f, over a stack whose bytes were s before it
-pub record Demand (g : Given) (s : List ℕ) (f : RunLeft Begun) (is : List Input) (os : List (RunLeft Step)) : Type 0 where
+pub record Demand (g : Given) (s : List ℕ) (f : RunLeft StartAnswer) (is : List Input) (os : List (RunLeft StepAnswer)) : Type 0 where
   -- n is within the limit, and at first the run is as the machine has it
   pub small : g.n ≤ g.limit
   pub first : AsMachine g fresh [] s f.after
@@ -120,7 +117,7 @@ abbrev pub linked_sheet : SheetBytes → LinkLeft → SheetBytes
 linked_sheet b l = sheet_bytes b.source b.area1 l.area2 b.area3 b.area4 b.area5 b.counts
 
 -- what the start call left
-abbrev pub start_left_of : Session → RunLeft Begun
+abbrev pub start_left_of : Session → RunLeft StartAnswer
 start_left_of q = start_call q.n q.running
 
 -- the file and the map, by their bytes alone
@@ -139,11 +136,11 @@ pub record Accepts (q : Session) : Type 0 where
   pub parsed : (parse_call q.request q.capacities).answer ≡ Accepted
   pub unmapped : ℕ
   pub unused : ℕ
-  pub linked : (link_left_of q).answer ≡ Linked unmapped unused
-  pub started : (start_left_of q).answer ≡ Started
+  pub linked : (link_left_of q).answer ≡ linked_answer unmapped unused
+  pub started : (start_left_of q).answer ≡ start_accepted
 
 -- on the linked sheet, after the start
-abbrev pub session_calls : Session → List Input → List (RunLeft Step)
+abbrev pub session_calls : Session → List Input → List (RunLeft StepAnswer)
 session_calls q is = calls (linked_sheet (sheet_parsed q) (link_left_of q)) (start_left_of q).after is
 
 -- the demand, of every session whose calls are accepted and of every list of rows

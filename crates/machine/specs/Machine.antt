@@ -1,12 +1,12 @@
 -- The run machine (01, The run machine). It is given a file's states and rules, a map, n and the limit of n, and reads neither sheet nor run.
-use Rattle.std.specs.Prelude.{ℕ, ◌+◌, ◌*◌, ◌-◌, Bool, true, false, cond, not, ◌&&◌, ◌||◌, List, [], ◌∷◌, ◌++◌, eqb, ltb, leb, length, get_or, take}
+use Rattle.std.specs.Prelude.{ℕ, ◌+◌, ◌*◌, ◌-◌, Bool, true, false, cond, not, ◌&&◌, ◌||◌, List, [], ◌∷◌, ◌++◌, eqb, ltb, leb, length, get_or, take, Ok, Err}
 use Rattle.std.proofs.Math.Option.{Option, none, some}
 use Rattle.text.specs.Range.{same_bytes}
 use Rattle.area.specs.Lists.{all}
 use Rattle.name_map.specs.Map.{Entry}
-use Rattle.run.specs.declared.Step.{Step}
-use Rattle.run.specs.declared.Step.TheVariants.{RowMismatch, Done, Stopped, Unlinked, Skip, Token}
-use Rattle.run.specs.Run.{Input}
+use Rattle.run.specs.declared.StepError.TheVariants.{RowMismatch}
+use Rattle.run.specs.declared.Step.TheVariants.{Done, Stopped, Unlinked, Skip, Token}
+use Rattle.run.specs.Run.{StepAnswer, Input}
 use Rattle.machine.specs.File.{Operation, keep, replace, push, pop, FileState, FileRule, File}
 
 -- ---- what it is given, and what it holds
@@ -111,27 +111,27 @@ move w m = record { position = m.position + w.bytes; moves = m.moves + 1; stack 
 
 -- an answer, and what the machine holds then
 pub record Answered : Type 0 where
-  pub answer : Step
+  pub answer : StepAnswer
   pub machine : Machine
 
 -- the record of these
-abbrev pub answered : Step → Machine → Answered
+abbrev pub answered : StepAnswer → Machine → Answered
 answered a m = record { answer = a; machine = m }
 
 -- a named winner: a token with the map's id, or 'unlinked', which changes nothing
 unfoldable pub token : Option ℕ → Winner → Machine → Answered
-token none w m = answered Unlinked m
-token (some id) w m = answered (Token id m.position w.bytes) (move w m)
+token none w m = answered (Ok Unlinked) m
+token (some id) w m = answered (Ok (Token id m.position w.bytes)) (move w m)
 
 -- a skip by a winner without a name
 unfoldable pub wins : Given → Option (List ℕ) → Winner → Machine → Answered
-wins g none w m = answered Skip (move w m)
+wins g none w m = answered (Ok Skip) (move w m)
 wins g (some name) w m = token (id_in g.map name) w m
 
 -- 'stopped' where no rule is live or the greatest length is 0, which changes nothing
 unfoldable pub chooses : Given → Option Winner → Machine → Answered
-chooses g none m = answered Stopped m
-chooses g (some w) m = cond (eqb w.bytes 0) (answered Stopped m) (wins g w.rule.name w m)
+chooses g none m = answered (Ok Stopped) m
+chooses g (some w) m = cond (eqb w.bytes 0) (answered (Ok Stopped) m) (wins g w.rule.name w m)
 
 -- a length is not above what is left
 abbrev pub not_above : ℕ → ℕ → Bool
@@ -141,7 +141,7 @@ not_above left l = leb l left
 unfoldable pub step : Given → Machine → Input → Answered
 step g m i =
     let f = g.file in
-    cond (eqb m.position g.n) (answered Done m)
+    cond (eqb m.position g.n) (answered (Ok Done) m)
     (cond (fits (not_above (g.n - m.position)) (length f.rules) i.row)
     (chooses g (winner_of f.states (current_state m.stack) f.rules (lengths i.row)) m)
-    (answered RowMismatch m))
+    (answered (Err RowMismatch) m))

@@ -1,12 +1,12 @@
 -- What an answer of the run machine means, and the machine that is next, in 01's words (01, The run machine). The winner is stated here: by every
 -- live rule of the file, and not by how a machine looks for it.
-use Rattle.std.specs.Prelude.{ℕ, ◌+◌, ◌*◌, ◌-◌, ◌≤◌, ◌<◌, ◌≡◌, false, List, [], ◌⊎◌, length, get_or}
+use Rattle.std.specs.Prelude.{ℕ, ◌+◌, ◌*◌, ◌-◌, ◌≤◌, ◌<◌, ◌≡◌, false, List, [], ◌⊎◌, length, get_or, Ok, Err}
 use Rattle.std.proofs.Math.Option.{none, some}
 use Rattle.std.proofs.Math.ListN.{get_elem?}
 use Rattle.name_map.specs.Map.{Entry}
-use Rattle.run.specs.declared.Step.{Step}
-use Rattle.run.specs.declared.Step.TheVariants.{BrokenSheet, BrokenRun, RowMismatch, Done, Stopped, Unlinked, Skip, Token}
-use Rattle.run.specs.Run.{Input}
+use Rattle.run.specs.declared.StepError.TheVariants.{BrokenSheet, BrokenRun, RowMismatch}
+use Rattle.run.specs.declared.Step.TheVariants.{Done, Stopped, Unlinked, Skip, Token}
+use Rattle.run.specs.Run.{StepAnswer, Input}
 use Rattle.machine.specs.File.{FileRule}
 use Rattle.machine.specs.Machine.{Given, Machine, current_state, is_exclusive, Winner, move}
 
@@ -62,15 +62,15 @@ EntryOf es name id = (j : ℕ) × (e : Entry) × (get_elem? es j ≡ some e) × 
 -- ---- the answers
 
 -- what an answer means of the machine m, an input, and the machine that is next; 6 and 9 the machine never gives
-abbrev pub Means : Given → Machine → Input → Step → Machine → Type 0
-Means g m i BrokenSheet next = ⊥
-Means g m i BrokenRun next = ⊥
-Means g m i Done next = (m.position ≡ g.n) × (next ≡ m)
-Means g m i RowMismatch next = (m.position ≡ g.n → ⊥) × Misfit g m i × (next ≡ m)
-Means g m i Stopped next = Fitting g m i × NoneMatches g m i × (next ≡ m)
-Means g m i Unlinked next =
+abbrev pub Means : Given → Machine → Input → StepAnswer → Machine → Type 0
+Means g m i (Err BrokenSheet) next = ⊥
+Means g m i (Err BrokenRun) next = ⊥
+Means g m i (Ok Done) next = (m.position ≡ g.n) × (next ≡ m)
+Means g m i (Err RowMismatch) next = (m.position ≡ g.n → ⊥) × Misfit g m i × (next ≡ m)
+Means g m i (Ok Stopped) next = Fitting g m i × NoneMatches g m i × (next ≡ m)
+Means g m i (Ok Unlinked) next =
     (w : Winner) × Won g m i w × (name : List ℕ) × (w.rule.name ≡ some name) × ((id : ℕ) → EntryOf g.map name id → ⊥) × (next ≡ m)
-Means g m i Skip next = (w : Winner) × Won g m i w × (w.rule.name ≡ none) × (next ≡ move w m)
-Means g m i (Token id start bytes) next =
+Means g m i (Ok Skip) next = (w : Winner) × Won g m i w × (w.rule.name ≡ none) × (next ≡ move w m)
+Means g m i (Ok (Token id start bytes)) next =
     (w : Winner) × Won g m i w × (name : List ℕ) × (w.rule.name ≡ some name) × EntryOf g.map name id
     × (start ≡ m.position) × (bytes ≡ w.bytes) × (next ≡ move w m)

@@ -5,8 +5,7 @@ use Rattle.area.specs.Bytes.{AllBytes}
 use Rattle.parse.specs.Parse.{parse_call}
 use Rattle.sheet_check.specs.SheetCheck.{SheetBytes, sheet_bytes}
 use Rattle.link.specs.Link.{link_call}
-use Rattle.run.specs.declared.Step.{Step}
-use Rattle.run.specs.Run.{Running, Input, RunLeft, start_call, step_call, step_fields, step_word}
+use Rattle.run.specs.Run.{StepAnswer, Running, Input, RunLeft, start_call, step_call, step_fields, step_word}
 use Rattle.troymantle.specs.Words.{LeftInWords, in_words}
 use Rattle.troymantle.specs.LinkWords.{LinkInWords, in_link_words}
 use Rattle.troymantle.specs.RunWords.{start_in_words, step_in_words}
@@ -48,7 +47,7 @@ pub record AcceptsInWords (q : Session) : Type 0 where
 pub record CallInWords (g : Given) (s : List ℕ) (m : Machine) (held : List (List ℕ)) (i : Input) (o : RunLeft ℕ) : Type 0 where
   pub word : o.answer ≡ step_word (step g m i).answer
   pub fits : TwoBytes (step_fields (step g m i).answer)
-  pub only : (a : Step) → TwoBytes (step_fields a) → o.answer ≡ step_word a → a ≡ (step g m i).answer
+  pub only : (a : StepAnswer) → TwoBytes (step_fields a) → o.answer ≡ step_word a → a ≡ (step g m i).answer
   pub leaves : AsMachine g (step g m i).machine (m.stack ∷ held) s o.after
 
 -- each of the calls, the machine going along

@@ -1,6 +1,6 @@
 -- The home of a range of a text is that of its bytes as a list, whatever stands around them: byte j of the list is byte j of the range, and so are
 -- the words. A loop keeps that it has added the numbers so far.
-use Rattle.std.proofs.Common.{◌≡◌, ℕ, zero, suc, ◌+◌, ◌-◌, ◌*◌, ◌/◌, ◌%◌, ◌<◌, ◌≤◌, min, List, length, drop, sym, refl, ap, ◌∙◌, ap₂, add-one, arith, length-drop, length-take, get_or-drop, get_or-take}
+use Rattle.std.proofs.Common.{◌≡◌, ℕ, zero, suc, ◌+◌, ◌-◌, ◌*◌, ◌/◌, ◌%◌, ◌^◌, ◌<◌, ◌≤◌, min, List, length, drop, sym, refl, ap, ◌∙◌, ap₂, add-one, arith, length-drop, length-take, get_or-drop, get_or-take}
 use Rattle.characters.specs.Whitespace.{byte}
 use Rattle.text.specs.Range.{part}
 use Rattle.area.specs.Bytes.{field_at}
@@ -14,6 +14,13 @@ pub number_added : (c : Checksum) (x s t : ℕ) → s ≡ (c.sum + x) % word_lim
 unfolding add_number
 number_added c x s t e f = rw (f, e)
 
+-- four bytes, each by what it is worth, are two fields
+pub word_read : (l : List ℕ) (i r : ℕ) → r ≡ byte l i + byte l (i + 1) * 256 + byte l (i + 2) * 256 ^ 2 + byte l (i + 3) * 256 ^ 3 → r ≡ word_at l i
+unfolding field_at
+word_read l i r e =
+    let last : byte l (i + 2 + 1) ≡ byte l (i + 3) = ap (byte l) (omega arith) in
+    omega (arith, e, last)
+
 module _ (number : ℕ → ℕ) (c : Checksum) where
   pub numbers_none : c ≡ add_numbers number 0 c
   unfolding add_numbers
@@ -23,9 +30,6 @@ module _ (number : ℕ → ℕ) (c : Checksum) where
     pub numbers_next : (y : ℕ) (r : Checksum) → y ≡ number k → r ≡ add_number x y → r ≡ add_numbers number (k + 1) c
     unfolding add_numbers
     numbers_next y r q e = e ∙ ap₂ add_number before q ∙ sym (ap (λ (n : ℕ). add_numbers number n c) (add-one k))
-
-    pub numbers_ended : (n : ℕ) → n ≤ k → k ≤ n → x ≡ add_numbers number n c
-    numbers_ended n h g = before ∙ ap (λ (m : ℕ). add_numbers number m c) (omega arith)
 
 same_numbers : (f g : ℕ → ℕ) (k : ℕ) (c : Checksum) → ((j : ℕ) → j < k → f j ≡ g j) → add_numbers f k c ≡ add_numbers g k c
 unfolding add_numbers

@@ -1,7 +1,8 @@
 -- A map read from its bytes: entry j of the list is what entry j of the bytes says. A search keeps that the first entry of the name is the same
 -- from where it stands, and a check that the tests so far are those of the entries so far.
-use Rattle.std.proofs.Common.{◌≡◌, ℕ, zero, suc, ◌+◌, ◌*◌, ◌%◌, ◌<◌, ◌≤◌, Bool, true, false, not, ◌&&◌, eqb, leb, ◌⊎◌, List, [], length, sym, refl, ap, ◌∙◌, inl, inr, true≢false, add-zero, eq-or-lt_of_le, arith, rules, eq-eqb, ne_eqb, eqb-true, le-leb}
-use borrow.Author.Tests.{lt-leb}
+use Rattle.std.proofs.Common.{◌≡◌, ℕ, zero, suc, ◌+◌, ◌*◌, ◌%◌, ◌<◌, ◌≤◌, Bool, true, false, not, ◌&&◌, cond, eqb, leb, ltb, ◌⊎◌, List, [], length, Option, Some, None, sym, refl, ap, ◌∙◌, inl, inr, true≢false, add-zero, eq-or-lt_of_le, arith, rules, eq-eqb, ne_eqb, eqb-true, le-leb}
+use Rattle.std.specs.Option.{option_eq}
+use borrow.Author.Tests.{lt-leb, lt-ltb, le-ltb, ltb-true, ltb-false}
 use lib.ListN.{length-map, get_or-map}
 use Rattle.characters.specs.Walk.{first}
 use Rattle.text.specs.Range.{part, same_bytes, same_range}
@@ -15,7 +16,48 @@ use Rattle.area.specs.Lists.{all, all_below}
 use Rattle.area.proofs.All.{below_at, below_same}
 use Rattle.area.proofs.Contents.{contents_count, contents_read}
 use Rattle.name_map.specs.declared.MapEntry.{MapEntry}
-use Rattle.name_map.specs.Map.{map_width, most_entries, map_entry_of, map_entry_at, map_format, entry_count, Entry, entry, entry_of, entries_of, nth, find_entry, distinct, name_inside, map_check}
+use Rattle.name_map.specs.Map.{map_width, most_entries, map_entry_of, map_entry_at, map_format, entry_count, Entry, entry, entry_of, entries_of, nth, find_entry, found_entry, option_of, id_at, distinct, name_inside, map_check}
+
+-- ---- an answer of the code
+
+module _ (es : List Entry) (name : List ℕ) where
+  pub found_some : (j : ℕ) → j < length es → j ≡ find_entry es name → Some j ≡ found_entry es name
+  unfolding found_entry
+  found_some j h e = rw (← e, lt-ltb j (length es) h)
+
+  pub found_none : length es ≤ find_entry es name → None ≡ found_entry es name
+  unfolding found_entry
+  found_none h = rw (le-ltb (find_entry es name) (length es) h)
+
+  -- where an entry was found, it is the first of the name, and otherwise no entry has it
+  pub some_found : (j : ℕ) → Some j ≡ found_entry es name → (j < length es) × (j ≡ find_entry es name)
+  unfolding found_entry
+  some_found j e = by (ltb (find_entry es name) (length es)) refl e
+    where
+      by : (t : Bool) → ltb (find_entry es name) (length es) ≡ t → Some j ≡ cond t (Some (find_entry es name)) None
+          → (j < length es) × (j ≡ find_entry es name)
+      by true q e =
+          let same : j ≡ find_entry es name = cc in
+          (omega (arith, same, ltb-true (find_entry es name) (length es) q), same)
+      by false q e = cc
+
+  -- whether it is entry j
+  pub found_is : (j : ℕ) → j < length es → option_eq eqb (found_entry es name) (Some j) ≡ eqb (find_entry es name) j
+  unfolding found_entry
+  found_is j h = by (ltb (find_entry es name) (length es)) refl
+    where
+      by : (t : Bool) → ltb (find_entry es name) (length es) ≡ t
+          → option_eq eqb (cond t (Some (find_entry es name)) None) (Some j) ≡ eqb (find_entry es name) j
+      by true q = refl
+      by false q = sym (ne_eqb (find_entry es name) j (λ z. omega (arith, h, z, ltb-false (find_entry es name) (length es) q)))
+
+  pub none_found : None ≡ found_entry es name → length es ≤ find_entry es name
+  unfolding found_entry
+  none_found e = by (ltb (find_entry es name) (length es)) refl e
+    where
+      by : (t : Bool) → ltb (find_entry es name) (length es) ≡ t → None ≡ cond t (Some (find_entry es name)) None → length es ≤ find_entry es name
+      by true q e = absurd (cc)
+      by false q e = ltb-false (find_entry es name) (length es) q
 
 -- ---- an entry
 
@@ -40,24 +82,36 @@ module _ (names entries : List ℕ) where
       (get_or-map (entry_of names) (contents map_format entries (entry_count entries)) j (map_entry_of (λ _. 0))
       ∙ ap (entry_of names) (contents_read map_format entries (entry_count entries) j h))
 
-  -- the range of an entry's name is its name
   module _ (j : ℕ) (h : j < entry_count entries) (x : MapEntry) (is : x ≡ map_entry_at entries j) where
-    pub name-at : part names x.name_from (x.name_from + x.name_length) ≡ (nth (entries_of names entries) j).name
-    unfolding entry_of
-    name-at = sym (ap (λ (y : Entry). y.name) (entries_at j h ∙ ap (entry_of names) (sym is)))
+    entry_is : nth (entries_of names entries) j ≡ entry_of names x
+    entry_is = entries_at j h ∙ ap (entry_of names) (sym is)
 
-    pub name_compared : (r : Bool) (t : List ℕ) (a e : ℕ) → r ≡ same_range names x.name_from (x.name_from + x.name_length) t a e
-        → r ≡ same_bytes (nth (entries_of names entries) j).name (part t a e)
-    unfolding same_range
-    name_compared r t a e q = q ∙ ap (λ (l : List ℕ). same_bytes l (part t a e)) name-at
+    -- its id
+    pub id_read : option_of (Some x.id) ≡ id_at (entries_of names entries) j
+    unfolding id_at entry_of
+    id_read =
+        let id : x.id ≡ (nth (entries_of names entries) j).id = sym (ap (λ (y : Entry). y.id) entry_is) in
+        rw (lt-ltb j (length (entries_of names entries)) (omega (arith, h, entries_count)), id)
 
-    pub first_compared : (i : ℕ) → i ≡ find_entry (entries_of names entries) (part names x.name_from (x.name_from + x.name_length))
-        → eqb i j ≡ eqb (find_entry (entries_of names entries) (nth (entries_of names entries) j).name) j
-    first_compared i q = ap (λ (k : ℕ). eqb k j) (q ∙ ap (find_entry (entries_of names entries)) name-at)
+    -- the range of an entry's name is its name
+    module _ (end : ℕ) (ends : end ≡ x.name_from + x.name_length) where
+      pub name-at : part names x.name_from end ≡ (nth (entries_of names entries) j).name
+      unfolding entry_of
+      name-at = ap (part names x.name_from) ends ∙ sym (ap (λ (y : Entry). y.name) entry_is)
 
-pub ruleset mapping = (rules, name_compared)
+      pub name_compared : (r : Bool) (t : List ℕ) (a e : ℕ) → r ≡ same_range names x.name_from end t a e
+          → r ≡ same_bytes (nth (entries_of names entries) j).name (part t a e)
+      unfolding same_range
+      name_compared r t a e q = q ∙ ap (λ (l : List ℕ). same_bytes l (part t a e)) name-at
 
-pub ruleset first_asked = (rules, first_compared)
+      -- whether the first entry of its name is entry j
+      pub first_compared : (o : Option ℕ) → o ≡ found_entry (entries_of names entries) (part names x.name_from end)
+          → option_eq eqb o (Some j) ≡ eqb (find_entry (entries_of names entries) (nth (entries_of names entries) j).name) j
+      unfolding found_entry
+      first_compared o q =
+          let es : List Entry = entries_of names entries in
+          ap (λ (y : Option ℕ). option_eq eqb y (Some j)) (q ∙ ap (found_entry es) name-at)
+          ∙ found_is es (nth es j).name j (omega (arith, h, entries_count))
 
 -- ---- the first entry of a name; the loop stands at j
 
@@ -70,11 +124,15 @@ module _ (names entries name : List ℕ) where
     unfolding find_entry
     whole = ap (first has 0) (sym (entries_count names entries))
 
-    pub entry_found : j < entry_count entries → has j ≡ true → j ≡ find_entry (entries_of names entries) name
-    entry_found h t = first_found has 0 j (entry_count entries) before h t ∙ whole
+    pub entry_found : j < entry_count entries → has j ≡ true → Some j ≡ found_entry (entries_of names entries) name
+    entry_found h t =
+        found_some (entries_of names entries) name j (omega (arith, h, entries_count names entries))
+        (first_found has 0 j (entry_count entries) before h t ∙ whole)
 
-    pub entry_missing : entry_count entries ≤ j → j ≡ find_entry (entries_of names entries) name
-    entry_missing h = first_ended has 0 j (entry_count entries) before h ∙ whole
+    pub entry_missing : entry_count entries ≤ j → None ≡ found_entry (entries_of names entries) name
+    entry_missing h =
+        found_none (entries_of names entries) name
+        (omega (arith, h, entries_count names entries, first_ended has 0 j (entry_count entries) before h ∙ whole))
 
 pub ruleset finding_entries = (rules, answer, first_again, entry_found, entry_missing)
 

@@ -1,10 +1,11 @@
 -- Slots of the entries. A search from the home of a name passes taken slots with other names only. An entry of that name has the same home, and
 -- has a slot before every free one: so where the search comes to a free slot, there is no such entry.
-use Rattle.std.proofs.Common.{◌≡◌, ℕ, ◌+◌, ◌-◌, ◌<◌, ◌≤◌, Bool, true, false, eqb, List, length, get_or, set, replicate, sym, refl, ap, ◌∙◌, subst, ⊎_elim, true≢false, arith, length-set, get_or-set_other, get_or-set_same, eq-eqb, ne_eqb, eqb-true}
+use Rattle.std.proofs.Common.{◌≡◌, ℕ, ◌+◌, ◌-◌, ◌<◌, ◌≤◌, Bool, true, false, eqb, List, length, Option, Some, None, get_or, set, replicate, sym, refl, ap, ◌∙◌, subst, ⊎_elim, true≢false, arith, length-set, get_or-set_other, get_or-set_same, eq-eqb, ne_eqb, eqb-true}
+use Rattle.std.proofs.Math.Logic.{∥∥₁_map}
+use Rattle.std.proofs.lemmas.Grind.{not_there}
 use mathlib.Core.Bool.{false≢true}
 use borrow.Author.Tests.{eqb-false}
 use lib.ListN.{length-replicate, get_or-replicate, get_or-eq_default}
-use Rattle.characters.specs.Walk.{Between}
 use Rattle.text.specs.Range.{part, same_bytes}
 use Rattle.characters.proofs.Tests.{le_or_lt}
 use Rattle.text.proofs.Ranges.{same_equal, same_self, same_not}
@@ -14,11 +15,11 @@ use Rattle.area.specs.Lists.{all_below}
 use Rattle.area.proofs.All.{below_next}
 use Rattle.name_map.specs.declared.MapEntry.{MapEntry}
 use Rattle.name_map.specs.declared.index.Probed.{Probed}
-use Rattle.name_map.specs.declared.index.Probed.TheVariants.{Free, Found, Exhausted}
-use Rattle.name_map.specs.Map.{map_entry_at, entry_count, Entry, entries_of, nth, find_entry, distinct, map_check}
-use Rattle.name_map.specs.Home.{home_of, Home}
-use Rattle.name_map.specs.Index.{slot_count, Taken, HasSlot, EntrySlots, FreeFor, Probes, EntryIndexed, EntriesIndexed, EntryIndex, MapChecked}
-use Rattle.name_map.proofs.Maps.{entries_count, name-at, has, entry_missing, entry_first, distinct_read}
+use Rattle.name_map.specs.declared.index.Probed.TheVariants.{Free, Found}
+use Rattle.name_map.specs.Map.{map_entry_at, entry_count, Entry, entries_of, nth, find_entry, found_entry, distinct, map_check}
+use Rattle.name_map.specs.Home.{home_of}
+use Rattle.name_map.specs.Index.{slot_count, Taken, HasSlot, EntrySlots, FreeFor, Probes, EntryIndexed, EntriesIndexed, MapChecked}
+use Rattle.name_map.proofs.Maps.{entries_count, name-at, has, entry_missing, entry_first, distinct_read, found_some}
 
 -- ---- the search; the loop stands at p
 
@@ -34,41 +35,19 @@ module _ (es : List Entry) (slots name : List ℕ) where
     pub to : p ≤ slot_count
     pub each : (q : ℕ) → home_of name ≤ q → q < p → TakenByOther q
 
-  pub passed_none : (r : ℕ) → Home name r → Passed r
-  passed_none r H = record { from = omega (arith, H.is); to = omega (arith, H.small); each = λ q a b. absurd (omega (arith, a, b, H.is)) }
-
   module _ (p : ℕ) (P : Passed p) where
-    pub passed_next : p < slot_count → (number : ℕ) (t : Bool) → number ≡ get_or slots p 0 → (number ≡ 0 → ⊥)
-        → t ≡ same_bytes (nth es (number - 1)).name name → t ≡ false → Passed (p + 1)
-    passed_next h number t is some says differs = record {
-      from = omega (arith, P.from);
-      to = omega arith;
-      each = λ q a b. ⊎_elim
-          (λ w.
-          let z : p ≡ q = omega (arith, b, w) in
-          subst TakenByOther z here)
-          (λ w. P.each q a w)
-          (le_or_lt p q);
-    }
-      where
-        here : TakenByOther p
-        here = record {
-          taken = omega (arith, is, some);
-          other = ap (λ (x : ℕ). same_bytes (nth es (x - 1)).name name) (sym is) ∙ sym says ∙ differs;
-        }
-
-    pub probe_exhausted : slot_count ≤ p → Taken slots (home_of name) slot_count
-    probe_exhausted h = record { each = λ q a b. (P.each q a (omega (arith, b, h))).taken }
-
     module _ (n : ℕ) (S : EntrySlots es n slots) (inside : p < slot_count) (free : get_or slots p 0 ≡ 0) where
       -- an entry of the name would have a slot that was passed
       not_any : (i : ℕ) → i < n → (nth es i).name ≡ name → ⊥
       not_any i h e =
           let same : home_of (nth es i).name ≡ home_of name = ap home_of e in
-          let own : HasSlot slots i (home_of (nth es i).name) p = S.stands i p h (omega (arith, same, P.from)) inside free in
-          let number : i ≡ get_or slots own.slot 0 - 1 = omega (arith, own.has) in
-          let passed = P.each own.slot (omega (arith, same, own.from)) own.to in
-          true≢false (sym (same_self name) ∙ ap (λ (m : List ℕ). same_bytes m name) (sym e ∙ ap (λ (x : ℕ). (nth es x).name) number) ∙ passed.other)
+          not_there (S.stands i p h (omega (arith, same, P.from)) inside free) (λ own. was_passed own same)
+        where
+          was_passed : HasSlot slots i (home_of (nth es i).name) p → home_of (nth es i).name ≡ home_of name → ⊥
+          was_passed own same =
+              let number : i ≡ get_or slots own.slot 0 - 1 = omega (arith, own.has) in
+              let passed = P.each own.slot (omega (arith, same, own.from)) own.to in
+              true≢false (sym (same_self name) ∙ ap (λ (m : List ℕ). same_bytes m name) (sym e ∙ ap (λ (x : ℕ). (nth es x).name) number) ∙ passed.other)
 
       pub probe_free : FreeFor es n slots name p
       probe_free = record {
@@ -136,14 +115,16 @@ module _ (es : List Entry) where
         was_free : get_or l b 0 ≡ 0
         was_free = sym (other b not_here) ∙ free
 
-        stands_still : (i : ℕ) → i < k → home_of (nth es i).name ≤ b → HasSlot l' i (home_of (nth es i).name) b
-        stands_still i h from =
-            let own : HasSlot l i (home_of (nth es i).name) b = S.stands i b h from inside was_free in
+        has_still : (i : ℕ) → HasSlot l i (home_of (nth es i).name) b → HasSlot l' i (home_of (nth es i).name) b
+        has_still i own =
             let apart : (own.slot ≡ p → ⊥) = λ z. omega (arith, ap (λ (x : ℕ). get_or l x 0) z, own.has, F.free) in
             record { slot = own.slot; from = own.from; to = own.to; has = other own.slot apart ∙ own.has }
 
-        stands_new : home ≤ b → HasSlot l' k home b
-        stands_new from = record { slot = p; from = F.from; to = ⊎_elim behind (λ w. w) (le_or_lt b p); has = here }
+        stands_still : (i : ℕ) → i < k → home_of (nth es i).name ≤ b → ∥ HasSlot l' i (home_of (nth es i).name) b ∥₁
+        stands_still i h from = ∥∥₁_map (S.stands i b h from inside was_free) (has_still i)
+
+        stands_new : home ≤ b → ∥ HasSlot l' k home b ∥₁
+        stands_new from = ∣ record { slot = p; from = F.from; to = ⊎_elim behind (λ w. w) (le_or_lt b p); has = here } ∣₁
           where
             behind : b ≤ p → p < b
             behind w = absurd (omega (arith, F.taken.each b from (omega (arith, w, not_here)), was_free))
@@ -155,7 +136,7 @@ module _ (es : List Entry) where
         stands = λ i b h from inside free. ⊎_elim
             (λ w.
             let z : k ≡ i = omega (arith, h, w) in
-            subst (λ (x : ℕ). home_of (nth es x).name ≤ b → HasSlot l' x (home_of (nth es x).name) b) z (stands_new b inside free) from)
+            subst (λ (x : ℕ). home_of (nth es x).name ≤ b → ∥ HasSlot l' x (home_of (nth es x).name) b ∥₁) z (stands_new b inside free) from)
             (λ w. stands_still b inside free i w from)
             (le_or_lt k i);
       }
@@ -181,7 +162,7 @@ abbrev pub firsts_below : List Entry → ℕ → Bool
 firsts_below es k = all_below (λ j. eqb (find_entry es (nth es j).name) j) k
 
 -- the search for the name of entry j has answered r
-pub record Searched (names entries l : List ℕ) (j : ℕ) (r : Probed) : Type 0 where
+pub record Searched (names entries l : List ℕ) (j : ℕ) (r : Option Probed) : Type 0 where
   pub inside : j < entry_count entries
   pub slots : EntrySlots (entries_of names entries) j l
   pub answer : Probes (entries_of names entries) j l (nth (entries_of names entries) j).name r
@@ -190,34 +171,31 @@ module _ (names entries l : List ℕ) where
   abbrev es : List Entry
   es = entries_of names entries
 
-  pub searched : (j : ℕ) → j < entry_count entries → EntrySlots es j l → (x : MapEntry) → x ≡ map_entry_at entries j → (r : Probed)
-      → Probes es j l (part names x.name_from (x.name_from + x.name_length)) r → Searched names entries l j r
-  searched j h S x is r P = record {
+  pub searched : (j : ℕ) → j < entry_count entries → EntrySlots es j l → (x : MapEntry) → x ≡ map_entry_at entries j
+      → (end : ℕ) → end ≡ x.name_from + x.name_length → (r : Option Probed) → Probes es j l (part names x.name_from end) r → Searched names entries l j r
+  searched j h S x is end ends r P = record {
     inside = h;
     slots = S;
-    answer = subst (λ (name : List ℕ). Probes es j l name r) (name-at names entries j h x is) P;
+    answer = subst (λ (name : List ℕ). Probes es j l name r) (name-at names entries j h x is end ends) P;
   }
 
-  module _ {j : ℕ} {r : Probed} (N : Searched names entries l j r) where
-    came : (q : Probed) → r ≡ q → Probes es j l (nth es j).name q
+  module _ {j : ℕ} {r : Option Probed} (N : Searched names entries l j r) where
+    came : (q : Option Probed) → r ≡ q → Probes es j l (nth es j).name q
     came q e = subst (Probes es j l (nth es j).name) e N.answer
 
-    pub free_inside : (p : ℕ) → r ≡ Free p → p < length l
-    free_inside p e = omega (arith, (came (Free p) e).inside, N.slots.long)
-
-    pub indexed_free : (p : ℕ) → r ≡ Free p → EntryIndexed es j true (set l p (j + 1))
+    pub indexed_free : (p : ℕ) → r ≡ Some (Free p) → EntryIndexed es j true (set l p (j + 1))
     indexed_free p e =
-        let free : FreeFor es j l (nth es j).name p = came (Free p) e in
+        let free : FreeFor es j l (nth es j).name p = came (Some (Free p)) e in
         let h : j < length es = omega (arith, N.inside, entries_count names entries) in
         record { is = first_new es j h free.none; slots = λ _. slots_set es j l N.slots p free }
 
-    pub indexed_found : (i : ℕ) → r ≡ Found i → EntryIndexed es j false l
+    pub indexed_found : (i : ℕ) → r ≡ Some (Found i) → EntryIndexed es j false l
     indexed_found i e =
-        let found : (i < j) × (same_bytes (nth es i).name (nth es j).name ≡ true) = came (Found i) e in
+        let found : (i < j) × (same_bytes (nth es i).name (nth es j).name ≡ true) = came (Some (Found i)) e in
         record { is = first_repeated es i j found.0 found.1; slots = λ q. absurd (false≢true q) }
 
-    pub indexed_exhausted : r ≡ Exhausted → (t : Bool) → t ≡ eqb (find_entry es (nth es j).name) j → EntryIndexed es j t l
-    indexed_exhausted e t q = record { is = q; slots = λ _. slots_full es j l N.slots (came Exhausted e) }
+    pub indexed_exhausted : r ≡ None → (t : Bool) → t ≡ eqb (find_entry es (nth es j).name) j → EntryIndexed es j t l
+    indexed_exhausted e t q = record { is = q; slots = λ _. slots_full es j l N.slots (came None e) }
 
   pub entries_repeated : (j : ℕ) (r : Bool) → j < entry_count entries → EntryIndexed es j r l → r ≡ false → EntriesIndexed names entries false l
   entries_repeated j r h I repeated = record { is = by (distinct es) refl; slots = λ q. absurd (false≢true q) }
@@ -245,20 +223,15 @@ module _ (names entries l : List ℕ) where
 
   -- ---- the entry of a name
 
-  module _ (name : List ℕ) (r : Probed) (P : Probes es (entry_count entries) l name r) where
-    pub find_free : (p : ℕ) → r ≡ Free p → Between 0 (entry_count entries) (find_entry es name) (entry_count entries)
+  module _ (name : List ℕ) (n : ℕ) (whole : n ≡ entry_count entries) (r : Option Probed) (P : Probes es n l name r) where
+    pub find_free : (p : ℕ) → r ≡ Some (Free p) → None ≡ found_entry es name
     find_free p e =
-        let n : ℕ = entry_count entries in
         let free : FreeFor es n l name p = subst (Probes es n l name) e P in
-        let past = first_over (has names entries name) 0 n n (omega arith) (omega arith) (λ i a b. free.none i b) in
-        record { is = entry_missing names entries name n past (omega arith); from = omega arith; to = omega arith }
+        let past = first_over (has names entries name) 0 n (entry_count entries) (omega arith) (omega (arith, whole)) (λ i a b. free.none i b) in
+        entry_missing names entries name n past (omega (arith, whole))
 
-    pub find_found : EntryIndex names entries l → (j : ℕ) → r ≡ Found j → Between 0 (entry_count entries) (find_entry es name) j
-    find_found I j e =
-        let found : (j < entry_count entries) × (same_bytes (nth es j).name name ≡ true) = subst (Probes es (entry_count entries) l name) e P in
-        let own = entry_first es I.different j (omega (arith, found.0, entries_count names entries)) in
-        record {
-          is = sym (ap (find_entry es) (sym (same_equal (nth es j).name name found.1)) ∙ own);
-          from = omega arith;
-          to = omega (arith, found.0);
-        }
+    pub find_found : distinct es ≡ true → (j : ℕ) → r ≡ Some (Found j) → Some j ≡ found_entry es name
+    find_found different j e =
+        let found : (j < n) × (same_bytes (nth es j).name name ≡ true) = subst (Probes es n l name) e P in
+        let inside : j < length es = omega (arith, found.0, whole, entries_count names entries) in
+        found_some es name j inside (sym (ap (find_entry es) (sym (same_equal (nth es j).name name found.1)) ∙ entry_first es different j inside))

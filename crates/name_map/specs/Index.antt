@@ -1,9 +1,9 @@
 -- An index of names; 01 has none. A slot has the number of an entry, counted from 1, or 0: then it is free. A name is looked for from its home
 -- on, slot by slot, up to a free one; an entry is put into the free one.
-use Rattle.std.specs.Prelude.{◌≡◌, ℕ, ◌+◌, ◌<◌, ◌≤◌, Bool, true, false, List, length, ◌==◌, slice_index, slice_index_or}
+use Rattle.std.specs.Prelude.{◌≡◌, ℕ, ◌+◌, ◌<◌, ◌≤◌, Bool, true, false, List, length, ◌==◌, slice_index, slice_index_or, Option, Some, None}
 use Rattle.text.specs.Range.{same_bytes}
 use Rattle.name_map.specs.declared.index.Probed.{Probed}
-use Rattle.name_map.specs.declared.index.Probed.TheVariants.{Free, Found, Exhausted}
+use Rattle.name_map.specs.declared.index.Probed.TheVariants.{Free, Found}
 use Rattle.name_map.specs.Map.{entry_count, Entry, entries_of, nth, find_entry, distinct, map_check}
 use Rattle.name_map.specs.Home.{home_of}
 
@@ -28,7 +28,7 @@ pub record HasSlot (slots : List ℕ) (i a b : ℕ) : Type 0 where
 pub record EntrySlots (es : List Entry) (n : ℕ) (slots : List ℕ) : Type 0 where
   pub long : length slots ≡ slot_count
   pub low : (p : ℕ) → slice_index slots p ≤ n
-  pub stands : (i b : ℕ) → i < n → home_of (nth es i).name ≤ b → b < slot_count → slice_index slots b ≡ 0 → HasSlot slots i (home_of (nth es i).name) b
+  pub stands : (i b : ℕ) → i < n → home_of (nth es i).name ≤ b → b < slot_count → slice_index slots b ≡ 0 → ∥ HasSlot slots i (home_of (nth es i).name) b ∥₁
 
 -- ---- the search for a name
 
@@ -41,10 +41,10 @@ pub record FreeFor (es : List Entry) (n : ℕ) (slots name : List ℕ) (p : ℕ)
   pub none : (i : ℕ) → i < n → same_bytes (nth es i).name name ≡ false
 
 -- what it comes to, in the slots of the first n entries
-abbrev pub Probes : List Entry → ℕ → List ℕ → List ℕ → Probed → Type 0
-Probes es n slots name (Free p) = FreeFor es n slots name p
-Probes es n slots name (Found j) = (j < n) × (same_bytes (nth es j).name name ≡ true)
-Probes es n slots name Exhausted = Taken slots (home_of name) slot_count
+abbrev pub Probes : List Entry → ℕ → List ℕ → List ℕ → Option Probed → Type 0
+Probes es n slots name (Some (Free p)) = FreeFor es n slots name p
+Probes es n slots name (Some (Found j)) = (j < n) × (same_bytes (nth es j).name name ≡ true)
+Probes es n slots name None = Taken slots (home_of name) slot_count
 
 -- ---- a map
 

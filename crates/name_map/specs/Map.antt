@@ -1,5 +1,6 @@
 -- A map: names, and entries that say where a name stands in them and which id it has; and the map check, number 7 (01, Linking).
-use Rattle.std.specs.Prelude.{ℕ, ◌+◌, ◌*◌, ◌/◌, ◌%◌, Bool, cond, not, ◌&&◌, List, [], ◌∷◌, map, length, ◌==◌, nat_le, nat_lt, slice_index_or}
+use Rattle.std.specs.Prelude.{ℕ, ◌+◌, ◌*◌, ◌/◌, ◌%◌, Bool, cond, not, ◌&&◌, List, [], ◌∷◌, map, length, ◌==◌, nat_le, nat_lt, slice_index_or, Some, None}
+use Rattle.std.specs.Prelude as Code
 use Rattle.std.proofs.Math.Option.{Option, none, some}
 use Rattle.text.specs.Range.{part, same_bytes}
 use Rattle.characters.specs.Walk.{first}
@@ -61,6 +62,15 @@ nth es j = slice_index_or es j (entry [] 0)
 -- the first entry of that name; the number of entries where there is none
 unfoldable pub find_entry : List Entry → List ℕ → ℕ
 find_entry es name = first (λ j. same_bytes (nth es j).name name) 0 (length es)
+
+-- an answer of the code, as an option of the definitions
+abbrev pub option_of : Code.Option ℕ → Option ℕ
+option_of (Some x) = some x
+option_of None = none
+
+-- the same as an answer: none where no entry has the name
+unfoldable pub found_entry : List Entry → List ℕ → Code.Option ℕ
+found_entry es name = cond (nat_lt (find_entry es name) (length es)) (Some (find_entry es name)) None
 
 -- the id of entry j; none past the last
 unfoldable pub id_at : List Entry → ℕ → Option ℕ

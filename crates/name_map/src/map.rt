@@ -1,11 +1,9 @@
 // A map: the entry of a name, and the map check (01, Linking, and Numbers given at the counter, 7).
-ghost use Rattle.std.specs.Prelude.{◌≡◌, ◌<◌, ◌==◌};
-ghost use Rattle.characters.specs.Walk.{Between};
+ghost use Rattle.std.specs.Prelude.{◌≡◌, ◌<◌, ◌==◌, length};
 ghost use Rattle.text.specs.Range.{part, same_bytes};
 ghost use Rattle.area.specs.Contents.{contents};
 ghost use Rattle.area.specs.Lists.{all};
-ghost use Rattle.name_map.specs.Map.{map_format, map_entry_at, entry_count, nth, find_entry, name_inside};
-ghost use Rattle.area.specs.Phrases.{before};
+ghost use Rattle.name_map.specs.Map.{map_format, map_entry_at, entry_count, nth, find_entry, found_entry, name_inside};
 ghost use Rattle.name_map.specs.Phrases.{map_in};
 
 use crate::MapEntry;
@@ -15,70 +13,74 @@ use text::range::same_range;
 // How many bytes an entry has.
 pub const MAP_WIDTH: usize = 6;
 
-pub fn read_map_entry(entries: &[u8], k: usize) -> MapEntry
-    requires { k < entry_count entries.now }
-    ensures { result ≡ map_entry_at entries.now k }
-{
-    let at = k * MAP_WIDTH;
-    MapEntry {
-        name_from: read_field(entries, at),
-        name_length: read_field(entries, at + 2),
-        id: read_field(entries, at + 4),
+// A map as it is lent: the names, and the entries that say where a name stands in them.
+#[derive(Clone, Copy)]
+pub struct NameMap<'a> {
+    pub names: &'a [u8],
+    pub entries: &'a [u8],
+}
+
+impl<'a> NameMap<'a> {
+    // How many whole entries there are.
+    pub fn count(&self) -> usize
+        ensures { result ≡ entry_count self.now.entries.now }
+    {
+        self.entries.len() / MAP_WIDTH
     }
-}
 
-// Whether entry j has the name that stands in a text from a to e.
-pub fn has_name(names: &[u8], entries: &[u8], j: usize, text: &[u8], a: usize, e: usize) -> bool
-    requires { j < entry_count entries.now }
-    ensures { result ≡ same_bytes (nth (map_in names.now entries.now) j).name (part text.now a e) }
-{
-    let x = read_map_entry(entries, j);
-    let from = x.name_from as usize;
-    same_range(names, from, from + x.name_length as usize, text, a, e)
-}
-
-// The first entry with the name that stands in a text from a to e, or the number of entries.
-pub fn find_entry(names: &[u8], entries: &[u8], text: &[u8], a: usize, e: usize) -> usize
-    ensures { Between 0 (entry_count entries.now) (find_entry (map_in names.now entries.now) (part text.now a e)) result }
-{
-    let n = entries.len() / MAP_WIDTH;
-    let mut j = 0;
-    while j < n {
-        if has_name(names, entries, j, text, a, e) {
-            return j;
+    pub fn entry(&self, k: usize) -> MapEntry
+        requires { k < entry_count self.now.entries.now }
+        ensures { result ≡ map_entry_at self.now.entries.now k }
+    {
+        let at = k * MAP_WIDTH;
+        MapEntry {
+            name_from: read_field(self.entries, at),
+            name_length: read_field(self.entries, at + 2),
+            id: read_field(self.entries, at + 4),
         }
-        j += 1;
     }
-    j
-}
 
-// ---- the map check
-
-fn name_inside(n: usize, x: MapEntry) -> bool
-    ensures { result ≡ name_inside n x }
-{
-    x.name_from as usize + x.name_length as usize <= n
-}
-
-pub fn names_inside(entries: &[u8], n: usize) -> bool
-    ensures { result ≡ all (name_inside n) (contents map_format entries.now (entry_count entries.now)) }
-{
-    let most = entries.len() / MAP_WIDTH;
-    let mut good = true;
-    let mut k = 0;
-    while k < most {
-        good = good & name_inside(n, read_map_entry(entries, k));
-        k += 1;
+    // Whether entry j has the name that stands in a text from a to e.
+    pub fn has_name(&self, j: usize, text: &[u8], a: usize, e: usize) -> bool
+        requires { j < entry_count self.now.entries.now }
+        ensures { result ≡ same_bytes (nth (map_in self.now) j).name (part text.now a e) }
+    {
+        let x = self.entry(j);
+        same_range(self.names, x.name_from as usize, x.name_end(), text, a, e)
     }
-    good
-}
 
-// Whether entry j is the first of its name.
-pub fn is_first(names: &[u8], entries: &[u8], j: usize) -> bool
-    requires { j < entry_count entries.now }
-    ensures { result ≡ (find_entry (map_in names.now entries.now) (nth (map_in names.now entries.now) j).name == j) }
-{
-    let x = read_map_entry(entries, j);
-    let from = x.name_from as usize;
-    find_entry(names, entries, names, from, from + x.name_length as usize) == j
+    // The first entry with the name that stands in a text from a to e.
+    pub fn find_entry(&self, text: &[u8], a: usize, e: usize) -> Option<usize>
+        ensures { result ≡ found_entry (map_in self.now) (part text.now a e) }
+    {
+        let n = self.count();
+        for j in 0..n {
+            if self.has_name(j, text, a, e) {
+                return Some(j);
+            }
+        }
+        None
+    }
+
+    // ---- the map check
+
+    pub fn names_inside(&self) -> bool
+        ensures { result ≡ all (name_inside (length self.now.names.now)) (contents map_format self.now.entries.now (entry_count self.now.entries.now)) }
+    {
+        let n = self.count();
+        let mut good = true;
+        for k in 0..n {
+            good = good & self.entry(k).name_inside(self.names.len());
+        }
+        good
+    }
+
+    // Whether entry j is the first of its name.
+    pub fn is_first(&self, j: usize) -> bool
+        requires { j < entry_count self.now.entries.now }
+        ensures { result ≡ (find_entry (map_in self.now) (nth (map_in self.now) j).name == j) }
+    {
+        let x = self.entry(j);
+        self.find_entry(self.names, x.name_from as usize, x.name_end()) == Some(j)
+    }
 }

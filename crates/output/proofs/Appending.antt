@@ -1,133 +1,95 @@
--- Appending to the text of a buffer: nothing, a byte, one text behind another, and the loops that append a list of texts or a part of a text.
--- Where the buffer is full the text goes on without it, so that none of these laws asks for room.
-use mathlib.Core.Path.{◌≡◌, refl, sym, ap, subst, ◌∙◌}
-use mathlib.Core.List.{List, [], ◌∷◌, ◌++◌, append_assoc, append-nil}
-use Prim.Native.Nat.{ℕ, suc, ◌+◌, ◌-◌, ◌≤◌, ◌<◌, max}
-use native.Mathlib.Nat.{sub-zero}
+-- Appending to a text of limited length: nothing, one text behind another, and the texts of a list. Once it is full it stays as it is, so that
+-- none of these laws asks for room.
+use mathlib.Core.Path.{◌≡◌, sym, ap, ap₂, ◌∙◌}
+use mathlib.Core.List.{List, [], ◌++◌, append_assoc, append-nil}
+use Prim.Native.Nat.{ℕ, ◌+◌, ◌-◌, ◌≤◌, ◌<◌, min}
 use native.Mathlib.Omega.{arith}
 use native.Mathlib.Numerals.{add-one}
-use lib.ListN.{length, get_or, take, drop, set, length-append, length-set, length-drop}
-use lib.Seq.{take_all, take-length, take-suc, take-suc-set, take-append-le, get_or-drop}
-use borrow.Author.Rules.{rules}
+use lib.ListN.{length, take, drop, length-append, length-take, length-drop}
+use lib.Seq.{length-take-le, take_all, take-append-le, take-append-add}
+use Rattle.std.proofs.Common.{inl, inr}
+use Rattle.std.proofs.lemmas.Bool.{cases_lt}
+use Rattle.std.proofs.lemmas.Slice.{take-put_mid}
+use borrow.Rule.Slice.PartMut.{put_mid}
+use Rattle.std.specs.List.{slice_range}
 use Rattle.text.specs.Range.{part}
-use Rattle.output.specs.Output.{Written, Appends, joined}
+use Rattle.output.specs.Output.{appended, joined}
 
-pub written_none : (l : List ℕ) → Written [] l 0
-written_none l = record { count = omega arith; is = refl }
+-- what is taken of two texts is taken of the first, and then of the second
+pub take_both : (m : ℕ) (v w : List ℕ) → take m (v ++ w) ≡ take m v ++ take (m - length v) w
+take_both m v w = elim (cases_lt m (length v)) [
+  | inl h ↦
+      let z : m - length v ≡ 0 = omega arith in
+      rw z (take-append-le m v w (omega arith) ∙ sym (append-nil (take m v)))
+  | inr h ↦
+      let z : m ≡ length v + (m - length v) = omega arith in
+      ap (λ (k : ℕ). take k (v ++ w)) z ∙ take-append-add v w (m - length v)
+      ∙ ap (λ (u : List ℕ). u ++ take (m - length v) w) (sym (take_all m v h))
+]
 
-pub appends_none : (l : List ℕ) (n : ℕ) → Appends [] l n l n
-appends_none l n = record { long = refl; goes = λ t w. subst (λ (u : List ℕ). Written u l n) (sym (append-nil t)) w }
+module _ (n : ℕ) (t : List ℕ) where
+  -- with room it is the text with the other behind it
+  pub appended_whole : (v : List ℕ) → length t + length v ≤ n → appended n t v ≡ t ++ v
+  unfolding appended
+  appended_whole v h = ap (λ (u : List ℕ). t ++ u) (take_all (n - length t) v (omega arith))
 
--- one text behind another; the later call first, as a proof knows where it ended
-pub appends_then : {v w l m e : List ℕ} {n k r : ℕ} → Appends w m k e r → Appends v l n m k → Appends (v ++ w) l n e r
-appends_then {v} {w} {l} {m} {e} {n} {k} {r} a b = record {
-  long = a.long ∙ b.long;
-  goes = λ t q. subst (λ (u : List ℕ). Written u e r) (append_assoc t v w) (a.goes (t ++ v) (b.goes t q));
-}
+  pub appended_none : t ≡ appended n t []
+  unfolding appended
+  appended_none = sym (append-nil t) ∙ ap (λ (u : List ℕ). t ++ u) (sym (take_all (n - length t) [] (omega arith)))
 
--- what is appended to nothing is the text
-pub appends_first : {v l e : List ℕ} {r : ℕ} → Appends v l 0 e r → Written v e r
-appends_first {v} {l} a = a.goes [] (written_none l)
+  -- one text behind another
+  pub appended_then : (v w : List ℕ) → appended n (appended n t v) w ≡ appended n t (v ++ w)
+  unfolding appended
+  appended_then v w =
+      let m = n - length t in
+      let z : n - length (t ++ take m v) ≡ m - length v = omega (arith, length-append t (take m v), length-take m v) in
+      ap (λ (k : ℕ). (t ++ take m v) ++ take k w) z
+      ∙ append_assoc t (take m v) (take (m - length v) w)
+      ∙ ap (λ (u : List ℕ). t ++ u) (sym (take_both m v w))
 
--- ---- a byte
+  pub appended_next : (v w : List ℕ) {a e : List ℕ} → e ≡ appended n a w → a ≡ appended n t v → e ≡ appended n t (v ++ w)
+  appended_next v w p q = p ∙ ap (λ (u : List ℕ). appended n u w) q ∙ appended_then v w
 
-pub byte_in : (l : List ℕ) (n b : ℕ) → n < length l → Appends (b ∷ []) l n (set l n b) (n + 1)
-byte_in l n b h = record { long = length-set l n b; goes = by }
-  where
-    by : (t : List ℕ) → Written t l n → Written (t ++ (b ∷ [])) (set l n b) (n + 1)
-    by t q =
-        let z : n ≡ length t = omega (arith, q.count) in
-        let f : take n t ≡ t = ap (λ (k : ℕ). take k t) z ∙ take-length t in
-        let g : length (t ++ (b ∷ [])) ≤ n + 1 = omega (arith, length-append t (b ∷ [])) in
-        record {
-          count = omega (arith, length-append t (b ∷ []), length-set l n b);
-          is = ap (λ (k : ℕ). take k (set l n b)) (add-one n)
-              ∙ take-suc-set l n b h
-              ∙ ap (λ (u : List ℕ). u ++ (b ∷ [])) (q.is ∙ f)
-              ∙ sym (take_all (n + 1) (t ++ (b ∷ [])) g);
-        }
+-- ---- bytes that are written behind the first of a buffer
 
-pub byte_out : (l : List ℕ) (n b : ℕ) → length l ≤ n → Appends (b ∷ []) l n l n
-byte_out l n b h = record { long = refl; goes = by }
-  where
-    by : (t : List ℕ) → Written t l n → Written (t ++ (b ∷ [])) l n
-    by t q = record {
-      count = omega (arith, length-append t (b ∷ []), q.count);
-      is = q.is ∙ sym (take-append-le n t (b ∷ []) (omega (arith, q.count)));
-    }
+take_most : (r m : ℕ) (s : List ℕ) → r ≡ min (length s) m → take r s ≡ take m s
+take_most r m s z = elim (cases_lt m (length s)) [
+  | inl h ↦ let y : r ≡ m = omega arith in ap (λ (k : ℕ). take k s) y
+  | inr h ↦ take_all r s (omega arith) ∙ sym (take_all m s h)
+]
 
-pub ruleset bytewise = (rules, byte_in, byte_out)
+pub written_behind : (n a k r : ℕ) (l t s v : List ℕ) → length l ≡ n → a ≤ n → take a l ≡ t → v ≡ take r s → r ≡ min (length s) (n - a)
+    → take (a + r) (put_mid a k l v) ≡ appended n t s
+unfolding appended
+written_behind n a k r l t s v long few is part fits =
+    let w : length v ≡ r = ap length part ∙ length-take-le r s (omega arith) in
+    let z : length t ≡ a = ap length (sym is) ∙ length-take-le a l (omega arith) in
+    let y : n - a ≡ n - length t = omega arith in
+    take-put_mid a k l v (a + r) (omega arith) (omega arith)
+    ∙ ap₂ (λ (x u : List ℕ). x ++ u) is (part ∙ take_most r (n - a) s fits ∙ ap (λ (m : ℕ). take m s) y)
 
--- ---- a loop over texts
+-- ---- a part of a text, as far as the text has it
 
-module _ (f : ℕ → List ℕ) {l : List ℕ} {n : ℕ} where
-  pub joined_none : Appends (joined f 0) l n l n
-  unfolding joined
-  joined_none = appends_none l n
-
-  pub joined_next : {k : ℕ} {a e : List ℕ} {m r : ℕ} → Appends (f k) a m e r
-      → Appends (joined f k) l n a m → Appends (joined f (k + 1)) l n e r
-  unfolding joined
-  joined_next {k} {a} {e} {m} {r} p q = subst (λ (j : ℕ). Appends (joined f j) l n e r) (sym (add-one k)) (appends_then p q)
-
-  pub joined_all : {k count : ℕ} {a : List ℕ} {m : ℕ} → k ≤ count → count ≤ k
-      → Appends (joined f k) l n a m → Appends (joined f count) l n a m
-  joined_all {k} {count} {a} {m} g h p =
-      let z : k ≡ count = omega arith in
-      subst (λ (j : ℕ). Appends (joined f j) l n a m) z p
-
--- ---- a loop over a part of a text
-
-module _ (s : List ℕ) (from : ℕ) where
-  part_none : part s from from ≡ []
+module _ (s : List ℕ) (from to r : ℕ) (fits : r ≡ min to (length s)) where
+  pub part_inside : slice_range s from r ≡ part s from to
   unfolding part
-  part_none =
-      let z : from - from ≡ 0 = omega arith in
-      ap (λ (j : ℕ). take j (drop from s)) z
-
-  part_next : (i : ℕ) → from ≤ i → i < length s → part s from (i + 1) ≡ part s from i ++ (get_or s i 0 ∷ [])
-  unfolding part
-  part_next i g h =
-      let z : i + 1 - from ≡ suc (i - from) = omega arith in
-      let y : from + (i - from) ≡ i = omega arith in
-      ap (λ (j : ℕ). take j (drop from s)) z
-      ∙ take-suc (drop from s) (i - from) 0 (omega (arith, length-drop from s))
-      ∙ ap (λ (x : ℕ). take (i - from) (drop from s) ++ (x ∷ [])) (get_or-drop from s (i - from) 0 ∙ ap (λ (j : ℕ). get_or s j 0) y)
-
-  -- behind the end of the text nothing is added
-  part_past : (i to : ℕ) → length s ≤ i → i ≤ to → part s from i ≡ part s from to
-  unfolding part
-  part_past i to g h =
+  part_inside =
       let e : length (drop from s) ≡ length s - from = length-drop from s in
-      take_all (i - from) (drop from s) (omega (arith, e)) ∙ sym (take_all (to - from) (drop from s) (omega (arith, e)))
+      take_most (r - from) (to - from) (drop from s) (omega arith)
 
-  part_same : (i to : ℕ) → from ≤ i → i ≤ max from to → to ≤ i → part s from i ≡ part s from to
+  pub part_outside : r < from → [] ≡ part s from to
   unfolding part
-  part_same i to f g h =
-      let z : i - from ≡ to - from = omega arith in
-      ap (λ (j : ℕ). take j (drop from s)) z
+  part_outside h =
+      let e : length (drop from s) ≡ length s - from = length-drop from s in
+      let z : 0 ≡ min (length (drop from s)) (to - from) = omega arith in
+      take_most 0 (to - from) (drop from s) z
 
-  module _ {l : List ℕ} {n : ℕ} where
-    pub part_start : Appends (part s from from) l n l n
-    part_start = subst (λ (v : List ℕ). Appends v l n l n) (sym part_none) (appends_none l n)
+-- the texts of a list, one behind the other
+module _ (n : ℕ) (t : List ℕ) (f : ℕ → List ℕ) where
+  pub joined_none : t ≡ appended n t (joined f 0)
+  unfolding joined
+  joined_none = appended_none n t
 
-    pub part_more : {i : ℕ} {a e : List ℕ} {m r : ℕ} → from ≤ i → i < length s → Appends (get_or s i 0 ∷ []) a m e r
-        → Appends (part s from i) l n a m → Appends (part s from (i + 1)) l n e r
-    part_more {i} {a} {e} {m} {r} g h p q = subst (λ (v : List ℕ). Appends v l n e r) (sym (part_next i g h)) (appends_then p q)
-
-    pub part_ended : {i to : ℕ} {a : List ℕ} {m : ℕ} → length s ≤ i → i < to
-        → Appends (part s from i) l n a m → Appends (part s from to) l n a m
-    part_ended {i} {to} {a} {m} g h p = subst (λ (v : List ℕ). Appends v l n a m) (part_past i to g (omega arith)) p
-
-    pub part_all : {i to : ℕ} {a : List ℕ} {m : ℕ} → from ≤ i → i ≤ max from to → to ≤ i
-        → Appends (part s from i) l n a m → Appends (part s from to) l n a m
-    part_all {i} {to} {a} {m} f g h p = subst (λ (v : List ℕ). Appends v l n a m) (part_same i to f g h) p
-
-pub ruleset parts = (rules, part_start, part_more, part_ended, part_all)
-
-pub part_whole : (s : List ℕ) {l e : List ℕ} {n r : ℕ} → Appends (part s 0 (length s)) l n e r → Appends s l n e r
-unfolding part
-part_whole s {l} {e} {n} {r} p =
-    subst (λ (v : List ℕ). Appends v l n e r) (ap (λ (j : ℕ). take j s) (sub-zero (length s)) ∙ take-length s) p
-
-pub ruleset whole_text = (rules, part_whole)
+  pub joined_next : (k : ℕ) {a e : List ℕ} → e ≡ appended n a (f k) → a ≡ appended n t (joined f k) → e ≡ appended n t (joined f (k + 1))
+  unfolding joined
+  joined_next k p q = rw add-one (appended_next n t (joined f k) (f k) p q)

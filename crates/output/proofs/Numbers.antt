@@ -1,42 +1,70 @@
--- Numbers in decimal: how they are appended, and that their digits spell them.
-use Prim.Native.Nat.{ℕ, ◌+◌, ◌*◌, ◌-◌, ◌/◌, ◌%◌, ◌≤◌, ◌<◌}
-use mathlib.Core.Path.{◌≡◌, refl, ap, ◌∙◌}
+-- Numbers in decimal: the library prints them, and their digits spell them.
+use Prim.Native.Nat.{ℕ, ◌+◌, ◌*◌, ◌-◌, ◌/◌, ◌%◌, ◌^◌, ◌≤◌, ◌<◌}
+use mathlib.Core.Path.{◌≡◌, refl, sym, ap, ◌∙◌}
 use mathlib.Core.Bool.{Bool, true, false, cond}
 use mathlib.Core.List.{List, [], ◌∷◌, ◌++◌}
 use native.Mathlib.Omega.{arith}
 use lib.Dec.{ltb}
-use borrow.Author.Rules.{rules}
 use borrow.Author.Tests.{lt-ltb, le-ltb, ltb-true}
-use Rattle.output.specs.Output.{Appends, digit_at, tens, decimal, printed_field}
-use Rattle.output.proofs.Appending.{appends_none, appends_then}
+use Rattle.std.specs.Fmt.{decimal as digits}
+use Rattle.std.proofs.Common.{inl, inr, mod-eq_of_lt}
+use Rattle.std.proofs.lemmas.Bool.{cases_lt}
+use Rattle.std.proofs.lemmas.Fmt.{decimal_digit, decimal_step}
+use Rattle.output.specs.Output.{appended, digit_at, tens, decimal, printed_field}
+use Rattle.output.proofs.Appending.{appended_next}
 
--- ---- a number in decimal
+-- ---- the library's digits of a number below 100,000
 
-module _ (x power : ℕ) {l : List ℕ} {n : ℕ} where
-  pub digit_none : x < power → Appends (digit_at x power) l n l n
-  unfolding digit_at
-  digit_none h = rw (lt-ltb x power h) (appends_none l n)
+-- what stands before the digit at a power of ten
+unfoldable front : ℕ → ℕ → List ℕ
+front x power = cond (ltb x power) [] (digits (x / power))
 
-  pub digit_one : {e : List ℕ} {r : ℕ} → power ≤ x → Appends ((48 + x / power % 10) ∷ []) l n e r → Appends (digit_at x power) l n e r
-  unfolding digit_at
-  digit_one h a = rw (le-ltb x power h) a
+-- and at the next power, which is ten times the first
+front_next : (x power next : ℕ) → (x < power → x < next) → (x < next → x / power < 10) → (next ≤ x → 10 ≤ x / power) → x / power / 10 ≡ x / next
+    → x / power < 2 ^ 64 → front x power ≡ front x next ++ digit_at x power
+unfolding front digit_at
+front_next x power next low one more e small = elim (cases_lt x power) [
+  | inl h ↦ rw (lt-ltb x power h, lt-ltb x next (low h)) refl
+  | inr h ↦ elim (cases_lt x next) [
+    | inl g ↦
+        let z : x / power % 10 ≡ x / power = mod-eq_of_lt (one g) in
+        rw (le-ltb x power h, lt-ltb x next g, z) (decimal_digit (x / power) (one g))
+    | inr g ↦ rw (le-ltb x power h, le-ltb x next g, ← e) (decimal_step (x / power) (more g) small)
+  ]
+]
 
-pub ruleset digit_printing = (rules, digit_none, digit_one)
+-- below 10 there is none
+front_ten : (x : ℕ) → 10 ≤ x → x < 100000 → digits (x / 10) ≡ tens x
+unfolding front tens
+front_ten x g h =
+    let e : front x 10 ≡ digits (x / 10) = rw (le-ltb x 10 g) refl in
+    let z : front x 100000 ≡ [] = rw (lt-ltb x 100000 h) refl in
+    let e5 = front_next x 10000 100000 (λ q. omega arith) (λ q. omega arith) (λ q. omega arith) (omega arith) (omega arith) in
+    let e4 = front_next x 1000 10000 (λ q. omega arith) (λ q. omega arith) (λ q. omega arith) (omega arith) (omega arith) in
+    let e3 = front_next x 100 1000 (λ q. omega arith) (λ q. omega arith) (λ q. omega arith) (omega arith) (omega arith) in
+    let e2 = front_next x 10 100 (λ q. omega arith) (λ q. omega arith) (λ q. omega arith) (omega arith) (omega arith) in
+    sym e ∙ e2 ∙ rw (e3, e4, e5, z) refl
 
--- the four digits before the last, then a blank, these and the last
-module _ (x : ℕ) {l l1 l2 l3 e : List ℕ} {n n1 n2 n3 r : ℕ} where
-  pub tens_parts : Appends (digit_at x 10000) l n l1 n1 → Appends (digit_at x 1000) l1 n1 l2 n2
-      → Appends (digit_at x 100) l2 n2 l3 n3 → Appends (digit_at x 10) l3 n3 e r → Appends (tens x) l n e r
-  unfolding tens
-  tens_parts a b c d = appends_then d (appends_then c (appends_then b a))
+tens_none : (x : ℕ) → x < 10 → tens x ≡ []
+unfolding tens digit_at
+tens_none x h = rw (lt-ltb x 10000 (omega arith), lt-ltb x 1000 (omega arith), lt-ltb x 100 (omega arith), lt-ltb x 10 h) refl
 
-module _ (x : ℕ) {l l1 l2 e : List ℕ} {n n1 n2 r : ℕ} where
-  pub field_parts : Appends (32 ∷ []) l n l1 n1 → Appends (tens x) l1 n1 l2 n2 → Appends ((48 + x % 10) ∷ []) l2 n2 e r
-      → Appends (printed_field x) l n e r
-  unfolding printed_field decimal
-  field_parts a b c = appends_then (appends_then c b) a
+-- the digits that the library prints
+decimal_printed : (x : ℕ) → x < 100000 → digits x ≡ decimal x
+unfolding decimal
+decimal_printed x h = elim (cases_lt x 10) [
+  | inl g ↦
+      let z : x % 10 ≡ x = omega arith in
+      decimal_digit x g ∙ rw (z, tens_none x g) refl
+  | inr g ↦ decimal_step x g (omega arith) ∙ ap (λ (t : List ℕ). t ++ ((48 + x % 10) ∷ [])) (front_ten x g h)
+]
 
-pub ruleset number_printing = (rules, tens_parts, field_parts)
+-- a blank, then the number
+pub field_printed : (n : ℕ) (t : List ℕ) (x : ℕ) {a d e : List ℕ} → x < 100000 → a ≡ appended n t (32 ∷ []) → d ≡ digits x → e ≡ appended n a d
+    → e ≡ appended n t (printed_field x)
+unfolding printed_field
+field_printed n t x {a} {d} {e} h p q r =
+    appended_next n t (32 ∷ []) (decimal x) (r ∙ ap (λ (u : List ℕ). appended n a u) (q ∙ decimal_printed x h)) p
 
 -- ---- what is printed is the number: its digits spell it, for every number below 100,000
 

@@ -1,21 +1,10 @@
--- Text at the front of a buffer, and what it is to append to it.
-use Rattle.std.specs.Prelude.{ℕ, zero, suc, ◌+◌, ◌/◌, ◌%◌, min, ◌≡◌, cond, List, [], ◌∷◌, ◌++◌, ltb, length, take}
+-- What a text of limited length is when more is appended to it.
+use Rattle.std.specs.Prelude.{ℕ, zero, suc, ◌+◌, ◌-◌, ◌/◌, ◌%◌, cond, List, [], ◌∷◌, ◌++◌, ltb, length, take}
 use Rattle.area.specs.Bytes.{bytes, field_from}
 
--- the first n bytes of the buffer l are the text t, or as much of it as l has room for
-pub record Written (t l : List ℕ) (n : ℕ) : Type 0 where
-  pub count : n ≡ min (length t) (length l)
-  pub is : take n l ≡ take n t
-
--- the first n bytes of the buffer l are the text t, all of it
-pub record AllWritten (t l : List ℕ) (n : ℕ) : Type 0 where
-  pub count : n ≡ length t
-  pub is : take n l ≡ t
-
--- a call that finds n bytes in the buffer l and leaves r bytes in the buffer e appends the text v
-pub record Appends (v l : List ℕ) (n : ℕ) (e : List ℕ) (r : ℕ) : Type 0 where
-  pub long : length e ≡ length l
-  pub goes : (t : List ℕ) → Written t l n → Written (t ++ v) e r
+-- the text v behind the text t, as much of it as n bytes have room for
+unfoldable pub appended : ℕ → List ℕ → List ℕ → List ℕ
+appended n t v = t ++ take (n - length t) v
 
 -- f 0 up to f (n - 1), one behind the other
 unfoldable pub joined : (ℕ → List ℕ) → ℕ → List ℕ
@@ -34,7 +23,7 @@ digit_at x power = cond (ltb x power) [] ((48 + x / power % 10) ∷ [])
 unfoldable pub tens : ℕ → List ℕ
 tens x = digit_at x 10000 ++ digit_at x 1000 ++ digit_at x 100 ++ digit_at x 10
 
--- a number below 100,000 in decimal
+-- a number below 100,000 in decimal; of any number it has at most five digits, where the library's has all
 unfoldable pub decimal : ℕ → List ℕ
 decimal x = tens x ++ ((48 + x % 10) ∷ [])
 

@@ -1,11 +1,9 @@
 // The two-byte fields of an area, read and appended as numbers.
 ghost use Rattle.std.specs.Prelude.{◌≡◌, ◌≤◌};
 ghost use Rattle.area.specs.Bytes.{field_at};
-ghost use Rattle.area.specs.Phrases.{before};
-ghost use Rattle.output.specs.Phrases.{Puts};
-ghost use Rattle.output.specs.Output.{printed_fields_at};
+ghost use Rattle.output.specs.Output.{appended, printed_fields_at};
 
-use crate::put_field;
+use crate::Text;
 use characters::whitespace::byte_at;
 
 // The field at a place; bytes past the end count as 0.
@@ -15,21 +13,17 @@ pub fn field_at(area: &[u8], at: usize) -> u16
     if at >= area.len() {
         return 0;
     }
-    let low = byte_at(area, at) as u16;
-    let high = byte_at(area, at + 1) as u16;
-    low + high * 256
+    u16::from_le_bytes([byte_at(area, at), byte_at(area, at + 1)])
 }
 
-// The m fields from a place on. Every record that a count of 16 bits tells starts below 65,536 × 28.
-pub fn put_fields(out: &mut [u8], n: usize, area: &[u8], at: usize, m: u16) -> usize
-    requires { (at ≤ 1835008) × (m ≤ 14) }
-    ensures { Puts (printed_fields_at area.now at m) out n result }
-{
-    let mut r = n;
-    let mut j = 0;
-    while j < m {
-        r = put_field(out, r, field_at(area, at + 2 * j as usize));
-        j += 1;
+impl<const N: usize> Text<N> {
+    // The m fields from a place on. Every record that a count of 16 bits tells starts below 65,536 × 28.
+    pub fn push_fields(&mut self, area: &[u8], at: usize, m: u16)
+        requires { (at ≤ 1835008) × (m ≤ 14) }
+        ensures { self.new ≡ appended N self.old (printed_fields_at area.now at m) }
+    {
+        for j in 0..m {
+            self.push_field(field_at(area, at + 2 * j as usize));
+        }
     }
-    r
 }

@@ -1,90 +1,96 @@
-// Text behind the first n bytes of a buffer. What does not fit is cut off, so that no function here asks for room.
+// Text in a buffer. What does not fit is cut off, so that no function here asks for room.
 #![tactic(auto)]
 
 pub mod fields;
 
-ghost use Rattle.std.specs.Prelude.{◌∷◌, [], ◌<◌};
+ghost use Rattle.std.specs.Prelude.{◌≡◌, ◌∷◌, [], ◌≤◌};
 ghost use Rattle.text.specs.Range.{part};
-ghost use Rattle.area.specs.Phrases.{before};
-ghost use Rattle.output.specs.Phrases.{Puts};
-ghost use Rattle.output.specs.Output.{newline, digit_at, tens, printed_field};
+ghost use Rattle.output.specs.Output.{appended, newline, printed_field};
 
-const BLANK: u8 = 32;
+use itoa::Buffer;
+use std::marker::Model;
 
-const LINE_END: u8 = 10;
-
-const ZERO: u8 = 48;
-
-fn put_byte(out: &mut [u8], n: usize, b: u8) -> usize
-    ensures { Puts (b ∷ []) out n result }
-{
-    if n < out.len() {
-        out[n] = b;
-        return n + 1;
-    }
-    n
+// At most N bytes of text.
+#[derive(Drop)]
+pub struct Text<const N: usize> {
+    bytes: [u8; N],
+    length: usize,
 }
 
-// The bytes of s from a place up to another, as far as s has them.
-pub fn put_part(out: &mut [u8], n: usize, s: &[u8], from: usize, to: usize) -> usize
-    ensures { Puts (part s.now from to) out n result }
-{
-    let mut m = n;
-    let mut i = from;
-    while i < to {
-        if i >= s.len() {
-            return m;
+impl<const N: usize> Model for Text<N> {
+    ghost use Rattle.std.specs.Prelude.{ℕ, ◌≤◌, List, take};
+
+    ghost Value = { List ℕ };
+
+    ghost view = { λ t. take t.length t.bytes };
+
+    ghost invariant = { λ t. t.length ≤ N };
+}
+
+impl<const N: usize> Text<N> {
+    pub fn new() -> Self
+        ensures { result ≡ [] }
+    {
+        Text {
+            bytes: [0; N],
+            length: 0,
         }
-        m = put_byte(out, m, s[i]);
-        i += 1;
     }
-    m
-}
 
-pub fn put_text(out: &mut [u8], n: usize, s: &[u8]) -> usize
-    ensures { Puts s.now out n result }
-{
-    put_part(out, n, s, 0, s.len())
-}
-
-pub fn put_line_end(out: &mut [u8], n: usize) -> usize
-    ensures { Puts newline out n result }
-{
-    put_byte(out, n, LINE_END)
-}
-
-pub fn put_blank(out: &mut [u8], n: usize) -> usize
-    ensures { Puts (32 ∷ []) out n result }
-{
-    put_byte(out, n, BLANK)
-}
-
-// The digit of x at a power of ten, if x reaches it.
-fn put_digit(out: &mut [u8], n: usize, x: u16, power: u16) -> usize
-    requires { 0 < power }
-    ensures { Puts (digit_at x power) out n result }
-{
-    if x < power {
-        return n;
+    pub fn as_slice(&self) -> &[u8]
+        ensures { result.now ≡ self.now }
+    {
+        &self.bytes[..self.length]
     }
-    put_byte(out, n, ZERO + (x / power % 10) as u8)
-}
 
-// The digits before the last.
-fn put_tens(out: &mut [u8], n: usize, x: u16) -> usize
-    ensures { Puts (tens x) out n result }
-{
-    let n = put_digit(out, n, x, 10000);
-    let n = put_digit(out, n, x, 1000);
-    let n = put_digit(out, n, x, 100);
-    put_digit(out, n, x, 10)
-}
+    pub fn clear(&mut self)
+        ensures { self.new ≡ [] }
+    {
+        self.length = 0;
+    }
 
-// A number as a field: a blank and the number.
-pub fn put_field(out: &mut [u8], n: usize, x: u16) -> usize
-    ensures { Puts (printed_field x) out n result }
-{
-    let n = put_byte(out, n, BLANK);
-    let n = put_tens(out, n, x);
-    put_byte(out, n, ZERO + (x % 10) as u8)
+    pub fn push_text(&mut self, s: &[u8])
+        ensures { self.new ≡ appended N self.old s.now }
+    {
+        let start = self.length;
+        let length = s.len().min(N - start);
+        let bytes = &mut self.bytes[..];
+        bytes[start..start + length].copy_from_slice(&s[..length]);
+        self.length = start + length;
+    }
+
+    // The bytes of s from a place up to another, as far as s has them.
+    pub fn push_part(&mut self, s: &[u8], from: usize, to: usize)
+        ensures { self.new ≡ appended N self.old (part s.now from to) }
+    {
+        if let Some(bytes) = s.get(from..to.min(s.len())) {
+            self.push_text(bytes);
+        }
+    }
+
+    pub fn push_byte(&mut self, b: u8)
+        ensures { self.new ≡ appended N self.old (b ∷ []) }
+    {
+        self.push_text(&[b]);
+    }
+
+    pub fn push_line_end(&mut self)
+        ensures { self.new ≡ appended N self.old newline }
+    {
+        self.push_byte(b'\n');
+    }
+
+    pub fn push_blank(&mut self)
+        ensures { self.new ≡ appended N self.old (32 ∷ []) }
+    {
+        self.push_byte(b' ');
+    }
+
+    // A number as a field: a blank and the number.
+    pub fn push_field(&mut self, x: u16)
+        ensures { self.new ≡ appended N self.old (printed_field x) }
+    {
+        self.push_blank();
+        self.push_text(Buffer::new().format(x).as_bytes());
+    }
 }

@@ -14,8 +14,7 @@ use Rattle.text.specs.Scan.{skip_blanks}
 use Rattle.characters.specs.Class.{is_blank}
 use Rattle.characters.specs.Whitespace.{byte}
 use Rattle.text.specs.Range.{lookahead_is}
-use Rattle.characters.specs.declared.Found.{Found}
-use Rattle.characters.specs.declared.Found.TheVariants.{At, Nothing}
+use Rattle.std.specs.Prelude.{Option as CodeOption, Some, None, is_some}
 use Rattle.characters.proofs.Walks.{first_to}
 use Rattle.area.specs.declared.State.{State}
 use Rattle.area.specs.declared.Fault.{Fault}
@@ -31,7 +30,7 @@ use Rattle.fault.proofs.Steps.{does_full, bad_goes, full_goes}
 use Rattle.names.specs.Names.{DistinctNames}
 use Rattle.names.proofs.Distinct.{distinct_none}
 use Rattle.section.specs.Request.{Options, Request}
-use Rattle.section.specs.Section.{percents, found, in_section, to_declaration}
+use Rattle.section.specs.Section.{percents, in_section, to_declaration}
 use Rattle.section.proofs.Lines.{ahead_within}
 use Rattle.declarations.specs.declared.DeclarationCounts.{DeclarationCounts}
 use Rattle.declarations.specs.declared.DeclarationProgress.{DeclarationProgress}
@@ -108,12 +107,12 @@ module _ (s : List ℕ) (j : ℕ) (x : Declared) where
   unfolding end_declarations
   end_inside i d e = by (lookahead_is s percents i) refl e
     where
-      by : (f : Found) → lookahead_is s percents i ≡ f → cond (found f) (go (skip_blanks s (i + 2)) d) (bad PrematureEnd i d) ≡ go j x → j ≤ length s
-      by (At m) q z =
+      by : (f : CodeOption ℕ) → lookahead_is s percents i ≡ f → cond (is_some f) (go (skip_blanks s (i + 2)) d) (bad PrematureEnd i d) ≡ go j x → j ≤ length s
+      by (Some m) q z =
           let h : i + 2 ≤ length s = omega (arith, ahead_within s percents i m q) in
           let same : skip_blanks s (i + 2) ≡ j = cc in
           omega (arith, same, first_to (λ k. not (is_blank (byte s k))) (i + 2) (length s) h)
-      by Nothing q z = absurd (bad_goes z)
+      by None q z = absurd (bad_goes z)
 
   next_inside : (o : Out Declared) → next o (end_declarations s) ≡ go j x → j ≤ length s
   next_inside (go i d) e = end_inside i d e

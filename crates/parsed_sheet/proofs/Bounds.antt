@@ -1,6 +1,7 @@
 -- What bounds the outcome of a file, whatever it is. State names are declared left to right, so where the declarations go on, all names together
 -- have no more bytes than stand before that place; and whatever adds to the fault list asks for room in area 6. The rest is what an accepted
 -- parse yields.
+use Rattle.std.specs.Prelude.{is_some}
 use Prim.Native.Nat.{ℕ, ◌+◌, ◌-◌, ◌≤◌}
 use mathlib.Core.Path.{◌≡◌, refl, subst}
 use mathlib.Core.Bool.{not}
@@ -27,7 +28,7 @@ use Rattle.fault.specs.Step.{Out, go, bad, full, onto, written, loop}
 use Rattle.fault.specs.Faults.{fault, next_number, fault_end, find_fault, add_fault, add_span, add_pair, repeat_at, add_repeat, DuplicateStartState, DuplicateName, PrematureEnd, RoutinesNotSupported, VerbatimNotSupported}
 use Rattle.fault.proofs.Yielding.{Yields, yields_next, yields_onto, yields_loop}
 use Rattle.section.specs.Request.{Options, Request}
-use Rattle.section.specs.Section.{found, percents, is_comment, past_comment, past_line, to_declaration, to_rule, in_section, has_routines}
+use Rattle.section.specs.Section.{percents, is_comment, past_comment, past_line, to_declaration, to_rule, in_section, has_routines}
 use Rattle.declarations.specs.declared.Declaration.{Declaration}
 use Rattle.declarations.specs.declared.Declaration.TheVariants.{States, Expecting, Unknown}
 use Rattle.names.specs.Names.{is_state_name}
@@ -220,7 +221,7 @@ module _ (s : List ℕ) (options : Options) (k : Caps) where
   end_read : (i : ℕ) (d : Declared) → Read i d → Yields Read (end_declarations s i d)
   unfolding end_declarations
   end_read i d h =
-      by_test (Yields Read) (found (lookahead_is s percents i)) (go (skip_blanks s (i + 2)) d) (bad PrematureEnd i d)
+      by_test (Yields Read) (is_some (lookahead_is s percents i)) (go (skip_blanks s (i + 2)) d) (bad PrematureEnd i d)
       (λ q.
       let f : i + 2 ≤ skip_blanks s (i + 2) = first_from _ (i + 2) (length s) in
       record { place = first_to _ (i + 2) (length s) (word_to s percents i h.place q); names = omega (arith, f, h.names); faults = h.faults }) (λ _. tt)

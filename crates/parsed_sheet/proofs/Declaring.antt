@@ -1,5 +1,6 @@
 -- What the declarations keep: each state and each expected name stands in order within the source, a state's mark is 0 or 1, state 0 is INITIAL,
 -- and the lists fit their areas.
+use Rattle.std.specs.Prelude.{is_some}
 use Prim.Native.Nat.{ℕ, ◌+◌, ◌-◌, ◌≤◌}
 use mathlib.Core.Path.{◌≡◌, refl, sym, subst, ◌∙◌}
 use mathlib.Core.Bool.{true, not}
@@ -20,7 +21,7 @@ use Rattle.area.specs.Contents.{append, state_format, expected_format}
 use Rattle.fault.specs.Step.{Out, go, bad, full, onto, written, loop}
 use Rattle.fault.specs.Faults.{add_repeat, DuplicateStartState, InvalidStartStateName, InvalidName, PrematureEnd}
 use Rattle.section.specs.Request.{Options}
-use Rattle.section.specs.Section.{found, percents, to_declaration, in_section}
+use Rattle.section.specs.Section.{percents, to_declaration, in_section}
 use Rattle.names.specs.Names.{is_state_name}
 use Rattle.declarations.specs.declared.Declaration.{Declaration}
 use Rattle.declarations.specs.declared.Declaration.TheVariants.{States, Expecting, Unknown}
@@ -188,7 +189,7 @@ module _ (s : List ℕ) (options : Options) (k : Caps) where
   end_kept : (i : ℕ) (d : Declared) → AllDeclared i d → Yields AllDeclared (end_declarations s i d)
   unfolding end_declarations
   end_kept i d h =
-      by_test (Yields AllDeclared) (found (lookahead_is s percents i)) (go (skip_blanks s (i + 2)) d) (bad PrematureEnd i d)
+      by_test (Yields AllDeclared) (is_some (lookahead_is s percents i)) (go (skip_blanks s (i + 2)) d) (bad PrematureEnd i d)
       (λ q. record { place = first_to _ (i + 2) (length s) (word_to s percents i h.place q); states = h.states; expected = h.expected }) (λ _. tt)
 
   -- the section keeps what holds at its start

@@ -1,5 +1,6 @@
 -- Larger areas change nothing but where an area was full, and that is one of the six: one law for each way to join steps, one line for each
 -- definition. So an accepted outcome is the file's meaning, whatever the areas had.
+use Rattle.std.specs.Prelude.{is_some}
 use Prim.Native.Nat.{ℕ, zero, suc, ◌+◌, ◌*◌, ◌-◌, ◌≤◌}
 use mathlib.Core.Path.{◌≡◌, refl, ap, subst, subst⁻¹}
 use mathlib.Core.Bool.{Bool, true, false, cond, not, ◌&&◌}
@@ -23,7 +24,7 @@ use Rattle.characters.specs.Whitespace.{at_whitespace}
 use Rattle.escape.specs.Escape.{unescaped}
 use Rattle.text.specs.Range.{lookahead_is}
 use Rattle.section.specs.Request.{Options, Request}
-use Rattle.section.specs.Section.{found, percents, to_declaration, to_rule, has_routines}
+use Rattle.section.specs.Section.{percents, to_declaration, to_rule, has_routines}
 use Rattle.area.specs.Contents.{Format, append, state_format, rule_format, entry_format, text_format, expected_format, fault_format}
 use Rattle.fault.specs.Step.{Out, go, bad, full, next, onto, written, loop}
 use Rattle.fault.specs.Faults.{find_fault, UnknownDeclaration, InvalidName, UnknownStartState, DuplicateStartState, InvalidStartState, InvalidStartStateName, DuplicateName, RegexError, VerbatimNotSupported, add_fault, add_span, add_pair, repeat_at, add_repeat}
@@ -199,7 +200,7 @@ module _ (k l : Caps) (w : Wider k l) (s : List ℕ) where
   grow_declarations options i d =
       stays_next
       (stays_loop _ _ _ (λ j m. stays_next (grow_declare _ _ m) (λ p t. stays_go (to_declaration s options.flags p) t)) (length s) _ d)
-      (λ j m. stays_if (found (lookahead_is s percents j)) (stays_go _ m) (stays_bad _ _ m))
+      (λ j m. stays_if (is_some (lookahead_is s percents j)) (stays_go _ m) (stays_bad _ _ m))
 
   -- ---- a list of states
 

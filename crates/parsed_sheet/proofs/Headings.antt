@@ -9,7 +9,7 @@ use lib.ListN.{length}
 use Rattle.characters.specs.Class.{is_blank}
 use Rattle.characters.specs.Whitespace.{byte}
 use Rattle.text.specs.Scan.{last_blank}
-use Rattle.characters.specs.declared.Found.TheVariants.{At}
+use Rattle.std.specs.Prelude.{Some}
 use Rattle.characters.proofs.Tests.{by_test}
 use Rattle.area.specs.declared.State.{State}
 use Rattle.area.specs.declared.Rule.{Rule}
@@ -79,7 +79,7 @@ module _ (s : List ℕ) (m r t : ℕ) (x : TargetState) (p : ℕ) (few : x.opera
   }
 
 module _ (s : List ℕ) (xs : List State) (some : 0 < length xs) (rs : List Rule) (i t : ℕ) (l : t ≤ length s) where
-  module _ (r : ℕ) (x : TargetState) (p : ℕ) (b : last_blank s i t ≡ At r) (g : target_of s r t xs ≡ To x p) where
+  module _ (r : ℕ) (x : TargetState) (p : ℕ) (b : last_blank s i t ≡ Some r) (g : target_of s r t xs ≡ To x p) where
     before : r < t
     before = (last_inside (λ k. is_blank (byte s k)) i t r b).1
 

@@ -11,12 +11,11 @@ use lib.ListN.{length}
 use Rattle.characters.specs.Whitespace.{whitespace_len, line_end_len, at_line_end}
 use Rattle.text.specs.Range.{lookahead_is}
 use Rattle.text.specs.Scan.{line_end, skip_whitespace, skip_line_ends, trim_end, backslashes_before, keep_escaped, trim_end_unescaped}
-use Rattle.characters.specs.declared.Found.{Found}
-use Rattle.characters.specs.declared.Found.TheVariants.{At, Nothing}
+use Rattle.std.specs.Prelude.{Option, Some, None, is_some}
 use Rattle.characters.proofs.Tests.{by_test}
 use Rattle.characters.proofs.Walks.{first_to, repeat_keeps, skip_to_lem}
 use Rattle.characters.proofs.Spaces.{white_inside, end_inside}
-use Rattle.section.specs.Section.{found, is_comment, past_comment, past_line, to_declaration, past_rule_line, to_rule}
+use Rattle.section.specs.Section.{is_comment, past_comment, past_line, to_declaration, past_rule_line, to_rule}
 use Rattle.section.proofs.Lines.{ahead_within}
 
 module _ (s : List ℕ) where
@@ -38,12 +37,12 @@ module _ (s : List ℕ) where
       (λ k l. comment_to flags (skip_line_ends s k) (skip_to_lem (line_end_len s) (length s) (end_inside s) k l)) (length s) i h
 
   -- a word that stands at i ends within the text
-  pub word_to : (w : List ℕ) (i : ℕ) → i ≤ length s → found (lookahead_is s w i) ≡ true → i + length w ≤ length s
+  pub word_to : (w : List ℕ) (i : ℕ) → i ≤ length s → is_some (lookahead_is s w i) ≡ true → i + length w ≤ length s
   word_to w i h e = by (lookahead_is s w i) refl e
     where
-      by : (f : Found) → lookahead_is s w i ≡ f → found f ≡ true → i + length w ≤ length s
-      by (At j) q z = omega (arith, ahead_within s w i j q)
-      by Nothing q z = absurd (false≢true z)
+      by : (f : Option ℕ) → lookahead_is s w i ≡ f → is_some f ≡ true → i + length w ≤ length s
+      by (Some j) q z = omega (arith, ahead_within s w i j q)
+      by None q z = absurd (false≢true z)
 
   -- whitespace that stands at u ends within the text
   white_to : (u : ℕ) → u ≤ length s → u + whitespace_len s u ≤ length s

@@ -4,119 +4,48 @@
 
 use parse::Answer;
 use parse::call::parse;
+use sheet_check::Sheet;
 use sheet_check::pattern::{pattern, pattern_test};
-use streams::read_full;
-
-// What cannot be written is left out.
-fn say(rt: &impl Print, word: &[u8]) {
-    let _ = rt.write_all(word);
-}
+use streams::{read_full, say};
 
 // What is written is the part that the call borrowed from the source or from area 4.
-fn say_pattern<'a>(
-    rt: &impl Print,
-    src: &'a [u8],
-    area1: &[u8],
-    area2: &[u8],
-    area3: &[u8],
-    area4: &'a [u8],
-    area5: &[u8],
-    counts: &[u16; 6],
-    rule: u64,
-) {
-    let part = pattern(src, area1, area2, area3, area4, area5, counts, rule);
+fn say_rule(rt: &impl Print, sheet: Sheet, rule: u64) {
+    let test = pattern_test(sheet, rule);
+    let part = pattern(sheet, rule);
+    let _ = print!(rt; "rule {rule}: {test} [");
     say(rt, part);
-}
-
-fn say_rule<'a>(
-    rt: &impl Print,
-    src: &'a [u8],
-    area1: &[u8],
-    area2: &[u8],
-    area3: &[u8],
-    area4: &'a [u8],
-    area5: &[u8],
-    counts: &[u16; 6],
-    rule: u64,
-) {
-    say(rt, b"rule ");
-    let _ = rt.print(rule);
-    say(rt, b": ");
-    let _ = rt.print(pattern_test(src, area1, area2, area3, area4, area5, counts, rule));
-    say(rt, b" [");
-    say_pattern(rt, src, area1, area2, area3, area4, area5, counts, rule);
     say(rt, b"]\n");
 }
 
-// Each rule of the count.
-fn say_rules<'a>(
-    rt: &impl Print,
-    src: &'a [u8],
-    area1: &[u8],
-    area2: &[u8],
-    area3: &[u8],
-    area4: &'a [u8],
-    area5: &[u8],
-    counts: &[u16; 6],
-    count: u64,
-) {
-    let mut rule = 0;
-    while rule < count {
-        say_rule(rt, src, area1, area2, area3, area4, area5, counts, rule);
-        rule += 1;
-    }
-}
-
-fn wide(x: u16) -> u64 {
-    x as u64
-}
-
-// Rule 0 then stands in place 2, which is none.
-fn break_place(area2: &mut [u8]) {
-    if area2.len() > 14 {
-        area2[14] = 2;
-    }
-}
-
 // The rules, a rule past the last, and two sheets that are broken.
-fn say_cases<'a>(
-    rt: &impl Print,
-    src: &'a [u8],
-    area1: &[u8],
-    area2: &mut [u8],
-    area3: &[u8],
-    area4: &'a [u8],
-    area5: &[u8],
-    counts: &[u16; 6],
-) {
-    let count = wide(counts[1]);
-    say_rules(rt, src, area1, area2, area3, area4, area5, counts, count);
-    say(rt, b"past the last: ");
-    say_rule(rt, src, area1, area2, area3, area4, area5, counts, count);
-    say(rt, b"without rewritten text: ");
-    say_rule(rt, src, area1, area2, area3, &area4[0..0], area5, counts, 0);
-    say(rt, b"a rule in place 2: ");
-    break_place(area2);
-    say_rule(rt, src, area1, area2, area3, area4, area5, counts, 1);
-}
-
-fn is_accepted(answer: Answer) -> bool {
-    match answer {
-        Answer::Accepted => true,
-        _ => false,
+fn say_cases(rt: &impl Print, sheet: Sheet, misplaced: &[u8]) {
+    let count = sheet.counts[1] as u64;
+    for rule in 0..count {
+        say_rule(rt, sheet, rule);
     }
+    say(rt, b"past the last: ");
+    say_rule(rt, sheet, count);
+    say(rt, b"without rewritten text: ");
+    let short = Sheet { text: &[], ..sheet };
+    say_rule(rt, short, 0);
+    say(rt, b"a rule in place 2: ");
+    let broken = Sheet {
+        rules: misplaced,
+        ..sheet
+    };
+    say_rule(rt, broken, 1);
 }
 
-fn show(rt: &impl Print, src: &[u8]) {
-    let mut counts = [0u16; 6];
-    let mut area1 = [0u8; 12];
-    let mut area2 = [0u8; 280];
-    let mut area3 = [0u8; 4];
-    let mut area4 = [0u8; 16];
-    let mut area5 = [0u8; 4];
-    let mut area6 = [0u8; 8];
+fn show(rt: &impl Print, source: &[u8]) {
+    let mut counts = [0; 6];
+    let mut area1 = [0; 12];
+    let mut area2 = [0; 280];
+    let mut area3 = [0; 4];
+    let mut area4 = [0; 16];
+    let mut area5 = [0; 4];
+    let mut area6 = [0; 8];
     let answer = parse(
-        src,
+        source,
         0,
         b"",
         &mut counts,
@@ -127,15 +56,27 @@ fn show(rt: &impl Print, src: &[u8]) {
         &mut area5,
         &mut area6,
     );
-    if !is_accepted(answer) {
+    let Answer::Accepted = answer else {
         say(rt, b"not accepted\n");
         return;
-    }
-    say_cases(rt, src, &area1, &mut area2, &area3, &area4, &area5, &counts);
+    };
+    // Rule 0 then stands in place 2, which is none.
+    let mut misplaced = area2;
+    misplaced[14] = 2;
+    let sheet = Sheet {
+        source,
+        states: &area1,
+        rules: &area2,
+        entries: &area3,
+        text: &area4,
+        expected: &area5,
+        counts: &counts,
+    };
+    say_cases(rt, sheet, &misplaced);
 }
 
 fn main(rt: HostRuntime) {
     let mut source = [0u8; 4096];
     let n = read_full(&mut rt.stdin(), &mut source);
-    show(&rt, &source[0..n]);
+    show(&rt, &source[..n]);
 }

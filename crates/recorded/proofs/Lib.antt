@@ -1,4 +1,4 @@
 pub mod Reading
+pub mod Made
 pub mod Comparing
 pub mod Pieces
-pub mod Agreeing

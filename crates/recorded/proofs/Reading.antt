@@ -1,55 +1,86 @@
--- Numbers of four and eight bytes, from numbers of half the size; places; and the lengths of areas.
-use mathlib.Core.Path.{◌≡◌, ap, ap₂, ◌∙◌}
+-- What a cursor reads, and where it then stands.
+use mathlib.Core.Path.{◌≡◌, sym, ap, ◌∙◌}
 use mathlib.Core.List.{List}
-use Prim.Native.Nat.{ℕ, ◌+◌, ◌*◌, ◌-◌, ◌≤◌, ◌<◌}
+use Prim.Native.Nat.{ℕ, ◌+◌, ◌-◌, ◌≤◌, ◌<◌}
 use native.Mathlib.Omega.{arith}
-use lib.ListN.{length}
-use borrow.Author.Rules.{rules}
+use lib.ListN.{length, get_or, drop, length-take, get_or-eq_default}
+use Rattle.std.proofs.Common.{inl, inr}
+use Rattle.std.proofs.lemmas.List.{get_or-take, get_or-drop}
+use Rattle.std.proofs.lemmas.Bool.{cases_lt}
+use Rattle.std.specs.Int.{w16, w32, w64, from_le_bytes}
+use Rattle.text.specs.Range.{part}
+use Rattle.characters.specs.Whitespace.{byte}
 use Rattle.area.specs.Bytes.{field_at}
-use Rattle.recorded.specs.Records.{number_at, long_at, skip_to, bytes_end, lent_at, Skips, Ends}
-
-pub number_of_halves : (l : List ℕ) (at a b : ℕ) → a ≡ field_at l at → b ≡ field_at l (at + 2) → a + b * 65536 ≡ number_at l at
-unfolding number_at
-number_of_halves l at a b e f = ap₂ (λ (x y : ℕ). x + y * 65536) e f
-
-pub long_of_halves : (l : List ℕ) (at a b : ℕ) → a ≡ number_at l at → b ≡ number_at l (at + 4) → a + b * 4294967296 ≡ long_at l at
-unfolding long_at
-long_of_halves l at a b e f = ap₂ (λ (x y : ℕ). x + y * 4294967296) e f
-
-pub ruleset number_reading = (rules, number_of_halves, long_of_halves)
+use Rattle.area.specs.Contents.{list_of}
+use Rattle.recorded.specs.Records.{skip_to, bytes_end, next_bytes, front_at, number_at, long_at}
 
 -- ---- places
 
-module _ (l : List ℕ) (at n : ℕ) (g : at ≤ length l) where
-  pub skip_past : length l - at < n → Skips l at n (length l)
-  unfolding skip_to
-  skip_past h = record { is = omega arith; plain = omega arith }
+-- the place n bytes on is no earlier, and none past the end
+pub skip_on : (l : List ℕ) (at n : ℕ) → at ≤ length l → at ≤ skip_to l at n
+unfolding skip_to
+skip_on l at n h = omega arith
 
-  pub skip_on : n ≤ length l - at → Skips l at n (at + n)
-  unfolding skip_to
-  skip_on h = record { is = omega arith; plain = omega arith }
+pub skip_within : (l : List ℕ) (at n : ℕ) → skip_to l at n ≤ length l
+unfolding skip_to
+skip_within l at n = omega arith
 
-pub ends_behind : (l : List ℕ) (at from n r : ℕ) → Skips l at 4 from → n ≡ number_at l at → Skips l from n r → Ends l at r
-unfolding bytes_end
-ends_behind l at from n r p q t = record {
-  is = t.is ∙ (λ i. skip_to l (p.is i) (q i));
-  from = omega (arith, p.plain, t.plain);
-  to = omega (arith, t.plain);
-}
+-- bytes with their length end no earlier, and not past the end
+pub bytes_on : (l : List ℕ) (at : ℕ) → at ≤ length l → at ≤ bytes_end l at
+unfolding bytes_end skip_to
+bytes_on l at h = omega arith
 
-pub ruleset places = (rules, skip_past, skip_on, ends_behind)
+pub bytes_within : (l : List ℕ) (at : ℕ) → bytes_end l at ≤ length l
+unfolding bytes_end skip_to
+bytes_within l at = omega arith
 
--- ---- the length of an area
+-- no bytes further on
+pub skip_none : (l : List ℕ) (at : ℕ) → at ≤ length l → at ≡ skip_to l at 0
+unfolding skip_to
+skip_none l at h = omega arith
 
-module _ (l : List ℕ) (at k most n p : ℕ) (place : Skips l at (4 * k) p) (is : n ≡ number_at l p) where
-  pub lent_small : n < most → n ≡ lent_at l at k most
-  lent_small h =
-      let e : n ≡ number_at l (skip_to l at (4 * k)) = is ∙ ap (number_at l) place.is in
-      omega (arith, e)
+-- n bytes on from m bytes on
+pub skip_step : (l m : List ℕ) (start at next k n : ℕ) → m ≡ l → at ≡ skip_to l start k → next ≡ skip_to m at n → (j : ℕ) → k + n ≡ j → next ≡ skip_to l start j
+unfolding skip_to
+skip_step l m start at next k n same here goes j z =
+    let e = ap length same in
+    omega arith
 
-  pub lent_most : most ≤ n → most ≡ lent_at l at k most
-  lent_most h =
-      let e : n ≡ number_at l (skip_to l at (4 * k)) = is ∙ ap (number_at l) place.is in
-      omega (arith, e)
+-- ---- bytes
 
-pub ruleset lengths_lent = (rules, lent_small, lent_most)
+module _ (l : List ℕ) (at : ℕ) (within : at ≤ length l) where
+  -- of the bytes that are left, or 0, the one k places on
+  pub front_byte : (n : ℕ) (v : List ℕ) (k : ℕ) → k < n → v ≡ next_bytes n l at → (b : ℕ) → b ≡ get_or v k 0 → byte l (at + k) ≡ b
+  unfolding next_bytes part skip_to
+  front_byte n v k h is b z = elim (cases_lt k (skip_to l at n - at)) [
+    | inl g ↦ sym (z ∙ ap (λ (u : List ℕ). get_or u k 0) is ∙ get_or-take _ (drop at l) k 0 g ∙ get_or-drop at l k 0)
+    | inr g ↦
+        let e = ap length is in
+        get_or-eq_default l 0 (omega arith) ∙ sym (z ∙ get_or-eq_default v 0 (omega (arith, length-take {A = ℕ}, e)))
+  ]
+
+-- ---- numbers, which are so many bytes
+
+module _ (l : List ℕ) (at : ℕ) (bs : List ℕ) where
+  pub field_read : bs ≡ front_at 2 l at → from_le_bytes w16 bs ≡ field_at l at
+  unfolding front_at list_of field_at
+  field_read e =
+      let e0 : at + 0 ≡ at = omega arith in
+      rw (e, e0) (omega arith)
+
+  pub number_read : bs ≡ front_at 4 l at → from_le_bytes w32 bs ≡ number_at l at
+  unfolding front_at list_of number_at field_at
+  number_read e =
+      let e0 : at + 0 ≡ at = omega arith in
+      let e3 : at + 3 ≡ at + 2 + 1 = omega arith in
+      rw (e, e0, e3) (omega arith)
+
+  pub long_read : bs ≡ front_at 8 l at → from_le_bytes w64 bs ≡ long_at l at
+  unfolding front_at list_of long_at number_at field_at
+  long_read e =
+      let e0 : at + 0 ≡ at = omega arith in
+      let e3 : at + 3 ≡ at + 2 + 1 = omega arith in
+      let e5 : at + 5 ≡ at + 4 + 1 = omega arith in
+      let e6 : at + 6 ≡ at + 4 + 2 = omega arith in
+      let e7 : at + 7 ≡ at + 4 + 2 + 1 = omega arith in
+      rw (e, e0, e3, e5, e6, e7) (omega arith)

@@ -1,9 +1,10 @@
 -- The form of the recorded answers (compare/FORMAT.md). A place past the end is the end, and a byte there counts as 0.
-use Rattle.std.specs.Prelude.{ℕ, zero, suc, ◌+◌, ◌*◌, ◌≤◌, min, ◌≡◌, List, [], ◌++◌, length}
+use Rattle.std.specs.Prelude.{ℕ, zero, suc, ◌+◌, ◌*◌, min, List, [], ◌++◌, length}
 use Rattle.text.specs.Range.{part}
+use Rattle.characters.specs.Whitespace.{byte}
 use Rattle.area.specs.Bytes.{field_at}
-use Rattle.output.specs.Output.{Written, joined}
-use Rattle.recorded.specs.declared.source.Source.{Source}
+use Rattle.area.specs.Contents.{list_of}
+use Rattle.output.specs.Output.{joined}
 
 -- ---- numbers, and bytes with their length
 
@@ -27,16 +28,13 @@ bytes_end l at = skip_to l (skip_to l at 4) (number_at l at)
 unfoldable pub bytes_at : List ℕ → ℕ → List ℕ
 bytes_at l at = part l (skip_to l at 4) (bytes_end l at)
 
--- a place that a skip of n bytes comes to
-pub record Skips (l : List ℕ) (at n r : ℕ) : Type 0 where
-  pub is : r ≡ skip_to l at n
-  pub plain : r ≡ min (at + n) (length l)
+-- the next n bytes, or as many as there are
+unfoldable pub next_bytes : ℕ → List ℕ → ℕ → List ℕ
+next_bytes n l at = part l at (skip_to l at n)
 
--- a place at which the bytes that start with their length at another end
-pub record Ends (l : List ℕ) (at r : ℕ) : Type 0 where
-  pub is : r ≡ bytes_end l at
-  pub from : min (at + 4) (length l) ≤ r
-  pub to : r ≤ length l
+-- the n bytes from a place on, where those past the end are 0
+unfoldable pub front_at : ℕ → List ℕ → ℕ → List ℕ
+front_at n l at = list_of (λ k. byte l (at + k)) n
 
 -- ---- the source
 
@@ -66,13 +64,6 @@ source_at l at = pieces l (number_at l at) (skip_to l at 4)
 unfoldable pub source_end : List ℕ → ℕ → ℕ
 source_end l at = pieces_end l (number_at l at) (skip_to l at 4)
 
--- the source is read into the buffer e, as far as it has room
-pub record SourceRead (l : List ℕ) (at : ℕ) (e : List ℕ) (r : Source) : Type 0 where
-  pub text : Written (source_at l at) e r.length
-  pub next : r.next ≡ source_end l at
-  pub from : min (at + 4) (length l) ≤ r.next
-  pub to : r.next ≤ length l
-
 -- ---- the lengths of the areas, and what stands behind them
 
 -- the length of area k, of those at a place, but no more than there is
@@ -90,6 +81,11 @@ counts_from l lengths = skip_to l (word_at l lengths) 4
 -- the first area, behind the counts
 abbrev pub areas_at : List ℕ → ℕ → ℕ
 areas_at l lengths = skip_to l (counts_from l lengths) 12
+
+-- where area k starts, of areas that stand at a place one behind the other
+unfoldable pub area_start : List ℕ → ℕ → ℕ → ℕ
+area_start l at zero = at
+area_start l at (suc k) = bytes_end l (area_start l at k)
 
 -- the place behind three areas
 abbrev pub fourth_at : List ℕ → ℕ → ℕ

@@ -1,45 +1,79 @@
-// Numbers and bytes of the recorded answers. A place past the end is the end, and a byte there counts as 0, so that no file breaks a reader.
-ghost use Rattle.std.specs.Prelude.{◌≡◌, ◌≤◌, ◌+◌, length};
-ghost use Rattle.area.specs.Phrases.{before};
-ghost use Rattle.recorded.specs.Records.{number_at, long_at, Skips, Ends};
+// Reading the recorded answers from a place on. A place past the end is the end, and a byte there counts as 0, so that no file breaks a reader.
+ghost use Rattle.std.specs.Prelude.{◌≤◌, length};
 
-use output::fields::field_at;
+use std::array;
 
-// The place n bytes on.
-pub fn skip(answers: &[u8], at: usize, n: usize) -> usize
-    requires { at ≤ length answers.now }
-    ensures { Skips answers.now at n result }
-{
-    if answers.len() - at < n {
-        return answers.len();
+// A place of the answers.
+#[derive(Clone, Copy)]
+pub struct Cursor<'a> {
+    pub answers: &'a [u8],
+    pub at: usize,
+    ghost within: { at ≤ length answers.now },
+}
+
+impl<'a> Cursor<'a> {
+    ghost use Rattle.std.specs.Prelude.{◌≡◌, ◌≤◌, length};
+    ghost use Rattle.area.specs.Bytes.{field_at};
+    ghost use Rattle.recorded.specs.Records.{next_bytes, front_at, number_at, long_at, bytes_at, bytes_end};
+    ghost use Rattle.recorded.specs.Cursor.{behind, GoesTo, Reads};
+
+    pub fn new(answers: &'a [u8], at: usize) -> Self
+        requires { at ≤ length answers.now }
+        ensures { (result.answers.now ≡ answers.entry.now) × (result.at ≡ at) }
+    {
+        Cursor { answers, at }
     }
-    at + n
-}
 
-// A number of four bytes, low byte first.
-pub fn number(answers: &[u8], at: usize) -> u32
-    requires { at ≤ length answers.now + 4 }
-    ensures { result ≡ number_at answers.now at }
-{
-    let low = field_at(answers, at) as u32;
-    let high = field_at(answers, at + 2) as u32;
-    low + high * 65536
-}
+    // Goes n bytes on.
+    pub fn skip(&mut self, n: usize)
+        ensures { GoesTo (behind n) self.old self.new }
+    {
+        self.at += n.min(self.answers.len() - self.at);
+    }
 
-// A number of eight bytes, low byte first.
-pub fn long(answers: &[u8], at: usize) -> u64
-    requires { at ≤ length answers.now }
-    ensures { result ≡ long_at answers.now at }
-{
-    let low = number(answers, at) as u64;
-    let high = number(answers, at + 4) as u64;
-    low + high * 4294967296
-}
+    // The next n bytes, or as many as there are.
+    pub fn take(&mut self, n: usize) -> &'a [u8]
+        ensures { Reads (next_bytes n) (behind n) self.old self.new result.now }
+    {
+        let from = self.at;
+        self.skip(n);
+        &self.answers[from..self.at]
+    }
 
-// Where the bytes that start with their length at a place end.
-pub fn bytes_end(answers: &[u8], at: usize) -> usize
-    requires { at ≤ length answers.now }
-    ensures { Ends answers.now at result }
-{
-    skip(answers, skip(answers, at, 4), number(answers, at) as usize)
+    // The next N bytes; those past the end count as 0.
+    fn front<const N: usize>(&mut self) -> [u8; N]
+        ensures { Reads (front_at N) (behind N) self.old self.new result }
+    {
+        let bytes = self.take(N);
+        array::from_fn(|i| bytes.get(i).copied().unwrap_or(0))
+    }
+
+    // A number of two bytes, low byte first.
+    pub fn field(&mut self) -> u16
+        ensures { Reads field_at (behind 2) self.old self.new result }
+    {
+        u16::from_le_bytes(self.front())
+    }
+
+    // A number of four bytes, low byte first.
+    pub fn number(&mut self) -> u32
+        ensures { Reads number_at (behind 4) self.old self.new result }
+    {
+        u32::from_le_bytes(self.front())
+    }
+
+    // A number of eight bytes, low byte first.
+    pub fn long(&mut self) -> u64
+        ensures { Reads long_at (behind 8) self.old self.new result }
+    {
+        u64::from_le_bytes(self.front())
+    }
+
+    // The bytes that start with their length.
+    pub fn bytes(&mut self) -> &'a [u8]
+        ensures { Reads bytes_at bytes_end self.old self.new result.now }
+    {
+        let n = self.number() as usize;
+        self.take(n)
+    }
 }

@@ -1,24 +1,21 @@
 -- A record that compares as equal agrees with the parse call: what the call left is what was recorded, and it is what the definition says.
-use Prim.Native.Nat.{ℕ, ◌+◌, ◌-◌, ◌≤◌, ◌<◌, min}
-use mathlib.Core.Path.{◌≡◌, refl, sym, ap, subst, ◌∙◌}
-use mathlib.Core.Bool.{Bool, true, false}
-use mathlib.Core.List.{List}
-use native.Mathlib.Nat.{sub-zero}
+use Prim.Native.Nat.{ℕ, ◌≤◌, ◌<◌}
+use mathlib.Core.Path.{◌≡◌, sym, ap, subst, ◌∙◌}
+use mathlib.Core.Bool.{Bool}
+use mathlib.Core.List.{List, [], ◌∷◌}
 use native.Mathlib.Omega.{arith}
-use lib.Dec.{leb}
-use lib.ListN.{length, take, drop}
-use lib.Seq.{take_all}
-use borrow.Author.Tests.{leb-true, leb-false}
-use Rattle.text.specs.Range.{part}
+use lib.ListN.{length, take}
 use Rattle.area.proofs.Contents.{list_of_is}
 use Rattle.section.specs.Request.{Request, request, options}
-use Rattle.parse.specs.Parse.{Caps, caps, parse_call}
+use Rattle.parse.specs.Parse.{parse_call}
 use Rattle.troymantle.specs.Words.{left_in_words, in_words}
-use Rattle.recorded.specs.declared.compared.Compared.{Compared}
-use Rattle.recorded.specs.declared.source.Source.{Source}
-use Rattle.recorded.specs.Records.{long_at, skip_to, bytes_end, bytes_at, areas_end, Skips, Ends, source_at, source_end, SourceRead}
-use Rattle.recorded.specs.Comparison.{NumbersAre, LeftIs, Compares}
-use Rattle.replay.specs.Records.{sizes, recorded_caps, Called, lengths_at, counts_at, recorded, Agrees, record_end}
+use Rattle.recorded.specs.declared.reader.Cursor.{Cursor}
+use Rattle.recorded.specs.Records.{long_at, skip_to, bytes_end, bytes_at, area_start, areas_at, word_at, counts_from, fourth_at, areas_end, source_at, source_end}
+use Rattle.recorded.specs.Comparison.{WhenTrue, NumbersAre, LeftIs, Compares}
+use Rattle.recorded.specs.Cursor.{behind, GoesTo, Reads}
+use Rattle.recorded.proofs.Reading.{skip_on, skip_within, bytes_on, bytes_within}
+use Rattle.recorded.proofs.Pieces.{source_behind}
+use Rattle.replay.specs.Records.{buffers, sizes, recorded_caps, recorded_request, Called, lengths_at, counts_at, recorded, Agrees, record_end}
 
 -- ---- what the call left
 
@@ -27,73 +24,85 @@ counts_listed : (l : List ℕ) (lengths word : ℕ) (counts : List ℕ) → leng
 counts_listed l lengths word counts h n = list_of_is _ 0 counts 6 (sym h) (λ k g. sym (n.counts_are.are k (omega (arith, h))))
 
 module _ (asked : Request) (l : List ℕ) (lengths word : ℕ) (counts e1 e2 e3 e4 e5 e6 : List ℕ) where
-  left_agrees : Called asked l lengths word counts e1 e2 e3 e4 e5 e6 → LeftIs l lengths word counts e1 e2 e3 e4 e5 e6
+  left_agrees : Called asked l lengths word counts e1 e2 e3 e4 e5 e6 → LeftIs l lengths word counts (e1 ∷ e2 ∷ e3 ∷ e4 ∷ e5 ∷ e6 ∷ [])
       → recorded l lengths (sizes e1 e2 e3 e4 e5 e6)
       ≡ in_words (parse_call asked (recorded_caps l lengths (sizes e1 e2 e3 e4 e5 e6)))
+  unfolding area_start
   left_agrees d q =
       let listed = counts_listed l lengths word counts d.six q.numbers in
-      let first = q.first in
-      let second = q.second in
+      let area = q.areas_are.are in
       sym (λ i. left_in_words (q.numbers.word_is i) (sym listed i)
-      (first.one.is i) (first.two.is i) (first.three.is i) (second.one.is i) (second.two.is i) (second.three.is i))
+      ((area 0 (omega arith)).is i) ((area 1 (omega arith)).is i) ((area 2 (omega arith)).is i)
+      ((area 3 (omega arith)).is i) ((area 4 (omega arith)).is i) ((area 5 (omega arith)).is i))
       ∙ d.left_is
 
-module _ (src l : List ℕ) (at flags v from lengths word : ℕ) (counts e1 e2 e3 e4 e5 e6 : List ℕ) (m1 m2 m3 m4 m5 m6 : ℕ) (r : Compared) where
-  pub record_compared : at ≤ length l → flags ≡ long_at l at → Skips l at 8 v → Skips l v 4 from → Ends l v lengths
-      → Called (request src (options flags) (take (lengths - from) (drop from l))) l lengths word counts e1 e2 e3 e4 e5 e6
-      → length e1 ≡ m1 → length e2 ≡ m2 → length e3 ≡ m3 → length e4 ≡ m4 → length e5 ≡ m5 → length e6 ≡ m6
-      → Compares (LeftIs l lengths word counts e1 e2 e3 e4 e5 e6) l lengths (areas_end l lengths) r
-      → Compares (Agrees src l at (caps m1 m2 m3 m4 m5 m6)) l at (record_end l at) r
-  unfolding bytes_at part
-  record_compared g qf qv qm ql d h1 h2 h3 h4 h5 h6 x =
-      let zv : v ≡ skip_to l at 8 = qv.is in
-      let zl : lengths ≡ lengths_at l at = ql.is ∙ ap (bytes_end l) zv in
-      let zm : from ≡ skip_to l (skip_to l at 8) 4 = qm.is ∙ ap (λ (j : ℕ). skip_to l j 4) zv in
-      let zs : sizes e1 e2 e3 e4 e5 e6 ≡ caps m1 m2 m3 m4 m5 m6 = λ i. caps (h1 i) (h2 i) (h3 i) (h4 i) (h5 i) (h6 i) in
-      let left = left_agrees (request src (options flags) (take (lengths - from) (drop from l))) l lengths word counts e1 e2 e3 e4 e5 e6 d in
+module _ (src : List ℕ) (p p1 p2 p3 : Cursor) (flags word : ℕ) (verdicts counts e1 e2 e3 e4 e5 e6 : List ℕ) (r : Bool) where
+  pub record_compared : Reads long_at (behind 8) p p1 flags → Reads bytes_at bytes_end p1 p2 verdicts
+      → Called (request src (options flags) verdicts) p2.answers.now p2.at word counts e1 e2 e3 e4 e5 e6
+      → sizes e1 e2 e3 e4 e5 e6 ≡ buffers
+      → Compares (LeftIs p2.answers.now p2.at word counts (e1 ∷ e2 ∷ e3 ∷ e4 ∷ e5 ∷ e6 ∷ [])) areas_end p2 p3 r
+      → Compares (Agrees src p.answers.now p.at buffers) record_end p p3 r
+  record_compared qf qv d long x =
+      let l : List ℕ = p.answers.now in
+      let same1 : p1.answers.now ≡ l = qf.goes.same in
+      let same2 : p2.answers.now ≡ l = qv.goes.same ∙ same1 in
+      let at1 : p1.at ≡ skip_to l p.at 8 = qf.goes.at_is in
+      let at2 : p2.at ≡ lengths_at l p.at = qv.goes.at_is ∙ (λ i. bytes_end (same1 i) (at1 i)) in
+      let asked : request src (options flags) verdicts ≡ recorded_request src l p.at =
+      λ i. request src (options (qf.is i)) ((qv.is ∙ (λ j. bytes_at (same1 j) (at1 j))) i) in
+      let left = left_agrees (request src (options flags) verdicts) p2.answers.now p2.at word counts e1 e2 e3 e4 e5 e6 d in
       record {
         equal = record {
           holds = λ t. record {
-            is = sym (λ i. recorded l (zl i) (zs i))
+            is = sym (λ i. recorded (same2 i) (at2 i) (long i))
                 ∙ left (x.equal.holds t)
-                ∙ (λ i. in_words (parse_call (request src (options (qf i)) (take (zl i - zm i) (drop (zm i) l))) (recorded_caps l (zl i) (zs i))));
+                ∙ (λ i. in_words (parse_call (asked i) (recorded_caps (same2 i) (at2 i) (long i))));
           };
         };
-        is = x.is ∙ ap (λ (j : ℕ). areas_end l j) zl;
-        from_on = omega (arith, x.from_on, qv.plain, qm.plain, ql.from);
-        within = x.within;
+        goes = record {
+          at_is = x.goes.at_is ∙ (λ i. areas_end (same2 i) (at2 i));
+          same = x.goes.same ∙ same2;
+          on = omega (arith, x.goes.on, qv.goes.on, qf.goes.on);
+        };
       }
 
 -- ---- the source
 
-take_min : (t : List ℕ) (m : ℕ) → take (min (length t) m) t ≡ take m t
-take_min t m = by (leb (length t) m) refl
-  where
-    by : (b : Bool) → leb (length t) m ≡ b → take (min (length t) m) t ≡ take m t
-    by true e =
-        let h : length t ≤ m = leb-true (length t) m e in
-        take_all (min (length t) m) t (omega arith) ∙ sym (take_all m t h)
-    by false e =
-        let h : m < length t = leb-false (length t) m e in
-        let z : min (length t) m ≡ m = omega arith in
-        ap (λ (j : ℕ). take j t) z
+module _ (p p1 p2 : Cursor) (s t : List ℕ) (n : ℕ) (r : Bool) where
+  pub record_read : Reads (λ l at. take n (source_at l at)) source_end p p1 s → t ≡ s
+      → Compares (Agrees t p1.answers.now p1.at buffers) record_end p1 p2 r
+      → Compares (Agrees (take n (source_at p.answers.now p.at)) p.answers.now (source_end p.answers.now p.at) buffers)
+      (λ l at. record_end l (source_end l at)) p p2 r
+  record_read d q x = record {
+    equal = subst (λ (P : Type 0). WhenTrue P r) (λ i. Agrees ((q ∙ d.is) i) (d.goes.same i) (d.goes.at_is i) buffers) x.equal;
+    goes = record {
+      at_is = x.goes.at_is ∙ (λ i. record_end (d.goes.same i) (d.goes.at_is i));
+      same = x.goes.same ∙ d.goes.same;
+      on = omega (arith, x.goes.on, d.goes.on);
+    };
+  }
 
-module _ (l : List ℕ) (at : ℕ) (e : List ℕ) (s : Source) (r : Compared) (m : Caps) (n : ℕ) where
-  pub record_read : at < length l → length e ≡ n → SourceRead l at e s
-      → Compares (Agrees (take (s.length - 0) (drop 0 e)) l s.next m) l s.next (record_end l s.next) r
-      → Compares (Agrees (take n (source_at l at)) l (source_end l at) m) l (at + 1) (record_end l (source_end l at)) r
-  record_read g h d x =
-      let t : List ℕ = source_at l at in
-      let many : s.length ≡ min (length t) n = d.text.count ∙ ap (min (length t)) h in
-      let zs : take (s.length - 0) e ≡ take n t =
-      ap (λ (j : ℕ). take j e) (sub-zero s.length) ∙ d.text.is ∙ ap (λ (j : ℕ). take j t) many ∙ take_min t n in
-      record {
-        equal = record {
-          holds = λ z.
-              subst (λ (u : List ℕ). Agrees u l (source_end l at) m) zs
-              (subst (λ (j : ℕ). Agrees (take (s.length - 0) e) l j m) d.next (x.equal.holds z));
-        };
-        is = x.is ∙ ap (λ (j : ℕ). record_end l j) d.next;
-        from_on = omega (arith, x.from_on, d.from);
-        within = x.within;
-      }
+-- ---- the next record
+
+areas_behind : (l : List ℕ) (at : ℕ) → at ≤ length l → at ≤ fourth_at l at
+areas_behind l at h = omega (arith, bytes_on l at h, bytes_on l (bytes_end l at) (bytes_within l at), bytes_on l (bytes_end l (bytes_end l at)) (bytes_within l (bytes_end l at)))
+
+-- a record ends behind its start
+pub record_behind : (l : List ℕ) (at : ℕ) → at < length l → at < record_end l (source_end l at)
+record_behind l at h =
+    let s = source_end l at in
+    let lengths = lengths_at l s in
+    let areas = areas_at l lengths in
+    let read = source_behind l at h in
+    let e1 = skip_on l s 8 read.1 in
+    let e2 = bytes_on l (skip_to l s 8) (skip_within l s 8) in
+    let e3 = skip_on l lengths 24 (bytes_within l (skip_to l s 8)) in
+    let e4 = skip_on l (word_at l lengths) 4 (skip_within l lengths 24) in
+    let e5 = skip_on l (counts_from l lengths) 12 (skip_within l (word_at l lengths) 4) in
+    let e6 = areas_behind l areas (skip_within l (counts_from l lengths) 12) in
+    let e7 = areas_behind l (fourth_at l areas) (bytes_within l (bytes_end l (bytes_end l areas))) in
+    omega (arith, read.0)
+
+pub goes_behind : (p q : Cursor) (answers : List ℕ) → p.answers.now ≡ answers → p.at < length answers
+    → GoesTo (λ l at. record_end l (source_end l at)) p q → p.at < q.at
+goes_behind p q answers same h goes = omega (arith, ap length same, goes.at_is, record_behind p.answers.now p.at)

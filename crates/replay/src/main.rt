@@ -2,20 +2,13 @@
 // areas. The records are in the file `answers`; compare/FORMAT.md has their form.
 #![tactic(auto)]
 
-ghost use Rattle.std.specs.Prelude.{◌≡◌, ◌≤◌, length};
-
+mod call;
 mod record;
 
+use call::zeros;
 use record::replay_all;
 use std::fs::File;
-use streams::{fail, read_full};
-
-// Of the zeros the contract gives only how many there are, which is all that lending them needs.
-fn zeros<const N: usize>() -> [u8; N]
-    ensures { length result ≡ N }
-{
-    [0; N]
-}
+use streams::{fail, read_full, say};
 
 fn main(rt: HostRuntime) {
     let mut file = match File::open(&rt, "answers") {
@@ -29,7 +22,7 @@ fn main(rt: HostRuntime) {
     let n = read_full(&mut file, &mut answers);
     drop(file);
     if n == 655360 {
-        let _ = rt.write_all(b"answers is too long\n");
+        say(&rt, b"answers is too long\n");
         return;
     }
     replay_all(&rt, &answers[..n]);

@@ -14,8 +14,7 @@ use Rattle.characters.specs.Walk.{Between, last_of, last}
 use Rattle.characters.specs.Whitespace.{byte}
 use Rattle.text.specs.Range.{part}
 use Rattle.text.specs.Scan.{last_blank}
-use Rattle.characters.specs.declared.Found.{Found}
-use Rattle.characters.specs.declared.Found.TheVariants.{At, Nothing}
+use Rattle.std.specs.Prelude.{Option, Some, None}
 use Rattle.characters.proofs.Tests.{and_left, by_test}
 use Rattle.area.specs.declared.State.{State}
 use Rattle.area.specs.declared.Rule.{Rule}
@@ -115,12 +114,12 @@ module _ (s : List ℕ) (r : ℕ) (x : TargetState) (p t : ℕ) (named : label_o
 
 -- ---- the blank, and the target behind it
 
-module _ (s : List ℕ) (i t : ℕ) (xs : List State) (rs : List Rule) (f : Found) (is : f ≡ last_blank s i t) where
-  pub heading_unsplit : f ≡ Nothing → Faulty MissingSpace i ≡ heading_of s i t xs rs
+module _ (s : List ℕ) (i t : ℕ) (xs : List State) (rs : List Rule) (f : Option ℕ) (is : f ≡ last_blank s i t) where
+  pub heading_unsplit : f ≡ None → Faulty MissingSpace i ≡ heading_of s i t xs rs
   unfolding heading_of
   heading_unsplit q = rw (← is, q, heading_of)
 
-  module _ (r : ℕ) (split : f ≡ At r) (k : Target) (aimed : k ≡ target_of s r t xs) where
+  module _ (r : ℕ) (split : f ≡ Some r) (k : Target) (aimed : k ≡ target_of s r t xs) where
     pub heading_wrong : (kind at : ℕ) → k ≡ Wrong kind at → Faulty kind at ≡ heading_of s i t xs rs
     unfolding heading_of
     heading_wrong kind at q = rw (← is, split, ← aimed, q, heading_of)
@@ -130,14 +129,14 @@ module _ (s : List ℕ) (i t : ℕ) (xs : List State) (rs : List Rule) (f : Foun
     heading_target x p z q e = rw (← is, split, ← aimed, q, heading_of) e
 
 -- what is found stands from i to before e
-inside_of : (test : ℕ → Bool) (n i q : ℕ) → last_of test i n ≡ At q → (i ≤ q) × (q < i + n)
+inside_of : (test : ℕ → Bool) (n i q : ℕ) → last_of test i n ≡ Some q → (i ≤ q) × (q < i + n)
 unfolding last_of
 inside_of test zero i q e =
     let z : ◌≡◌ {A = ℕ} 0 1 = cc in
     absurd (omega arith)
 inside_of test (suc n) i q e = by (test (i + n)) e (λ w. inside_of test n i q w)
   where
-    by : (b : Bool) → cond b (At (i + n)) (last_of test i n) ≡ At q → (last_of test i n ≡ At q → (i ≤ q) × (q < i + n)) → (i ≤ q) × (q < i + suc n)
+    by : (b : Bool) → cond b (Some (i + n)) (last_of test i n) ≡ Some q → (last_of test i n ≡ Some q → (i ≤ q) × (q < i + n)) → (i ≤ q) × (q < i + suc n)
     by true w before =
         let z : i + n ≡ q = cc in
         (omega arith, omega arith)
@@ -145,13 +144,13 @@ inside_of test (suc n) i q e = by (test (i + n)) e (λ w. inside_of test n i q w
         let b = before w in
         (b.0, omega (arith, b.1))
 
-pub last_inside : (test : ℕ → Bool) (i e q : ℕ) → last test i e ≡ At q → (i ≤ q) × (q < e)
+pub last_inside : (test : ℕ → Bool) (i e q : ℕ) → last test i e ≡ Some q → (i ≤ q) × (q < e)
 unfolding last
 last_inside test i e q z =
     let b = inside_of test (e - i) i q z in
     (b.0, omega (arith, b.0, b.1))
 
-pub blank_to : (s : List ℕ) (i e q : ℕ) (f : Found) → f ≡ last_blank s i e → f ≡ At q → q < e
+pub blank_to : (s : List ℕ) (i e q : ℕ) (f : Option ℕ) → f ≡ last_blank s i e → f ≡ Some q → q < e
 blank_to s i e q f is z = (last_inside (λ k. is_blank (byte s k)) i e q (sym is ∙ z)).1
 
 pub ruleset heading = (
@@ -175,12 +174,12 @@ pub ruleset heading = (
 module _ (s : List ℕ) (i t : ℕ) (xs : List State) (rs : List Rule) (P : Heading → Type 0) (faulty : (kind at : ℕ) → P (Faulty kind at))
     (repeated : (c d a z : ℕ) → P (Repeated c d a z)) where
   -- what holds of each outcome holds of the heading
-  pub heading_cases : ((r : ℕ) (x : TargetState) (p : ℕ) → last_blank s i t ≡ At r → target_of s r t xs ≡ To x p → P (Fresh r (head_unnamed r x)))
-      → ((r : ℕ) (x : TargetState) (p : ℕ) → last_blank s i t ≡ At r → target_of s r t xs ≡ To x p → label_of s (span p t) ≡ Named
+  pub heading_cases : ((r : ℕ) (x : TargetState) (p : ℕ) → last_blank s i t ≡ Some r → target_of s r t xs ≡ To x p → P (Fresh r (head_unnamed r x)))
+      → ((r : ℕ) (x : TargetState) (p : ℕ) → last_blank s i t ≡ Some r → target_of s r t xs ≡ To x p → label_of s (span p t) ≡ Named
       → length rs ≤ rule_named s (span p t) rs → P (Fresh r (head_named r (span p t) x))) → P (heading_of s i t xs rs)
   heading_cases unnamed fresh = by_blank (last_blank s i t) refl
     where
-      by_label : (r : ℕ) (x : TargetState) (p : ℕ) → At r ≡ last_blank s i t → To x p ≡ target_of s r t xs → (k : Label) → k ≡ label_of s (span p t)
+      by_label : (r : ℕ) (x : TargetState) (p : ℕ) → Some r ≡ last_blank s i t → To x p ≡ target_of s r t xs → (k : Label) → k ≡ label_of s (span p t)
           → P (heading_behind s r x (span p t) rs)
       by_label r x p b g Unnamed e = subst P (heading_unnamed s r x p t Unnamed e rs (head_unnamed r x) refl refl) (unnamed r x p (sym b) (sym g))
       by_label r x p b g Misnamed e = subst P (heading_misnamed s r x p t Misnamed e rs refl) (faulty InvalidName (r + 1))
@@ -193,15 +192,15 @@ module _ (s : List ℕ) (i t : ℕ) (xs : List State) (rs : List Rule) (P : Head
           (λ _. repeated first.span_start first.span_end h.span_start h.span_end)
           (λ z. fresh r x p (sym b) (sym g) (sym e) (ltb-false (rule_named s q rs) (length rs) z)))
 
-      by_target : (r : ℕ) → At r ≡ last_blank s i t → (k : Target) → k ≡ target_of s r t xs → P (heading_of s i t xs rs)
-      by_target r b (Wrong kind at) g = subst P (heading_wrong s i t xs rs (At r) b r refl (Wrong kind at) g kind at refl) (faulty kind at)
+      by_target : (r : ℕ) → Some r ≡ last_blank s i t → (k : Target) → k ≡ target_of s r t xs → P (heading_of s i t xs rs)
+      by_target r b (Wrong kind at) g = subst P (heading_wrong s i t xs rs (Some r) b r refl (Wrong kind at) g kind at refl) (faulty kind at)
       by_target r b (To x p) g =
-          subst P (heading_target s i t xs rs (At r) b r refl (To x p) g x p (heading_behind s r x (span p t) rs) refl refl)
+          subst P (heading_target s i t xs rs (Some r) b r refl (To x p) g x p (heading_behind s r x (span p t) rs) refl refl)
           (by_label r x p b g (label_of s (span p t)) refl)
 
-      by_blank : (f : Found) → f ≡ last_blank s i t → P (heading_of s i t xs rs)
-      by_blank Nothing b = subst P (heading_unsplit s i t xs rs Nothing b refl) (faulty MissingSpace i)
-      by_blank (At r) b = by_target r b (target_of s r t xs) refl
+      by_blank : (f : Option ℕ) → f ≡ last_blank s i t → P (heading_of s i t xs rs)
+      by_blank None b = subst P (heading_unsplit s i t xs rs None b refl) (faulty MissingSpace i)
+      by_blank (Some r) b = by_target r b (target_of s r t xs) refl
 
 -- ---- the blank that splits the line of a fresh rule stands within it
 
@@ -213,7 +212,7 @@ Splits i t (Fresh b h) = (i ≤ b) × (b < t)
 module _ (s : List ℕ) (i t : ℕ) (xs : List State) (rs : List Rule) where
   splits_all : Splits i t (heading_of s i t xs rs)
   splits_all =
-      let inside : (r : ℕ) → last_blank s i t ≡ At r → (i ≤ r) × (r < t) = last_inside (λ k. is_blank (byte s k)) i t in
+      let inside : (r : ℕ) → last_blank s i t ≡ Some r → (i ≤ r) × (r < t) = last_inside (λ k. is_blank (byte s k)) i t in
       heading_cases s i t xs rs (Splits i t) (λ _ _. tt) (λ _ _ _ _. tt) (λ r _ _ b _. inside r b) (λ r _ _ b _ _ _. inside r b)
 
   module _ (k : Heading) (is : k ≡ heading_of s i t xs rs) (b : ℕ) (h : Head) (q : k ≡ Fresh b h) where
@@ -236,7 +235,7 @@ NewName s rs (Fresh b h) = Unused s rs h.named h.name_from h.name_length
 
 module _ (s : List ℕ) (i t : ℕ) (xs : List State) (rs : List Rule) where
   -- the quoted name from p to t, which the search did not find
-  new_named : (r : ℕ) (x : TargetState) (p : ℕ) → last_blank s i t ≡ At r → target_of s r t xs ≡ To x p → label_of s (span p t) ≡ Named
+  new_named : (r : ℕ) (x : TargetState) (p : ℕ) → last_blank s i t ≡ Some r → target_of s r t xs ≡ To x p → label_of s (span p t) ≡ Named
       → length rs ≤ rule_named s (span p t) rs → NewName s rs (Fresh r (head_named r (span p t) x))
   unfolding rule_named
   new_named r x p _ _ named none =

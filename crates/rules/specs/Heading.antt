@@ -1,9 +1,8 @@
 -- A rule's line, read over the source, the states and the rules before it (01, Rules): the last blank, behind it the target and the name; and what
 -- kind of pattern stands before the blank.
-use Rattle.std.specs.Prelude.{ℕ, ◌+◌, ◌-◌, Bool, cond, not, ◌&&◌, ◌||◌, List, eqb, leb, ltb, length}
+use Rattle.std.specs.Prelude.{ℕ, ◌+◌, ◌-◌, Bool, cond, not, ◌&&◌, ◌||◌, List, eqb, leb, ltb, length, Some, None}
 use Rattle.characters.specs.Whitespace.{byte}
 use Rattle.text.specs.Scan.{find_byte, last_blank}
-use Rattle.characters.specs.declared.Found.TheVariants.{At, Nothing}
 use Rattle.area.specs.declared.State.{State}
 use Rattle.area.specs.declared.Rule.{Rule}
 use Rattle.area.specs.Records.{nth_rule}
@@ -148,8 +147,8 @@ heading_behind s r x q rs =
 unfoldable pub heading_of : List ℕ → ℕ → ℕ → List State → List Rule → Heading
 heading_of s i t xs rs =
     elim (last_blank s i t) [
-      | Nothing ↦ Faulty MissingSpace i
-      | At r ↦
+      | None ↦ Faulty MissingSpace i
+      | Some r ↦
           elim (target_of s r t xs) [
             | Wrong kind at ↦ Faulty kind at
             | To x p ↦ heading_behind s r x (span p t) rs

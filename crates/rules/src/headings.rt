@@ -11,7 +11,6 @@ ghost use Rattle.rules.specs.Heading.{heading_behind, heading_of};
 
 use crate::{Head, Heading, Label, Target, TargetState};
 use area::read_rule;
-use characters::Found;
 use characters::whitespace::byte_at;
 use fault::kinds::{INVALID_NAME, INVALID_START_STATE, MISSING_SPACE, UNKNOWN_START_STATE};
 use names::{find_rule, get_start_state_by_name};
@@ -209,11 +208,11 @@ pub fn heading_of(
     requires names_held { NamesHeld src.now (contents rule_format area2.now n2) marks.now }
     ensures { result ≡ heading_of src.now i t (contents state_format area1.now n1) (contents rule_format area2.now n2) }
 {
-    match last_blank(src, i, t) {
-        Found::Nothing => Heading::Faulty(MISSING_SPACE, i as u16),
-        Found::At(r) => match target_of(src, r, t, area1, n1) {
-            Target::Wrong(kind, at) => Heading::Faulty(kind, at),
-            Target::To(x, p) => heading_behind(src, r, x, p, t, area2, n2, marks),
-        },
+    let Some(r) = last_blank(src, i, t) else {
+        return Heading::Faulty(MISSING_SPACE, i as u16);
+    };
+    match target_of(src, r, t, area1, n1) {
+        Target::Wrong(kind, at) => Heading::Faulty(kind, at),
+        Target::To(x, p) => heading_behind(src, r, x, p, t, area2, n2, marks),
     }
 }

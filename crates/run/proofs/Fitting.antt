@@ -15,13 +15,12 @@ use Rattle.sheet_check.specs.SheetCheck.{declared}
 use Rattle.area.specs.Lists.{all}
 use Rattle.area.proofs.Contents.{contents_count, contents_read}
 use Rattle.area.proofs.All.{all-at, all_from}
+use Rattle.winner.specs.declared.Row.{Row}
 use Rattle.winner.specs.Winner.{length_in, greatest}
-use Rattle.winner.proofs.Winning.{below_greatest, greatest_low}
+use Rattle.winner.proofs.Winning.{below_greatest, greatest_low, of_row}
 use Rattle.run.specs.declared.Run.{Run}
-use Rattle.run.specs.declared.RowTop.{RowTop}
-use Rattle.run.specs.declared.RowTop.TheVariants.{Fits, Misfit}
 use Rattle.run.specs.Run.{running, moves_of, most_bytes, stack_bytes, current, good_numbers, good_run, good_row}
-use Rattle.run.specs.Top.{RowFits, RowTopIs}
+use Rattle.run.specs.Top.{RowFits}
 
 -- the numbers of a run fit each other and a stack of so many bytes
 pub record GoodNumbers (r : Run) (space : ℕ) : Type 0 where
@@ -110,20 +109,18 @@ module _ (left rules : ℕ) (row : List ℕ) (top : ℕ) (is : top ≡ greatest 
           absurd (omega (arith, low, is, h))
       by false e = refl
 
-  pub row_within : length row ≡ rules * entry_width → top ≤ left → RowFits (λ l. leb l left) rules row top
-  row_within long h = record {
-    good = row_good (λ l. leb l left) rules row long
-        (λ k g. le-leb (entry_at row k) left (omega (arith, below_greatest (length_in row) rules k g, is, h)));
-    greatest_is = is;
-  }
+  pub row_within : length row ≡ rules * entry_width → top ≤ left → good_row (λ l. leb l left) rules row ≡ true
+  row_within long h = row_good (λ l. leb l left) rules row long
+      (λ k g. le-leb (entry_at row k) left (omega (arith, below_greatest (length_in row) rules k g, is, h)))
 
--- what a match tells
-module _ (fits : ℕ → Bool) (rules : ℕ) (row : List ℕ) (t : RowTop) (is : RowTopIs fits rules row t) where
-  pub told_fits : (top : ℕ) → t ≡ Fits top → RowFits fits rules row top
-  told_fits top e = subst (RowTopIs fits rules row) e is
+-- a row that was made
+module _ (fits : ℕ → Bool) (rules : ℕ) (row : List ℕ) (x : Row) (made : (x.bytes.now ≡ row) × (x.rules ≡ rules)) where
+  pub row_fits : good_row fits x.rules x.bytes.now ≡ true → RowFits fits rules row x
+  row_fits good =
+      of_row rules row x made (λ n l. RowFits fits n l x) (record { good = good; bytes_are = refl; rules_are = refl; greatest_is = x.greatest_is })
 
-  pub told_misfit : t ≡ Misfit → good_row fits rules row ≡ false
-  told_misfit e = subst (RowTopIs fits rules row) e is
+  pub row_misfits : good_row fits x.rules x.bytes.now ≡ false → good_row fits rules row ≡ false
+  row_misfits bad = of_row rules row x made (λ n l. good_row fits n l ≡ false) bad
 
 -- a run that fits
 module _ (states : ℕ) (r : Run) (s : List ℕ) (fits : good_run states (running r s) ≡ true) where

@@ -1,13 +1,19 @@
 -- What the winner does: a law for each branch of the operation and of the answer.
-use mathlib.Core.Path.{◌≡◌, ap}
+use mathlib.Core.Path.{◌≡◌, ap, subst, ◌∙◌}
 use mathlib.Core.List.{List}
 use Prim.Native.Nat.{ℕ, ◌+◌, ◌-◌}
-use borrow.Author.Rules.{rules}
 use borrow.Author.Tests.{eq-eqb, ne_eqb}
+use Rattle.std.specs.Prelude.{Option, Some, Ok}
 use Rattle.area.specs.declared.Rule.{Rule}
 use Rattle.run.specs.declared.Run.{Run}
+use Rattle.run.specs.declared.moves.StartStateOperation.{StartStateOperation}
 use Rattle.run.specs.declared.Step.TheVariants.{Unlinked, Skip, Token}
 use Rattle.run.specs.Run.{Running, running, leaving, run_left, put_state, with_depth, advanced, popped, operated, move_by, won_by}
+use Rattle.run.specs.Operation.{OperationIs}
+
+-- what a match on the name of an operation tells of the field
+pub operation_told : (field : ℕ) (o : Option StartStateOperation) (w v : StartStateOperation) → OperationIs field o → o ≡ Some w → w ≡ v → OperationIs field (Some v)
+operation_told field o w v is e q = subst (OperationIs field) (e ∙ ap Some q) is
 
 module _ (x : Rule) (r : Run) (s : List ℕ) where
   abbrev result : Running
@@ -16,26 +22,23 @@ module _ (x : Rule) (r : Run) (s : List ℕ) where
   module _ (e : List ℕ) where
     pub operated_replace : x.operation ≡ 1 → e ≡ put_state s 0 x.target → running (with_depth r 1) e ≡ result
     unfolding operated
-    operated_replace h q = rw (eq-eqb x.operation 1 h, q)
+    operated_replace h q = rw (h, q)
 
-    pub operated_push : (x.operation ≡ 1 → ⊥) → x.operation ≡ 2 → e ≡ put_state s r.depth x.target → running (with_depth r (r.depth + 1)) e ≡ result
+    pub operated_push : x.operation ≡ 2 → e ≡ put_state s r.depth x.target → running (with_depth r (r.depth + 1)) e ≡ result
     unfolding operated
-    operated_push a h q = rw (ne_eqb x.operation 1 a, eq-eqb x.operation 2 h, q)
+    operated_push h q = rw (h, q)
 
-    pub operated_empty : (x.operation ≡ 1 → ⊥) → (x.operation ≡ 2 → ⊥) → x.operation ≡ 3 → r.depth ≡ 1 → e ≡ put_state s 0 0
-        → running (with_depth r 1) e ≡ result
+    pub operated_empty : x.operation ≡ 3 → r.depth ≡ 1 → e ≡ put_state s 0 0 → running (with_depth r 1) e ≡ result
     unfolding operated popped
-    operated_empty a b h z q = rw (ne_eqb x.operation 1 a, ne_eqb x.operation 2 b, eq-eqb x.operation 3 h, eq-eqb r.depth 1 z, q)
+    operated_empty h z q = rw (h, eq-eqb r.depth 1 z, q)
 
-  pub operated_pop : (x.operation ≡ 1 → ⊥) → (x.operation ≡ 2 → ⊥) → x.operation ≡ 3 → (r.depth ≡ 1 → ⊥) → running (with_depth r (r.depth - 1)) s ≡ result
+  pub operated_pop : x.operation ≡ 3 → (r.depth ≡ 1 → ⊥) → running (with_depth r (r.depth - 1)) s ≡ result
   unfolding operated popped
-  operated_pop a b h z = rw (ne_eqb x.operation 1 a, ne_eqb x.operation 2 b, eq-eqb x.operation 3 h, ne_eqb r.depth 1 z)
+  operated_pop h z = rw (h, ne_eqb r.depth 1 z)
 
   pub operated_none : (x.operation ≡ 1 → ⊥) → (x.operation ≡ 2 → ⊥) → (x.operation ≡ 3 → ⊥) → running (with_depth r r.depth) s ≡ result
   unfolding operated
   operated_none a b h = rw (ne_eqb x.operation 1 a, ne_eqb x.operation 2 b, ne_eqb x.operation 3 h)
-
-pub ruleset operating = (rules, operated_replace, operated_push, operated_empty, operated_pop, operated_none)
 
 -- the numbers of a move, and the stack
 module _ (x : Rule) (bytes : ℕ) (r : Run) (s e : List ℕ) where
@@ -44,17 +47,15 @@ module _ (x : Rule) (bytes : ℕ) (r : Run) (s e : List ℕ) where
   move_made d q = ap (λ (z : Running). running (advanced z.run bytes) z.stack) q
 
   module _ (q : Run) (is : running q e ≡ move_by (running r s) x bytes) where
-    pub won_token : x.named ≡ 1 → x.has_id ≡ 1 → run_left (Token x.id r.position bytes) q e ≡ won_by (running r s) x bytes
+    pub won_token : x.named ≡ 1 → x.has_id ≡ 1 → run_left (Ok (Token x.id r.position bytes)) q e ≡ won_by (running r s) x bytes
     unfolding won_by
-    won_token h g = rw (eq-eqb x.named 1 h, eq-eqb x.has_id 1 g) (ap (leaving (Token x.id r.position bytes)) is)
+    won_token h g = rw (eq-eqb x.named 1 h, eq-eqb x.has_id 1 g) (ap (leaving (Ok (Token x.id r.position bytes))) is)
 
-    pub won_skip : (x.named ≡ 1 → ⊥) → run_left Skip q e ≡ won_by (running r s) x bytes
+    pub won_skip : (x.named ≡ 1 → ⊥) → run_left (Ok Skip) q e ≡ won_by (running r s) x bytes
     unfolding won_by
-    won_skip h = rw (ne_eqb x.named 1 h) (ap (leaving Skip) is)
+    won_skip h = rw (ne_eqb x.named 1 h) (ap (leaving (Ok Skip)) is)
 
 module _ (x : Rule) (bytes : ℕ) (r : Run) (s : List ℕ) where
-  pub won_unlinked : x.named ≡ 1 → (x.has_id ≡ 1 → ⊥) → run_left Unlinked r s ≡ won_by (running r s) x bytes
+  pub won_unlinked : x.named ≡ 1 → (x.has_id ≡ 1 → ⊥) → run_left (Ok Unlinked) r s ≡ won_by (running r s) x bytes
   unfolding won_by
   won_unlinked h g = rw (eq-eqb x.named 1 h, ne_eqb x.has_id 1 g)
-
-pub ruleset winning_moves = (rules, move_made, won_token, won_skip, won_unlinked)

@@ -9,38 +9,46 @@ use borrow.Author.Rules.{rules}
 use borrow.Author.Tests.{le-leb, lt-leb, leb-true, eq-eqb, ne_eqb}
 use lib.Dec.{leb}
 use lib.ListN.{length}
+use Rattle.std.specs.Prelude.{Ok, Err, Some, None}
 use Rattle.characters.proofs.Tests.{and_false}
 use Rattle.area.specs.declared.Rule.{Rule}
-use Rattle.area.specs.Records.{rule_at, entry_at, nth_rule}
-use Rattle.area.specs.Contents.{contents, state_format, rule_format}
+use Rattle.area.specs.Records.{entry_at, nth_rule}
+use Rattle.area.specs.Contents.{state_format, rule_format}
 use Rattle.sheet_check.specs.SheetCheck.{SheetBytes, count, decoded, sheet_check}
-use Rattle.area.proofs.Contents.{contents_count, contents_read}
+use Rattle.area.proofs.Contents.{contents_count}
 use Rattle.sheet_check.proofs.Checked.{checked_long, checked_rule}
 use Rattle.winner.specs.declared.Best.{Best}
 use Rattle.winner.specs.Winner.{Lexer, weight, best}
-use Rattle.winner.specs.Phrases.{lexer_at, Readable}
+use Rattle.winner.specs.declared.Row.{Row}
+use Rattle.winner.specs.Phrases.{lexer_at, Readable, winning}
 use Rattle.winner.proofs.Winning.{winner_inside, weights_low}
+use Rattle.winner.proofs.Topping.{none_won, one_won}
 use Rattle.run.specs.declared.Run.{Run}
-use Rattle.run.specs.declared.Begun.TheVariants.{Started, StartRefused}
-use Rattle.run.specs.declared.Step.{Step}
-use Rattle.run.specs.declared.Step.TheVariants.{BrokenSheet, BrokenRun, RowMismatch, Done, Stopped}
-use Rattle.run.specs.Run.{most_bytes, stack_bytes, Running, running, Input, current, put_state, RunLeft, leaving, run_left, first_run, start_call, good_start}
-use Rattle.run.specs.Run.{good_run, fits_in, good_row, won_by, choose, step_row, step_run, step_call}
+use Rattle.run.specs.declared.After.{After}
+use Rattle.run.specs.declared.StepError.TheVariants.{BrokenSheet, BrokenRun, RowMismatch}
+use Rattle.run.specs.declared.Step.TheVariants.{Done, Stopped}
+use Rattle.run.specs.Run.{most_bytes, stack_bytes, Running, running, Input, input, current, put_state, RunLeft, leaving, run_left, StepAnswer, start_accepted, start_refused, first_run, start_call, good_start}
+use Rattle.run.specs.Run.{good_run, fits_in, good_row, won_by, choose, lexer_of, step_row, step_run, step_call}
 use Rattle.run.specs.Phrases.{Inside}
+use Rattle.run.specs.Top.{RowFits}
 use Rattle.run.proofs.Fitting.{GoodNumbers, run_is, row-length}
+
+-- what a run and an answer beside it leave
+pub left_with : {A : Type 0} (x : After A) (a : A) (r : Run) (s : List ℕ) (y : RunLeft A) → x.answer ≡ a → x.run ≡ r → run_left a r s ≡ y → run_left x.answer x.run s ≡ y
+left_with {A} x a r s y p q e = (λ i. run_left (p i) (q i) s) ∙ e
 
 -- ---- the start call
 
 module _ (n : ℕ) (r : Run) (s : List ℕ) where
-  pub start_long : most_bytes < n → run_left StartRefused r s ≡ start_call n (running r s)
+  pub start_long : most_bytes < n → run_left start_refused r s ≡ start_call n (running r s)
   unfolding start_call good_start
   start_long h = rw (lt-leb n most_bytes h)
 
-  pub start_short : length s < stack_bytes n → run_left StartRefused r s ≡ start_call n (running r s)
+  pub start_short : length s < stack_bytes n → run_left start_refused r s ≡ start_call n (running r s)
   unfolding start_call good_start
   start_short h = rw (lt-leb (stack_bytes n) (length s) h, and_false)
 
-  pub start_good : (e : List ℕ) → n ≤ most_bytes → stack_bytes n ≤ length s → e ≡ put_state s 0 0 → run_left Started (first_run n) e ≡ start_call n (running r s)
+  pub start_good : (e : List ℕ) → n ≤ most_bytes → stack_bytes n ≤ length s → e ≡ put_state s 0 0 → run_left start_accepted (first_run n) e ≡ start_call n (running r s)
   unfolding start_call good_start
   start_good e h g q = rw (le-leb n most_bytes h, le-leb (stack_bytes n) (length s) g, q)
 
@@ -48,50 +56,49 @@ pub ruleset starting = (rules, start_long, start_short, start_good)
 
 -- ---- a row that fits
 
-module _ (lexer : Lexer) (rules : ℕ) (row : List ℕ) (state : ℕ) (b : Best) (is : b ≡ best (weight lexer state row) rules) where
-  -- the winner is a rule
-  pub rule_inside : (b.length ≡ 0 → ⊥) → b.rule < rules
-  rule_inside h =
-      subst (λ (j : ℕ). j < rules) (sym (ap (λ (y : Best). y.rule) is))
-      (winner_inside (weight lexer state row) rules (λ e. h (ap (λ (y : Best). y.length) is ∙ e)))
-
-  -- its length is at most the bytes left
-  pub bytes_low : (left : ℕ) → good_row (λ l. leb l left) rules row ≡ true → b.length ≤ left
-  bytes_low left e =
-      subst (λ (j : ℕ). j ≤ left) (sym (ap (λ (y : Best). y.length) is))
-      (weights_low lexer state row left rules (λ k h. leb-true (entry_at row k) left (row-length (λ l. leb l left) rules row e k h)))
-
-module _ (l1 l2 l3 : List ℕ) (states rules entries : ℕ) (r : Run) (s : List ℕ) (i : Input) (state : ℕ) (b : Best)
-    (top : state ≡ entry_at s (r.depth - 1)) (is : b ≡ best (weight (lexer_at l1 l2 l3 states rules entries) state i.row) rules) where
-  abbrev lexer : Lexer
-  lexer = lexer_at l1 l2 l3 states rules entries
+module _ (lexer : Lexer) (r : Run) (s : List ℕ) (x : Row) (state : ℕ) (top : state ≡ entry_at s (r.depth - 1)) (counted : x.rules ≡ length lexer.rules) where
+  abbrev won : Best
+  won = best (weight lexer state x.bytes.now) x.rules
 
   abbrev g : Running
   g = running r s
 
-  row_choice : choose lexer g b ≡ step_row lexer g i
+  abbrev after_row : RunLeft StepAnswer
+  after_row = step_row lexer g (input x.bytes.now)
+
+  row_choice : choose lexer g won ≡ after_row
   unfolding step_row
   row_choice =
       ap (choose lexer g)
-      (is
-      ∙ ap (λ (z : ℕ). best (weight lexer z i.row) rules) top
-      ∙ ap (best (weight lexer (current g) i.row)) (sym (contents_count rule_format l2 rules)))
+      (ap (λ (z : ℕ). best (weight lexer z x.bytes.now) x.rules) top ∙ ap (best (weight lexer (current g) x.bytes.now)) counted)
 
-  choose_stopped : b.length ≡ 0 → leaving Stopped g ≡ choose lexer g b
+  pub row_stopped : None ≡ winning won → leaving (Ok Stopped) g ≡ after_row
   unfolding choose
-  choose_stopped h = rw (eq-eqb b.length 0 h)
+  row_stopped e = rw (eq-eqb won.length 0 (none_won won e)) at row_choice
 
-  choose_won : (b.length ≡ 0 → ⊥) → won_by g (nth_rule lexer.rules b.rule) b.length ≡ choose lexer g b
-  unfolding choose
-  choose_won h = rw (ne_eqb b.length 0 h)
+  module _ (b : Best) (e : Some b ≡ winning won) where
+    is : b ≡ won
+    is = (one_won won e).0
 
-  pub row_stopped : b.length ≡ 0 → leaving Stopped g ≡ step_row lexer g i
-  row_stopped h = choose_stopped h ∙ row_choice
+    -- the winner is a rule
+    pub rule_inside : b.rule < length lexer.rules
+    rule_inside =
+        let inside : won.rule < x.rules = winner_inside (weight lexer state x.bytes.now) x.rules (one_won won e).1 in
+        omega (arith, inside, counted, ap (λ (y : Best). y.rule) is)
 
-  pub row_won : (x : Rule) (y : RunLeft Step) → (b.length ≡ 0 → ⊥) → x ≡ rule_at l2 b.rule → y ≡ won_by g x b.length → y ≡ step_row lexer g i
-  row_won x y h e q =
-      let read = contents_read rule_format l2 rules b.rule (rule_inside lexer rules i.row state b is h) in
-      q ∙ ap (λ (z : Rule). won_by g z b.length) (e ∙ sym read) ∙ choose_won h ∙ row_choice
+    -- its length is at most the bytes left
+    pub bytes_low : (left : ℕ) → good_row (λ l. leb l left) (length lexer.rules) x.bytes.now ≡ true → b.length ≤ left
+    bytes_low left fits =
+        let low = weights_low lexer state x.bytes.now left x.rules
+        (λ k h. leb-true (entry_at x.bytes.now k) left (row-length (λ l. leb l left) (length lexer.rules) x.bytes.now fits k (omega (arith, h, counted)))) in
+        omega (arith, low, ap (λ (y : Best). y.length) is)
+
+    choose_won : won_by g (nth_rule lexer.rules b.rule) b.length ≡ choose lexer g won
+    unfolding choose
+    choose_won = rw (ne_eqb won.length 0 (one_won won e).1) (ap (λ (y : Best). won_by g (nth_rule lexer.rules y.rule) y.length) is)
+
+    pub row_won : (y : Rule) (z : RunLeft StepAnswer) → y ≡ nth_rule lexer.rules b.rule → z ≡ won_by g y b.length → z ≡ after_row
+    row_won y z read q = q ∙ ap (λ (v : Rule). won_by g v b.length) read ∙ choose_won ∙ row_choice
 
 -- a move by no more bytes than are left stays inside the entry, and its operation inside the stack
 pub move_inside : (r : Run) (bytes space : ℕ) → GoodNumbers r space → r.position < r.n → bytes ≤ r.n - r.position → Inside r bytes space
@@ -111,53 +118,64 @@ move_inside r bytes space g h l = record {
 pub short_of : (states : ℕ) (r : Run) (s : List ℕ) → good_run states (running r s) ≡ true → (r.position ≡ r.n → ⊥) → r.position < r.n
 short_of states r s e h = omega (arith, (run_is states r s e).inside, h)
 
-module _ (l1 l2 l3 : List ℕ) (states rules entries : ℕ) (r : Run) (s : List ℕ) (i : Input) (t : Bool) (is : t ≡ good_run states (running r s)) where
-  abbrev after_check : RunLeft Step
-  after_check = step_run (lexer_at l1 l2 l3 states rules entries) (running r s) i
+-- the lexer that a sheet's areas are
+abbrev pub lexer_lent : SheetBytes → Lexer
+lexer_lent b = lexer_at b.area1 b.area2 b.area3 (count b 1) (count b 2) (count b 3)
 
-  ran : good_run (length (contents state_format l1 states)) (running r s) ≡ t
-  ran = ap (λ (m : ℕ). good_run m (running r s)) (contents_count state_format l1 states) ∙ sym is
+module _ (b : SheetBytes) (r : Run) (s : List ℕ) (row : List ℕ) (t : Bool) (is : t ≡ good_run (count b 1) (running r s)) where
+  abbrev after_check : RunLeft StepAnswer
+  after_check = step_run (lexer_of (decoded b)) (running r s) (input row)
 
-  pub run_refused : t ≡ false → run_left BrokenRun r s ≡ after_check
-  unfolding step_run
+  ran : good_run (length (lexer_lent b).states) (running r s) ≡ t
+  ran = ap (λ (m : ℕ). good_run m (running r s)) (contents_count state_format b.area1 (count b 1)) ∙ sym is
+
+  pub run_refused : t ≡ false → run_left (Err BrokenRun) r s ≡ after_check
+  unfolding step_run decoded
   run_refused e = rw (ran, e)
 
-  pub run_done : t ≡ true → r.position ≡ r.n → run_left Done r s ≡ after_check
-  unfolding step_run
+  pub run_done : t ≡ true → r.position ≡ r.n → run_left (Ok Done) r s ≡ after_check
+  unfolding step_run decoded
   run_done e h = rw (ran, e, eq-eqb r.position r.n h)
 
   module _ (e : t ≡ true) (h : r.position ≡ r.n → ⊥) where
-    rowed : good_row (fits_in r) (length (contents rule_format l2 rules)) i.row ≡ good_row (fits_in r) rules i.row
-    rowed = ap (λ (m : ℕ). good_row (fits_in r) m i.row) (contents_count rule_format l2 rules)
+    rowed : good_row (fits_in r) (length (lexer_lent b).rules) row ≡ good_row (fits_in r) (count b 2) row
+    rowed = ap (λ (m : ℕ). good_row (fits_in r) m row) (contents_count rule_format b.area2 (count b 2))
 
-    pub run_ill : good_row (fits_in r) rules i.row ≡ false → run_left RowMismatch r s ≡ after_check
-    unfolding step_run
+    pub run_ill : good_row (fits_in r) (count b 2) row ≡ false → run_left (Err RowMismatch) r s ≡ after_check
+    unfolding step_run decoded
     run_ill g = rw (ran, e, ne_eqb r.position r.n h, rowed, g)
 
-    pub run_row : (y : RunLeft Step) → good_row (fits_in r) rules i.row ≡ true
-        → y ≡ step_row (lexer_at l1 l2 l3 states rules entries) (running r s) i → y ≡ after_check
-    unfolding step_run
-    run_row y g q = rw (ran, e, ne_eqb r.position r.n h, rowed, g) q
+    module _ (x : Row) (fits : RowFits (fits_in r) (count b 2) row x) (lexer : Lexer) (made : lexer ≡ lexer_lent b) where
+      pub lexer_run : good_run (length lexer.states) (running r s) ≡ true
+      lexer_run = ap (λ (y : Lexer). good_run (length y.states) (running r s)) made ∙ ran ∙ e
+
+      pub lexer_row : RowFits (fits_in r) (length lexer.rules) x.bytes.now x
+      lexer_row =
+          let n : length lexer.rules ≡ count b 2 = ap (λ (y : Lexer). length y.rules) made ∙ contents_count rule_format b.area2 (count b 2) in
+          let there : RowFits (fits_in r) (length lexer.rules) row x = subst (λ (m : ℕ). RowFits (fits_in r) m row x) (sym n) fits in
+          subst (λ (l : List ℕ). RowFits (fits_in r) (length lexer.rules) l x) (sym fits.bytes_are) there
+
+      pub run_row : (y : RunLeft StepAnswer) → y ≡ step_row lexer (running r s) (input x.bytes.now) → y ≡ after_check
+      unfolding step_run decoded
+      run_row y q =
+          rw (ran, e, ne_eqb r.position r.n h, rowed, fits.good)
+          (q ∙ ap (λ (l : List ℕ). step_row lexer (running r s) (input l)) fits.bytes_are ∙ ap (λ (z : Lexer). step_row z (running r s) (input row)) made)
 
 -- ---- the sheet
 
 module _ (b : SheetBytes) (r : Run) (s : List ℕ) (i : Input) (t : Bool) (is : t ≡ sheet_check b) where
-  pub sheet_refused : t ≡ false → run_left BrokenSheet r s ≡ step_call b (running r s) i
+  pub sheet_refused : t ≡ false → run_left (Err BrokenSheet) r s ≡ step_call b (running r s) i
   unfolding step_call
   sheet_refused e = rw (← is, e)
 
-  pub sheet_stepped : (y : RunLeft Step) → t ≡ true
-      → y ≡ step_run (lexer_at b.area1 b.area2 b.area3 (count b 1) (count b 2) (count b 3)) (running r s) i
-      → y ≡ step_call b (running r s) i
-  unfolding step_call decoded
+  pub sheet_stepped : (y : RunLeft StepAnswer) → t ≡ true → y ≡ step_run (lexer_of (decoded b)) (running r s) i → y ≡ step_call b (running r s) i
+  unfolding step_call
   sheet_stepped y e q = rw (← is, e) q
 
-pub sheet_readable : (b : SheetBytes) (t : Bool) → t ≡ sheet_check b → t ≡ true → Readable b.area1 b.area2 b.area3 (count b 1) (count b 2) (count b 3)
-sheet_readable b t is e =
-    let passed : sheet_check b ≡ true = sym is ∙ e in
-    record {
-      long1 = (checked_long b passed).long1;
-      long2 = (checked_long b passed).long2;
-      long3 = (checked_long b passed).long3;
-      lists = λ k h. (checked_rule b passed k h).list_inside;
-    }
+pub sheet_readable : (b : SheetBytes) → sheet_check b ≡ true → Readable b.area1 b.area2 b.area3 (count b 1) (count b 2) (count b 3)
+sheet_readable b passed = record {
+  long1 = (checked_long b passed).long1;
+  long2 = (checked_long b passed).long2;
+  long3 = (checked_long b passed).long3;
+  lists = λ k h. (checked_rule b passed k h).list_inside;
+}

@@ -1,5 +1,5 @@
 -- A run as a call takes it, and what the start call and the step call do (01, The run, and Numbers given at the counter, 6, 8, 9, 10).
-use Rattle.std.specs.Prelude.{ℕ, ◌+◌, ◌*◌, ◌-◌, Bool, cond, ◌&&◌, List, eqb, leb, length}
+use Rattle.std.specs.Prelude.{ℕ, ◌+◌, ◌*◌, ◌-◌, Bool, cond, ◌&&◌, List, eqb, leb, length, Result, Ok, Err}
 use Rattle.std.proofs.lemmas.List.Edits.{sets}
 use Rattle.area.specs.declared.Rule.{Rule}
 use Rattle.area.specs.Bytes.{two}
@@ -14,10 +14,11 @@ use Rattle.sheet_check.specs.SheetCheck.{SheetBytes, decoded, sheet_check, decla
 use Rattle.winner.specs.declared.Best.{Best}
 use Rattle.winner.specs.Winner.{Lexer, weight, best}
 use Rattle.run.specs.declared.Run.{Run}
-use Rattle.run.specs.declared.Begun.{Begun}
-use Rattle.run.specs.declared.Begun.TheVariants.{Started, StartRefused}
+use Rattle.run.specs.declared.StartRefused.{StartRefused}
+use Rattle.run.specs.declared.StepError.{StepError}
+use Rattle.run.specs.declared.StepError.TheVariants.{BrokenSheet, BrokenRun, RowMismatch}
 use Rattle.run.specs.declared.Step.{Step}
-use Rattle.run.specs.declared.Step.TheVariants.{BrokenSheet, BrokenRun, RowMismatch, Done, Stopped, Unlinked, Skip, Token}
+use Rattle.run.specs.declared.Step.TheVariants.{Done, Stopped, Unlinked, Skip, Token}
 
 -- ---- the run
 
@@ -69,6 +70,20 @@ leaving a g = record { answer = a; after = g }
 abbrev pub run_left : {A : Type 0} → A → Run → List ℕ → RunLeft A
 run_left a r s = leaving a (running r s)
 
+-- what the start call answers: that the run began, or that it is refused
+abbrev pub StartAnswer : Type 0
+StartAnswer = Result (Unit {0}) StartRefused
+
+abbrev pub start_accepted : StartAnswer
+start_accepted = Ok tt
+
+abbrev pub start_refused : StartAnswer
+start_refused = Err (record {})
+
+-- what the step call answers: what the step does, or why it is refused
+abbrev pub StepAnswer : Type 0
+StepAnswer = Result Step StepError
+
 -- ---- the start call
 
 -- the run of an entry of n bytes at its start
@@ -80,8 +95,8 @@ unfoldable pub good_start : ℕ → List ℕ → Bool
 good_start n s = leb n most_bytes && leb (stack_bytes n) (length s)
 
 -- accepted, only the first entry of the stack is changed; refused, nothing is
-unfoldable pub start_call : ℕ → Running → RunLeft Begun
-start_call n g = cond (good_start n g.stack) (run_left Started (first_run n) (put_state g.stack 0 0)) (leaving StartRefused g)
+unfoldable pub start_call : ℕ → Running → RunLeft StartAnswer
+start_call n g = cond (good_start n g.stack) (run_left start_accepted (first_run n) (put_state g.stack 0 0)) (leaving start_refused g)
 
 -- ---- the tests of the step call
 
@@ -135,46 +150,46 @@ module _ (g : Running) where
   move_by x bytes = let o = operated x in running (advanced o.run bytes) o.stack
 
   -- the rule wins by so many bytes: a token where it is named and has an id, 'unlinked' where it has none, a skip where it is not named
-  unfoldable pub won_by : Rule → ℕ → RunLeft Step
+  unfoldable pub won_by : Rule → ℕ → RunLeft StepAnswer
   won_by x bytes =
       cond (eqb x.named 1)
-      (cond (eqb x.has_id 1) (leaving (Token x.id g.run.position bytes) (move_by x bytes)) (leaving Unlinked g))
-      (leaving Skip (move_by x bytes))
+      (cond (eqb x.has_id 1) (leaving (Ok (Token x.id g.run.position bytes)) (move_by x bytes)) (leaving (Ok Unlinked) g))
+      (leaving (Ok Skip) (move_by x bytes))
 
 -- ---- the step call
 
 module _ (x : Lexer) (g : Running) where
   -- the greatest length is 0, or the winner
-  unfoldable pub choose : Best → RunLeft Step
-  choose b = cond (eqb b.length 0) (leaving Stopped g) (won_by g (nth_rule x.rules b.rule) b.length)
+  unfoldable pub choose : Best → RunLeft StepAnswer
+  choose b = cond (eqb b.length 0) (leaving (Ok Stopped) g) (won_by g (nth_rule x.rules b.rule) b.length)
 
   -- a row that fits
-  unfoldable pub step_row : Input → RunLeft Step
+  unfoldable pub step_row : Input → RunLeft StepAnswer
   step_row i = choose (best (weight x (current g) i.row) (length x.rules))
 
   -- 9, 'done', 10, then the winner
-  unfoldable pub step_run : Input → RunLeft Step
+  unfoldable pub step_run : Input → RunLeft StepAnswer
   step_run i =
       cond (good_run (length x.states) g)
       (cond (eqb g.run.position g.run.n)
-      (leaving Done g)
-      (cond (good_row (fits_in g.run) (length x.rules) i.row) (step_row i) (leaving RowMismatch g)))
-      (leaving BrokenRun g)
+      (leaving (Ok Done) g)
+      (cond (good_row (fits_in g.run) (length x.rules) i.row) (step_row i) (leaving (Err RowMismatch) g)))
+      (leaving (Err BrokenRun) g)
 
 -- what a step reads of the contents of a sheet
 abbrev pub lexer_of : Contents → Lexer
 lexer_of c = record { states = c.states; rules = c.rules; lists = c.lists }
 
 -- 6 first of all
-unfoldable pub step_call : SheetBytes → Running → Input → RunLeft Step
-step_call b g i = cond (sheet_check b) (step_run (lexer_of (decoded b)) g i) (leaving BrokenSheet g)
+unfoldable pub step_call : SheetBytes → Running → Input → RunLeft StepAnswer
+step_call b g i = cond (sheet_check b) (step_run (lexer_of (decoded b)) g i) (leaving (Err BrokenSheet) g)
 
 -- ---- the answers as words
 
 -- the number of each answer, and its values (01, Numbers given at the counter)
-unfoldable pub start_fields : Begun → Fields
-start_fields Started = fields accepted_number 0 0 0
-start_fields StartRefused = fields start_refused_number 0 0 0
+unfoldable pub start_fields : StartAnswer → Fields
+start_fields (Ok _) = fields accepted_number 0 0 0
+start_fields (Err _) = fields start_refused_number 0 0 0
 
 -- an answer of the step by what it does: it stays, by the number that says why; it skips; or it gives a token, with its id, start and length
 pub data View : Type 0 where
@@ -182,26 +197,26 @@ pub data View : Type 0 where
   skip : View
   token : ℕ → ℕ → ℕ → View
 
-unfoldable pub view : Step → View
-view BrokenSheet = stays broken_sheet_number
-view BrokenRun = stays broken_run_number
-view RowMismatch = stays row_mismatch_number
-view Done = stays done_number
-view Stopped = stays stopped_number
-view Unlinked = stays unlinked_number
-view Skip = skip
-view (Token id start bytes) = token id start bytes
+unfoldable pub view : StepAnswer → View
+view (Err BrokenSheet) = stays broken_sheet_number
+view (Err BrokenRun) = stays broken_run_number
+view (Err RowMismatch) = stays row_mismatch_number
+view (Ok Done) = stays done_number
+view (Ok Stopped) = stays stopped_number
+view (Ok Unlinked) = stays unlinked_number
+view (Ok Skip) = skip
+view (Ok (Token id start bytes)) = token id start bytes
 
 unfoldable pub view_fields : View → Fields
 view_fields (stays number) = fields number 0 0 0
 view_fields skip = fields skip_number 0 0 0
 view_fields (token id start bytes) = fields token_number id start bytes
 
-abbrev pub step_fields : Step → Fields
+abbrev pub step_fields : StepAnswer → Fields
 step_fields a = view_fields (view a)
 
-abbrev pub start_word : Begun → ℕ
+abbrev pub start_word : StartAnswer → ℕ
 start_word a = word (start_fields a)
 
-abbrev pub step_word : Step → ℕ
+abbrev pub step_word : StepAnswer → ℕ
 step_word a = word (step_fields a)

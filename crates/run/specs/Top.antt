@@ -1,16 +1,17 @@
--- The greatest length of a row, by which the step mostly finds the winner without reading every rule. 01 has none of it.
-use Rattle.std.specs.Prelude.{ℕ, ◌≡◌, Bool, true, false, List}
+-- A row that fits, with its greatest length, by which the step mostly finds the winner without reading every rule. 01 has none of it.
+use Rattle.std.specs.Prelude.{ℕ, ◌≡◌, Bool, true, false, List, Option, Some, None}
+use Rattle.winner.specs.declared.Row.{Row}
 use Rattle.winner.specs.Winner.{length_in, greatest}
-use Rattle.run.specs.declared.RowTop.{RowTop}
-use Rattle.run.specs.declared.RowTop.TheVariants.{Fits, Misfit}
 use Rattle.run.specs.Run.{good_row}
 
--- a row fits, and top is its greatest length
-pub record RowFits (fits : ℕ → Bool) (rules : ℕ) (row : List ℕ) (top : ℕ) : Type 0 where
+-- a row fits, and x has its lengths and the greatest of them
+pub record RowFits (fits : ℕ → Bool) (rules : ℕ) (row : List ℕ) (x : Row) : Type 0 where
   pub good : good_row fits rules row ≡ true
-  pub greatest_is : top ≡ greatest (length_in row) rules
+  pub bytes_are : x.bytes.now ≡ row
+  pub rules_are : x.rules ≡ rules
+  pub greatest_is : x.top ≡ greatest (length_in row) rules
 
 -- what an answer says of a row: it fits and has that greatest length, or it does not fit
-abbrev pub RowTopIs : (ℕ → Bool) → ℕ → List ℕ → RowTop → Type 0
-RowTopIs fits rules row (Fits top) = RowFits fits rules row top
-RowTopIs fits rules row Misfit = good_row fits rules row ≡ false
+abbrev pub RowTopIs : (ℕ → Bool) → ℕ → List ℕ → Option Row → Type 0
+RowTopIs fits rules row (Some x) = RowFits fits rules row x
+RowTopIs fits rules row None = good_row fits rules row ≡ false

@@ -4,43 +4,44 @@ ghost use Rattle.area.specs.Phrases.{before};
 ghost use Rattle.run.specs.Run.{running, good_numbers, good_run};
 ghost use Rattle.run.specs.Top.{RowTopIs};
 
-use crate::{MOST_BYTES, RowTop, Run};
+use crate::{MOST_BYTES, Run};
 use area::ENTRY_WIDTH;
 use sheet_check::check::good_entries;
-use winner::greatest_length;
+use winner::Row;
 
-// The sums are wider than a field, so that they cannot wrap.
-fn good_numbers(r: Run, stack: &[u8]) -> bool
-    ensures { result ≡ good_numbers (running r stack.now) }
-{
-    (r.n as u64 <= MOST_BYTES)
-        & (r.position <= r.n)
-        & (1 <= r.depth)
-        & (r.depth as usize <= r.position as usize + 1)
-        & (r.moves <= r.position)
-        & (ENTRY_WIDTH * (r.n as usize + 1) <= stack.len())
-}
-
-// The numbers first, so that the entries in use may be read.
-pub fn good_run(states: u16, r: Run, stack: &[u8]) -> bool
-    ensures { result ≡ good_run states (running r stack.now) }
-{
-    if good_numbers(r, stack) {
-        return good_entries(stack, r.depth, states);
+impl Run {
+    // The sums are wider than a field, so that they cannot wrap.
+    #[tactic(auto, unfolding(crate::specs::Run::good_numbers))]
+    fn good_numbers(self, stack: &[u8]) -> bool
+        ensures { result ≡ good_numbers (running self stack.now) }
+    {
+        (self.n as u64 <= MOST_BYTES)
+            & (self.position <= self.n)
+            & (1 <= self.depth)
+            & (self.depth as usize <= self.position as usize + 1)
+            & (self.moves <= self.position)
+            & (ENTRY_WIDTH * (self.n as usize + 1) <= stack.len())
     }
-    false
+
+    // The numbers first, so that the entries in use may be read.
+    #[tactic(auto, using(crate::proofs::Fitting::run_fits))]
+    pub fn is_good(self, states: u16, stack: &[u8]) -> bool
+        ensures { result ≡ good_run states (running self stack.now) }
+    {
+        self.good_numbers(stack) && good_entries(stack, self.depth, states)
+    }
 }
 
-// Every length is at most the bytes left where the greatest is.
-pub fn row_top(rules: u16, left: u16, row: &[u8]) -> RowTop
+// The row, where it fits: every length is at most the bytes left where the greatest is.
+pub fn row_top<'a>(rules: u16, left: u16, row: &'a [u8]) -> Option<Row<'a>>
     ensures { RowTopIs (λ x. leb x left) rules row.now result }
 {
     if row.len() != rules as usize * ENTRY_WIDTH {
-        return RowTop::Misfit;
+        return None;
     }
-    let top = greatest_length(row, rules);
-    if left < top {
-        return RowTop::Misfit;
+    let lengths = Row::new(row, rules);
+    if left < lengths.top {
+        return None;
     }
-    RowTop::Fits(top)
+    Some(lengths)
 }

@@ -1,6 +1,8 @@
 // A run of the lexer that a sheet describes: the start call and the step call (01, The run).
 #![tactic(auto)]
 
+ghost use Rattle.std.specs.Prelude.{◌≡◌};
+
 mod fit; // whether a run and a row fit
 mod moves; // what the winner does
 pub mod call; // the calls
@@ -9,9 +11,9 @@ pub mod call; // the calls
 const MOST_BYTES: u64 = 4096;
 
 // A run's numbers: the bytes of the entry, those behind it, the entries of the stack in use, and the moves so far. For C they are four
-// two-byte numbers in this order.
+// two-byte numbers in this order. The stack stays beside it, for a struct with a `&mut` slice is not proved where it is lent.
 #[repr(C)]
-#[derive(Clone, Copy)]
+#[derive(Clone, Copy, PartialEq, Eq, Debug)]
 pub struct Run {
     pub n: u16,
     pub position: u16,
@@ -19,43 +21,55 @@ pub struct Run {
     pub moves: u16,
 }
 
-// Whether a row fits: its greatest length, or that it does not fit.
-#[derive(Clone, Copy)]
-pub enum RowTop {
-    Fits(u16),
-    Misfit,
-}
+// What the start call refuses: number 8 of 01.
+#[derive(Clone, Copy, PartialEq, Eq, Debug)]
+pub struct StartRefused;
 
-// The answers of the start call: accepted, or refused by number 8 of 01.
-#[derive(Clone, Copy)]
-pub enum Begun {
-    Started,
-    StartRefused,
-}
-
-// The answers of the step call. A token has its id, start and length.
-#[derive(Clone, Copy)]
-pub enum Step {
+// What the step call refuses: numbers 6, 9 and 10 of 01.
+#[derive(Clone, Copy, PartialEq, Eq, Debug)]
+pub enum StepError {
     BrokenSheet,
     BrokenRun,
     RowMismatch,
+}
+
+// What a step answers that is not refused.
+#[derive(Clone, Copy, PartialEq, Eq, Debug)]
+pub enum Step {
     Done,
     Stopped,
     Unlinked,
     Skip,
-    Token(u16, u16, u16),
+    Token { id: u16, start: u16, length: u16 },
 }
 
-// An answer of the start call, and the run's numbers after it.
+// An answer of a call, and the run's numbers after it.
 #[derive(Clone, Copy)]
-pub struct BegunRun {
-    pub answer: Begun,
+pub struct After<A> {
+    pub answer: A,
     pub run: Run,
 }
 
-// An answer of the step call, and the run's numbers after it.
-#[derive(Clone, Copy)]
-pub struct Stepped {
-    pub answer: Step,
-    pub run: Run,
+impl<A> After<A> {
+    // The same run, beside what is made of the answer.
+    pub fn map<B, F: FnOnce(A) -> B>(self, make: F) -> After<B>
+        requires { F.pre make self.answer }
+        ensures answer { F.post make self.answer result.answer }
+        ensures run { result.run ≡ self.run }
+    {
+        After {
+            answer: make(self.answer),
+            run: self.run,
+        }
+    }
+}
+
+impl Run {
+    // This run, beside an answer.
+    pub fn after<A>(self, answer: A) -> After<A>
+        ensures answer { result.answer ≡ answer }
+        ensures run { result.run ≡ self }
+    {
+        After { answer, run: self }
+    }
 }

@@ -5,10 +5,33 @@
 mod calls;
 mod numbers;
 mod printing;
+mod runs;
+mod sheet;
 
-use calls::play;
+use calls::answer;
+use printing::{Listed, Outcome};
+use runs::Runs;
+use sheet::Sheet;
 use std::fs::File;
-use streams::{fail, read_full};
+use streams::{fail, read_full, say};
+
+// A line that starts with # is only printed. What cannot be written is left out.
+fn play(rt: &impl Print, source: &[u8], lines: &[u8]) {
+    let (mut sheet, parsed) = Sheet::parse(source);
+    let mut runs = Runs::new();
+    let outcome = Outcome::from(parsed);
+    let counts = Listed(&sheet.counts);
+    let _ = println!(rt; "parse:{outcome}{counts}");
+    for ended in lines.split_inclusive(|byte| *byte == b'\n') {
+        let line = ended.strip_suffix(b"\n").unwrap_or(ended);
+        say(rt, line);
+        if !line.starts_with(b"#") {
+            let outcome = answer(&mut sheet, &mut runs, line);
+            let _ = print!(rt; ":{outcome}{runs}");
+        }
+        say(rt, b"\n");
+    }
+}
 
 fn main(rt: HostRuntime) {
     let mut file = match File::open(&rt, "file.l") {
@@ -23,5 +46,5 @@ fn main(rt: HostRuntime) {
     drop(file);
     let mut lines = [0u8; 65536];
     let m = read_full(&mut rt.stdin(), &mut lines);
-    play(&rt, &source[0..n], &lines[0..m]);
+    play(&rt, &source[..n], &lines[..m]);
 }

@@ -1,107 +1,102 @@
-// What is printed of an answer, of a run and of a stack.
-use crate::numbers::number_at;
-use answers::{
-    AREA_FULL, BROKEN_MAP, BROKEN_RUN, BROKEN_SHEET, FAULTY_FILE, INVALID_UTF8, LONG_FILE,
-    ROW_MISMATCH, START_REFUSED, UNKNOWN_FLAG,
-};
-use link::LinkAnswer;
+// What is printed: numbers, and what a line is answered.
+use answers::Number;
+use link::{LinkError, Linked};
 use parse::Answer;
-use run::{Begun, Step};
+use run::{StartRefused, Step, StepError};
+use std::fmt;
 
-// What cannot be written is left out.
-pub fn say(rt: &impl Print, word: &[u8]) {
-    let _ = rt.write_all(word);
-}
+// Each number with a blank before it.
+#[derive(Drop)]
+pub struct Listed<'a>(pub &'a [u16]);
 
-fn say_number(rt: &impl Print, x: u16) {
-    let _ = print!(rt; " {x}");
-}
-
-fn say_refused(rt: &impl Print, number: u16) {
-    say(rt, b" refused");
-    say_number(rt, number);
-}
-
-pub fn say_parse(rt: &impl Print, answer: Answer) {
-    match answer {
-        Answer::Accepted => say(rt, b" accepted"),
-        Answer::LongFile => say_refused(rt, LONG_FILE),
-        Answer::UnknownFlag => say_refused(rt, UNKNOWN_FLAG),
-        Answer::InvalidUtf8 => say_refused(rt, INVALID_UTF8),
-        Answer::AreaFull(n) => {
-            say_refused(rt, AREA_FULL);
-            say_number(rt, n);
+impl fmt::Display for Listed<'_> {
+    fn fmt<W: fmt::Write>(&self, f: &mut fmt::Formatter<W>) -> fmt::Result {
+        for number in self.0 {
+            write!(f, " {number}")?;
         }
-        Answer::FaultyFile(n) => {
-            say_refused(rt, FAULTY_FILE);
-            say_number(rt, n);
+        Ok(())
+    }
+}
+
+#[derive(Clone, Copy)]
+pub enum Outcome {
+    Accepted,
+    Linked(u16, u16),
+    Started,
+    Done,
+    Stopped,
+    Unlinked,
+    Skip,
+    Token(u16, u16, u16),
+    Refused(Number),
+    RefusedAt(Number, u16),
+    Changed,
+    Unknown,
+}
+
+impl fmt::Display for Outcome {
+    fn fmt<W: fmt::Write>(&self, f: &mut fmt::Formatter<W>) -> fmt::Result {
+        match self {
+            Outcome::Accepted => write!(f, " accepted"),
+            Outcome::Linked(missing, unused) => write!(f, " linked {missing} {unused}"),
+            Outcome::Started => write!(f, " started"),
+            Outcome::Done => write!(f, " done"),
+            Outcome::Stopped => write!(f, " stopped"),
+            Outcome::Unlinked => write!(f, " unlinked"),
+            Outcome::Skip => write!(f, " skip"),
+            Outcome::Token(id, from, length) => write!(f, " token {id} {from} {length}"),
+            Outcome::Refused(number) => write!(f, " refused {}", u16::from(*number)),
+            Outcome::RefusedAt(number, n) => write!(f, " refused {} {n}", u16::from(*number)),
+            Outcome::Changed => Ok(()),
+            Outcome::Unknown => write!(f, " unknown"),
         }
     }
 }
 
-pub fn say_link(rt: &impl Print, answer: LinkAnswer) {
-    match answer {
-        LinkAnswer::Linked(missing, unused) => {
-            say(rt, b" linked");
-            say_number(rt, missing);
-            say_number(rt, unused);
-        }
-        LinkAnswer::BrokenSheet => say_refused(rt, BROKEN_SHEET),
-        LinkAnswer::BrokenMap => say_refused(rt, BROKEN_MAP),
-        LinkAnswer::AreaFull(n) => {
-            say_refused(rt, AREA_FULL);
-            say_number(rt, n);
+impl From<Answer> for Outcome {
+    fn from(answer: Answer) -> Outcome {
+        match answer {
+            Answer::Accepted => Outcome::Accepted,
+            Answer::LongFile => Outcome::Refused(Number::LongFile),
+            Answer::UnknownFlag => Outcome::Refused(Number::UnknownFlag),
+            Answer::InvalidUtf8 => Outcome::Refused(Number::InvalidUtf8),
+            Answer::AreaFull(n) => Outcome::RefusedAt(Number::AreaFull, n),
+            Answer::FaultyFile(n) => Outcome::RefusedAt(Number::FaultyFile, n),
         }
     }
 }
 
-pub fn say_start(rt: &impl Print, answer: Begun) {
-    match answer {
-        Begun::Started => say(rt, b" started"),
-        Begun::StartRefused => say_refused(rt, START_REFUSED),
-    }
-}
-
-pub fn say_step(rt: &impl Print, answer: Step) {
-    match answer {
-        Step::BrokenSheet => say_refused(rt, BROKEN_SHEET),
-        Step::BrokenRun => say_refused(rt, BROKEN_RUN),
-        Step::RowMismatch => say_refused(rt, ROW_MISMATCH),
-        Step::Done => say(rt, b" done"),
-        Step::Stopped => say(rt, b" stopped"),
-        Step::Unlinked => say(rt, b" unlinked"),
-        Step::Skip => say(rt, b" skip"),
-        Step::Token(id, from, length) => {
-            say(rt, b" token");
-            say_number(rt, id);
-            say_number(rt, from);
-            say_number(rt, length);
+impl From<Result<Linked, LinkError>> for Outcome {
+    fn from(answer: Result<Linked, LinkError>) -> Outcome {
+        match answer {
+            Ok(linked) => Outcome::Linked(linked.unmapped_count, linked.unused_count),
+            Err(LinkError::BrokenSheet) => Outcome::Refused(Number::BrokenSheet),
+            Err(LinkError::BrokenMap) => Outcome::Refused(Number::BrokenMap),
+            Err(LinkError::AreaFull(n)) => Outcome::RefusedAt(Number::AreaFull, n),
         }
     }
 }
 
-// The four numbers of a run, and the first four entries of its stack.
-pub fn say_run(rt: &impl Print, run: &[u16; 4], stack: &[u8]) {
-    say(rt, b" |");
-    say_number(rt, run[0]);
-    say_number(rt, run[1]);
-    say_number(rt, run[2]);
-    say_number(rt, run[3]);
-    say(rt, b" |");
-    say_number(rt, number_at(stack, 0));
-    say_number(rt, number_at(stack, 2));
-    say_number(rt, number_at(stack, 4));
-    say_number(rt, number_at(stack, 6));
-    say(rt, b"\n");
+impl From<Result<(), StartRefused>> for Outcome {
+    fn from(answer: Result<(), StartRefused>) -> Outcome {
+        match answer {
+            Ok(_) => Outcome::Started,
+            Err(_) => Outcome::Refused(Number::StartRefused),
+        }
+    }
 }
 
-// The counts of areas 1 to 6.
-pub fn say_counts(rt: &impl Print, counts: &[u16; 6]) {
-    say_number(rt, counts[0]);
-    say_number(rt, counts[1]);
-    say_number(rt, counts[2]);
-    say_number(rt, counts[3]);
-    say_number(rt, counts[4]);
-    say_number(rt, counts[5]);
-    say(rt, b"\n");
+impl From<Result<Step, StepError>> for Outcome {
+    fn from(answer: Result<Step, StepError>) -> Outcome {
+        match answer {
+            Err(StepError::BrokenSheet) => Outcome::Refused(Number::BrokenSheet),
+            Err(StepError::BrokenRun) => Outcome::Refused(Number::BrokenRun),
+            Err(StepError::RowMismatch) => Outcome::Refused(Number::RowMismatch),
+            Ok(Step::Done) => Outcome::Done,
+            Ok(Step::Stopped) => Outcome::Stopped,
+            Ok(Step::Unlinked) => Outcome::Unlinked,
+            Ok(Step::Skip) => Outcome::Skip,
+            Ok(Step::Token { id, start, length }) => Outcome::Token(id, start, length),
+        }
+    }
 }

@@ -7,10 +7,7 @@ use native.Mathlib.Omega.{arith}
 use lib.ListN.{length, length-append}
 use Rattle.sheet_check.specs.SheetCheck.{SheetBytes, decoded, sheet_check}
 use Rattle.sheet_check.proofs.Checked.{states_count, checked_counts}
-use Rattle.run.specs.declared.Begun.{Begun}
-use Rattle.run.specs.declared.Begun.TheVariants.{Started}
-use Rattle.run.specs.declared.Step.{Step}
-use Rattle.run.specs.Run.{Running, running, Input, RunLeft, moves_of, put_state, first_run, start_call, step_call}
+use Rattle.run.specs.Run.{StartAnswer, start_accepted, StepAnswer, Running, running, Input, RunLeft, moves_of, put_state, first_run, start_call, step_call}
 use Rattle.run.proofs.Fitting.{run_is, current_declared}
 use Rattle.run_laws.specs.Calls.{calls, last_running, last_position}
 use Rattle.run_laws.specs.Pieces.{Piece, piece_left, pieces, Adjoin}
@@ -22,7 +19,7 @@ use Rattle.run_laws.proofs.OneCall.{called}
 use Rattle.run_laws.proofs.Started.{start_left, first_good}
 
 -- what the pieces of calls from the run x on, which left os, add up to
-record Sums (x : Running) (os : List (RunLeft Step)) : Type 0 where
+record Sums (x : Running) (os : List (RunLeft StepAnswer)) : Type 0 where
   cover : Adjoin x.run.position (pieces x.run.position os) (last_position x os)
   moves : moves_of (last_running x os).run ≡ moves_of x.run + length (pieces x.run.position os)
 
@@ -65,7 +62,7 @@ module _ (b : SheetBytes) (passed : sheet_check b ≡ true) where
           moves = omega (arith, c.moves, s.moves, length-append here behind);
         }
 
-  first_sound : (n : ℕ) (x : Running) → (start_call n x).answer ≡ Started
+  first_sound : (n : ℕ) (x : Running) → (start_call n x).answer ≡ start_accepted
       → SoundRun states n (length x.stack) (running (first_run n) (put_state x.stack 0 0))
   first_sound n x ok =
       let good = first_good n x ok states (omega (arith, states_count b, (checked_counts b passed).0)) in
@@ -80,7 +77,7 @@ pub always : AlwaysHolds
 unfolding AlwaysHolds
 always b passed n x ok is =
     let first : Running = running (first_run n) (put_state x.stack 0 0) in
-    let os : List (RunLeft Step) = calls b first is in
+    let os : List (RunLeft StepAnswer) = calls b first is in
     let states : ℕ = length (decoded b).states in
     let bytes : ℕ = length x.stack in
     let h = first_sound b passed n x ok in
@@ -88,7 +85,7 @@ always b passed n x ok is =
     let keeps = run_kept b passed n bytes in
     let end : SoundRun states n bytes (last_running first os) = calls_last b (SoundRun states n bytes) keeps is first h in
     let g = run_is states (last_running first os).run (last_running first os).stack end.good in
-    subst⁻¹ (λ (f : RunLeft Begun). Always b n x.stack f.after (calls b f.after is)) (start_left n x ok)
+    subst⁻¹ (λ (f : RunLeft StartAnswer). Always b n x.stack f.after (calls b f.after is)) (start_left n x ok)
     (record {
       first = h;
       each = calls_each b (SoundRun states n bytes) keeps (SoundCall states n bytes) (call_sound b passed n bytes) is first h;

@@ -1,13 +1,12 @@
 -- A list of calls by what holds of one: an invariant of the run that a step call keeps holds after each of them.
 use mathlib.Core.List.{List, [], ◌∷◌}
 use Rattle.sheet_check.specs.SheetCheck.{SheetBytes}
-use Rattle.run.specs.declared.Step.{Step}
-use Rattle.run.specs.Run.{Running, Input, RunLeft, step_call}
+use Rattle.run.specs.Run.{StepAnswer, Running, Input, RunLeft, step_call}
 use Rattle.run_laws.specs.Calls.{calls, EachCall, last_running}
 
 module _ (b : SheetBytes) (P : Running → Type 0) (keeps : (x : Running) (i : Input) → P x → P (step_call b x i).after) where
   -- what holds of one call from a run that has the invariant holds of each
-  pub calls_each : (Q : Running → RunLeft Step → Type 0) → ((x : Running) (i : Input) → P x → Q x (step_call b x i))
+  pub calls_each : (Q : Running → RunLeft StepAnswer → Type 0) → ((x : Running) (i : Input) → P x → Q x (step_call b x i))
       → (is : List Input) (x : Running) → P x → EachCall Q x (calls b x is)
   unfolding calls EachCall
   calls_each Q says [] x h = tt

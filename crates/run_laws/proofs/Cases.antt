@@ -14,9 +14,10 @@ use Rattle.answers.specs.Numbers.{broken_sheet_number, broken_run_number, row_mi
 use Rattle.sheet_check.specs.SheetCheck.{SheetBytes, decoded, sheet_check}
 use Rattle.winner.specs.Winner.{Lexer, live, length_in, weight, greatest, earliest}
 use Rattle.winner.proofs.Winning.{earliest_has, winner_inside, weights_low}
-use Rattle.run.specs.declared.Step.{Step}
-use Rattle.run.specs.declared.Step.TheVariants.{RowMismatch, Done, Stopped, Unlinked, Skip, Token}
-use Rattle.run.specs.Run.{Running, current, Input, RunLeft, leaving, good_run, fits_in, good_row, move_by, won_by, choose, step_row, step_run, lexer_of, step_call, stays, view}
+use Rattle.std.specs.Prelude.{Ok, Err}
+use Rattle.run.specs.declared.StepError.TheVariants.{RowMismatch}
+use Rattle.run.specs.declared.Step.TheVariants.{Done, Stopped, Unlinked, Skip, Token}
+use Rattle.run.specs.Run.{StepAnswer, Running, current, Input, RunLeft, leaving, good_run, fits_in, good_row, move_by, won_by, choose, step_row, step_run, lexer_of, step_call, stays, view}
 use Rattle.run.proofs.Fitting.{row-length}
 
 -- rule k wins by so many bytes: it is live in the current state, and the row has that length for it, at least one byte and none that is not left
@@ -28,14 +29,14 @@ pub record Wins (c : Lexer) (x : Running) (i : Input) (k bytes : ℕ) : Type 0 w
   pub left : bytes ≤ x.run.n - x.run.position
 
 -- a property of what a call leaves, in each case: it stays, by a number that is neither 6 nor 9; it gives a token; it skips
-pub record InEachCase (c : Lexer) (x : Running) (i : Input) (P : RunLeft Step → Type 0) : Type 0 where
-  pub stayed : (a : Step) (number : ℕ) → view a ≡ stays number → (number ≡ broken_sheet_number → ⊥) → (number ≡ broken_run_number → ⊥) → P (leaving a x)
+pub record InEachCase (c : Lexer) (x : Running) (i : Input) (P : RunLeft StepAnswer → Type 0) : Type 0 where
+  pub stayed : (a : StepAnswer) (number : ℕ) → view a ≡ stays number → (number ≡ broken_sheet_number → ⊥) → (number ≡ broken_run_number → ⊥) → P (leaving a x)
   pub gave : (k bytes : ℕ) → Wins c x i k bytes
       → (nth_rule c.rules k).named ≡ 1 → (nth_rule c.rules k).has_id ≡ 1
-      → P (leaving (Token (nth_rule c.rules k).id x.run.position bytes) (move_by x (nth_rule c.rules k) bytes))
+      → P (leaving (Ok (Token (nth_rule c.rules k).id x.run.position bytes)) (move_by x (nth_rule c.rules k) bytes))
   pub skipped : (k bytes : ℕ) → Wins c x i k bytes
       → ((nth_rule c.rules k).named ≡ 1 → ⊥)
-      → P (leaving Skip (move_by x (nth_rule c.rules k) bytes))
+      → P (leaving (Ok Skip) (move_by x (nth_rule c.rules k) bytes))
 
 -- ---- the winner
 
@@ -66,14 +67,18 @@ wins c x i fits some =
 
 -- ---- the call
 
-module _ (c : Lexer) (x : Running) (i : Input) (P : RunLeft Step → Type 0) (holds : InEachCase c x i P) where
+module _ (c : Lexer) (x : Running) (i : Input) (P : RunLeft StepAnswer → Type 0) (holds : InEachCase c x i P) where
+  -- an answer that stays by a number above 9
+  still : (a : StepAnswer) (number : ℕ) → view a ≡ stays number → broken_run_number < number → P (leaving a x)
+  still a number is above = holds.stayed a number is (λ q. omega (arith, q, above)) (λ q. omega (arith, q, above))
+
   won_cases : (k bytes : ℕ) → Wins c x i k bytes → P (won_by x (nth_rule c.rules k) bytes)
   unfolding won_by view
   won_cases k bytes w =
       let r : Rule = nth_rule c.rules k in
       by_test P (eqb r.named 1) _ _
       (λ e. by_test P (eqb r.has_id 1) _ _ (λ d. holds.gave k bytes w (eqb-true r.named 1 e) (eqb-true r.has_id 1 d))
-      (λ _. holds.stayed Unlinked unlinked_number refl (λ q. omega (arith, q)) (λ q. omega (arith, q))))
+      (λ _. still (Ok Unlinked) unlinked_number refl (omega arith)))
       (λ e. holds.skipped k bytes w (eqb-false r.named 1 e))
 
   row_cases : good_row (fits_in x.run) (length c.rules) i.row ≡ true → P (step_row c x i)
@@ -81,19 +86,19 @@ module _ (c : Lexer) (x : Running) (i : Input) (P : RunLeft Step → Type 0) (ho
   row_cases fits =
       let f : ℕ → ℕ = weight c (current x) i.row in
       let n : ℕ = length c.rules in
-      by_test P (eqb (greatest f n) 0) _ _ (λ _. holds.stayed Stopped stopped_number refl (λ q. omega (arith, q)) (λ q. omega (arith, q)))
+      by_test P (eqb (greatest f n) 0) _ _ (λ _. still (Ok Stopped) stopped_number refl (omega arith))
       (λ e. won_cases (earliest f n) (greatest f n) (wins c x i fits (eqb-false (greatest f n) 0 e)))
 
   run_cases : good_run (length c.states) x ≡ true → P (step_run c x i)
   unfolding step_run view
   run_cases good =
       rw good
-      (by_test P (eqb x.run.position x.run.n) _ _ (λ _. holds.stayed Done done_number refl (λ q. omega (arith, q)) (λ q. omega (arith, q)))
+      (by_test P (eqb x.run.position x.run.n) _ _ (λ _. still (Ok Done) done_number refl (omega arith))
       (λ _. by_test P (good_row (fits_in x.run) (length c.rules) i.row) _ _ row_cases
-      (λ _. holds.stayed RowMismatch row_mismatch_number refl (λ q. omega (arith, q)) (λ q. omega (arith, q)))))
+      (λ _. still (Err RowMismatch) row_mismatch_number refl (omega arith))))
 
 pub call_cases : (b : SheetBytes) → sheet_check b ≡ true → (x : Running) → good_run (length (decoded b).states) x ≡ true
-    → (i : Input) (P : RunLeft Step → Type 0)
+    → (i : Input) (P : RunLeft StepAnswer → Type 0)
     → InEachCase (lexer_of (decoded b)) x i P → P (step_call b x i)
 unfolding step_call
 call_cases b passed x good i P holds = rw passed (run_cases (lexer_of (decoded b)) x i P holds good)

@@ -12,9 +12,10 @@ use Rattle.sheet_check.specs.declared.Sizes.{Sizes}
 use Rattle.sheet_check.specs.SheetCheck.{SheetBytes, decoded, sizes_of, good_rule, sheet_check}
 use Rattle.sheet_check.proofs.Checked.{good_rule_lem, states_count, checked_records}
 use Rattle.area.proofs.All.{all-at}
-use Rattle.run.specs.declared.Step.{Step}
-use Rattle.run.specs.declared.Step.TheVariants.{BrokenSheet, BrokenRun, Skip, Token}
-use Rattle.run.specs.Run.{Running, Input, RunLeft, leaving, moves_of, good_run, move_by, step_call, View, stays, view, view_fields, step_fields}
+use Rattle.std.specs.Prelude.{Ok, Err}
+use Rattle.run.specs.declared.StepError.TheVariants.{BrokenSheet, BrokenRun}
+use Rattle.run.specs.declared.Step.TheVariants.{Skip, Token}
+use Rattle.run.specs.Run.{StepAnswer, Running, Input, RunLeft, leaving, moves_of, good_run, move_by, step_call, View, stays, view, view_fields, step_fields}
 use Rattle.run.proofs.Fitting.{run_is}
 use Rattle.run_laws.specs.Pieces.{Piece, piece, piece_of, piece_left, Adjoin}
 use Rattle.run_laws.proofs.Cases.{call_cases}
@@ -22,9 +23,9 @@ use Rattle.run_laws.proofs.Operated.{operated_good, run_good}
 
 -- a call from the run x that left o: neither 6 nor 9; it stays and changes nothing, or its piece has some bytes; and the run is good again, with the
 -- same n and as many bytes of stack; its piece, if it has one, stands between the two positions, and is one move
-pub record Called (states : ℕ) (x : Running) (o : RunLeft Step) : Type 0 where
-  pub not_6 : o.answer ≡ BrokenSheet → ⊥
-  pub not_9 : o.answer ≡ BrokenRun → ⊥
+pub record Called (states : ℕ) (x : Running) (o : RunLeft StepAnswer) : Type 0 where
+  pub not_6 : o.answer ≡ Err BrokenSheet → ⊥
+  pub not_9 : o.answer ≡ Err BrokenRun → ⊥
   pub unchanged : (number : ℕ) → view o.answer ≡ stays number → o.after ≡ x
   pub some_bytes : (y : Piece) → piece_left x.run.position o ≡ y ∷ [] → 0 < y.bytes
   pub good : good_run states o.after ≡ true
@@ -34,7 +35,7 @@ pub record Called (states : ℕ) (x : Running) (o : RunLeft Step) : Type 0 where
   pub moves : moves_of o.after.run ≡ moves_of x.run + length (piece_left x.run.position o)
 
 -- an answer's number
-abbrev number : Step → ℕ
+abbrev number : StepAnswer → ℕ
 number a = (step_fields a).number
 
 -- the bytes of the first piece, 0 where there is none
@@ -43,7 +44,7 @@ first_bytes [] = 0
 first_bytes (y ∷ ys) = y.bytes
 
 stays_called : (states : ℕ) (x : Running) → good_run states x ≡ true
-    → (a : Step) (k : ℕ) → view a ≡ stays k → (k ≡ broken_sheet_number → ⊥) → (k ≡ broken_run_number → ⊥) → Called states x (leaving a x)
+    → (a : StepAnswer) (k : ℕ) → view a ≡ stays k → (k ≡ broken_sheet_number → ⊥) → (k ≡ broken_run_number → ⊥) → Called states x (leaving a x)
 unfolding Adjoin view view_fields
 stays_called states x good a k e p q =
     let is : k ≡ number a = sym (ap (λ (v : View). (view_fields v).number) e) in
@@ -62,9 +63,9 @@ stays_called states x good a k e p q =
 -- a move by a rule over some of the bytes that are left
 module _ (states : ℕ) (x : Running) (good : good_run states x ≡ true) (r : Rule) (bytes : ℕ)
     (target : r.target < states) (some : 0 < bytes) (left : bytes ≤ x.run.n - x.run.position) where
-  goes_called : (a : Step)
+  goes_called : (a : StepAnswer)
       → ((q : ℕ) → q ≡ x.run.position + bytes → piece_of x.run.position q (view a) ≡ piece x.run.position bytes ∷ [])
-      → (a ≡ BrokenSheet → ⊥) → (a ≡ BrokenRun → ⊥) → Called states x (leaving a (move_by x r bytes))
+      → (a ≡ Err BrokenSheet → ⊥) → (a ≡ Err BrokenRun → ⊥) → Called states x (leaving a (move_by x r bytes))
   unfolding Adjoin move_by first_bytes
   goes_called a piece_is p q =
       let g = run_is states x.run x.stack good in
@@ -91,19 +92,18 @@ module _ (states : ℕ) (x : Running) (good : good_run states x ≡ true) (r : R
         moves = rw one (omega (arith, o.same_moves));
       }
 
-  token_called : Called states x (leaving (Token r.id x.run.position bytes) (move_by x r bytes))
-  unfolding view view_fields
-  token_called =
-      goes_called (Token r.id x.run.position bytes) (λ q e. refl) (λ e. omega (arith, ap number e)) (λ e. omega (arith, ap number e))
+  token_called : Called states x (leaving (Ok (Token r.id x.run.position bytes)) (move_by x r bytes))
+  unfolding view
+  token_called = goes_called (Ok (Token r.id x.run.position bytes)) (λ q e. refl) (λ e. cc) (λ e. cc)
 
-  skip_called : Called states x (leaving Skip (move_by x r bytes))
-  unfolding view view_fields
+  skip_called : Called states x (leaving (Ok Skip) (move_by x r bytes))
+  unfolding view
   skip_called =
-      goes_called Skip
+      goes_called (Ok Skip)
       (λ q e.
       let long : q - x.run.position ≡ bytes = omega (arith, e) in
       ap (λ (k : ℕ). piece x.run.position k ∷ []) long)
-      (λ e. omega (arith, ap number e)) (λ e. omega (arith, ap number e))
+      (λ e. cc) (λ e. cc)
 
 -- ---- the call
 

@@ -8,17 +8,16 @@ use lib.Dec.{leb}
 use lib.ListN.{length}
 use Rattle.characters.proofs.Tests.{and_left, and_right}
 use Rattle.area.specs.Records.{entry_at}
-use Rattle.run.specs.declared.Begun.TheVariants.{Started, StartRefused}
-use Rattle.run.specs.Run.{Running, running, leaving, run_left, most_bytes, stack_bytes, put_state, first_run, good_start, good_run, start_call, start_fields, start_word}
+use Rattle.run.specs.Run.{start_accepted, start_refused, Running, running, leaving, run_left, most_bytes, stack_bytes, put_state, first_run, good_start, good_run, start_call, start_fields, start_word}
 use Rattle.run_laws.proofs.Stacks.{put_length, put_same}
 use Rattle.run_laws.proofs.Operated.{run_good}
 
-module _ (n : ℕ) (x : Running) (started : (start_call n x).answer ≡ Started) where
+module _ (n : ℕ) (x : Running) (started : (start_call n x).answer ≡ start_accepted) where
   start_good : good_start n x.stack ≡ true
   unfolding start_call start_fields
   start_good = go (good_start n x.stack) started
     where
-      go : (t : Bool) → (cond t (run_left Started (first_run n) (put_state x.stack 0 0)) (leaving StartRefused x)).answer ≡ Started → t ≡ true
+      go : (t : Bool) → (cond t (run_left start_accepted (first_run n) (put_state x.stack 0 0)) (leaving start_refused x)).answer ≡ start_accepted → t ≡ true
       go true e = refl
       go false e = absurd (omega (arith, ap start_word e))
 
@@ -30,7 +29,7 @@ module _ (n : ℕ) (x : Running) (started : (start_call n x).answer ≡ Started)
   unfolding good_start
   start_long = leb-true (stack_bytes n) (length x.stack) (and_right (leb n most_bytes) _ start_good)
 
-  pub start_left : start_call n x ≡ run_left Started (first_run n) (put_state x.stack 0 0)
+  pub start_left : start_call n x ≡ run_left start_accepted (first_run n) (put_state x.stack 0 0)
   unfolding start_call
   start_left = rw start_good refl
 

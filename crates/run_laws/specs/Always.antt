@@ -1,11 +1,9 @@
 -- What always holds of a run on a sheet that passes the check, linked or not (01, The run): one statement about an accepted start and any list of
 -- step calls after it.
-use Rattle.std.specs.Prelude.{ℕ, ◌≤◌, ◌<◌, ◌≡◌, true, cond, List, [], ◌∷◌, ltb, length}
+use Rattle.std.specs.Prelude.{ℕ, ◌≤◌, ◌<◌, ◌≡◌, true, cond, List, [], ◌∷◌, ltb, length, Err}
 use Rattle.sheet_check.specs.SheetCheck.{SheetBytes, decoded, sheet_check}
-use Rattle.run.specs.declared.Begun.TheVariants.{Started}
-use Rattle.run.specs.declared.Step.{Step}
-use Rattle.run.specs.declared.Step.TheVariants.{BrokenSheet, BrokenRun}
-use Rattle.run.specs.Run.{Running, Input, RunLeft, moves_of, current, good_run, start_call, stays, view}
+use Rattle.run.specs.declared.StepError.TheVariants.{BrokenSheet, BrokenRun}
+use Rattle.run.specs.Run.{Running, Input, start_accepted, StepAnswer, RunLeft, moves_of, current, good_run, start_call, stays, view}
 use Rattle.run_laws.specs.Calls.{calls, EachCall, last_running, last_position}
 use Rattle.run_laws.specs.Pieces.{Piece, piece_left, pieces, Adjoin, covered}
 
@@ -20,15 +18,15 @@ pub record SoundRun (states n bytes : ℕ) (x : Running) : Type 0 where
 
 -- a call from the run x that left o: its answer is neither 6 nor 9; if it stays it changes nothing, and otherwise its piece has at least one byte;
 -- and the run is sound again
-pub record SoundCall (states n bytes : ℕ) (x : Running) (o : RunLeft Step) : Type 0 where
-  pub not_6 : o.answer ≡ BrokenSheet → ⊥
-  pub not_9 : o.answer ≡ BrokenRun → ⊥
+pub record SoundCall (states n bytes : ℕ) (x : Running) (o : RunLeft StepAnswer) : Type 0 where
+  pub not_6 : o.answer ≡ Err BrokenSheet → ⊥
+  pub not_9 : o.answer ≡ Err BrokenRun → ⊥
   pub unchanged : (number : ℕ) → view o.answer ≡ stays number → o.after ≡ x
   pub some_bytes : (y : Piece) → piece_left x.run.position o ≡ y ∷ [] → 0 < y.bytes
   pub after : SoundRun states n bytes o.after
 
 -- of step calls on the sheet b that left os, after a start call for n bytes over the stack s that left x
-pub record Always (b : SheetBytes) (n : ℕ) (s : List ℕ) (x : Running) (os : List (RunLeft Step)) : Type 0 where
+pub record Always (b : SheetBytes) (n : ℕ) (s : List ℕ) (x : Running) (os : List (RunLeft StepAnswer)) : Type 0 where
   -- the run is sound at first, and after each call, whose answer is neither 6 nor 9
   pub first : SoundRun (length (decoded b).states) n (length s) x
   pub each : EachCall (SoundCall (length (decoded b).states) n (length s)) x os
@@ -43,5 +41,5 @@ pub record Always (b : SheetBytes) (n : ℕ) (s : List ℕ) (x : Running) (os : 
 -- of every sheet that passes the check, every accepted start and every list of inputs
 unfoldable pub AlwaysHolds : Type 0
 AlwaysHolds = (b : SheetBytes) → sheet_check b ≡ true
-    → (n : ℕ) (x : Running) → (start_call n x).answer ≡ Started
+    → (n : ℕ) (x : Running) → (start_call n x).answer ≡ start_accepted
     → (is : List Input) → Always b n x.stack (start_call n x).after (calls b (start_call n x).after is)

@@ -1,7 +1,6 @@
 -- What the tokens and skips of a list of calls cover of the entry (01, The run).
 use Rattle.std.specs.Prelude.{ℕ, ◌+◌, ◌-◌, ◌≡◌, cond, ◌&&◌, List, [], ◌∷◌, ◌++◌, leb, ltb}
-use Rattle.run.specs.declared.Step.{Step}
-use Rattle.run.specs.Run.{RunLeft, View, stays, skip, token, view}
+use Rattle.run.specs.Run.{StepAnswer, RunLeft, View, stays, skip, token, view}
 
 -- so many bytes from a place on
 pub record Piece : Type 0 where
@@ -18,11 +17,11 @@ piece_of p q skip = piece p (q - p) ∷ []
 piece_of p q (token id start bytes) = piece start bytes ∷ []
 
 -- the piece of a call from the position p on that left o
-abbrev pub piece_left : ℕ → RunLeft Step → List Piece
+abbrev pub piece_left : ℕ → RunLeft StepAnswer → List Piece
 piece_left p o = piece_of p o.after.run.position (view o.answer)
 
 -- the pieces of the tokens and skips that calls answered, in order, the first call at the position p
-unfoldable pub pieces : ℕ → List (RunLeft Step) → List Piece
+unfoldable pub pieces : ℕ → List (RunLeft StepAnswer) → List Piece
 pieces p [] = []
 pieces p (o ∷ os) = piece_left p o ++ pieces o.after.run.position os
 

@@ -1,7 +1,7 @@
 -- Lines that are skipped. Each way to skip goes forward, and not past the end of the text; so repeating it comes to rest. The loops stand where
 -- nothing is left to skip, so that from there a step only passes a line, and repeating comes to rest at the same place.
 use mathlib.Core.Path.{◌≡◌, refl, sym, ap, ◌∙◌}
-use mathlib.Core.Bool.{Bool, true, false, cond, not, false≢true}
+use mathlib.Core.Bool.{Bool, true, false, cond, not, not-not, false≢true}
 use mathlib.Core.List.{List}
 use mathlib.Core.Logic.{⊎_elim}
 use Prim.Native.Nat.{ℕ, ◌+◌, ◌-◌, ◌%◌, ◌≤◌, ◌<◌, max}
@@ -16,21 +16,21 @@ use Rattle.characters.specs.Walk.{first, repeat, skip, Between}
 use Rattle.characters.specs.Class.{is_line_end}
 use Rattle.characters.specs.Whitespace.{byte, line_end_of, whitespace_len, line_end_len, at_line_end}
 use Rattle.text.specs.Range.{part, same_bytes, lookahead_is}
-use Rattle.text.specs.Scan.{line_end, skip_whitespace, skip_line_ends}
-use Rattle.characters.specs.declared.Found.{Found}
-use Rattle.characters.specs.declared.Found.TheVariants.{At, Nothing}
+use Rattle.text.specs.Scan.{line_end}
+use Rattle.std.specs.Prelude.{Option, Some, None, is_some}
 use Rattle.characters.proofs.Tests.{le_or_lt, and_right, and_false, by_test}
 use Rattle.characters.proofs.Walks.{first_here, first_next, first_from, first_to, repeat_stop, repeat_keeps, repeat_go, repeat_stays, skip_stays, skip_stops, skip_from, skip_to_lem}
 use Rattle.characters.proofs.Spaces.{end_one, white_inside, end_inside}
 use Rattle.text.proofs.Ranges.{ahead_short, same_equal}
-use Rattle.section.specs.Section.{comments, found, percents, slashes, is_comment, past_comment, past_line, to_declaration, past_rule_line, to_rule, in_section, has_routines}
+use Rattle.std.proofs.lemmas.Option.{none-some}
+use Rattle.section.specs.Section.{comments, percents, slashes, is_comment, past_comment, past_both, past_line, to_declaration, past_rule_line, to_rule, in_section}
 
 -- ---- a word that stands at i: its bytes, and that it ends within the text
 
-word_stands : (s w : List ℕ) (i : ℕ) → found (lookahead_is s w i) ≡ true → part s i (i + length w) ≡ w
+word_stands : (s w : List ℕ) (i : ℕ) → is_some (lookahead_is s w i) ≡ true → part s i (i + length w) ≡ w
 unfolding lookahead_is
 word_stands s w i =
-    by_test (λ f. found f ≡ true → part s i (i + length w) ≡ w) (same_bytes (part s i (i + length w)) w) (At (i + length w)) Nothing
+    by_test (λ f. is_some f ≡ true → part s i (i + length w) ≡ w) (same_bytes (part s i (i + length w)) w) (Some (i + length w)) None
     (λ e _. same_equal (part s i (i + length w)) w e)
     (λ _ z. absurd (false≢true z))
 
@@ -38,55 +38,40 @@ part_short : (s : List ℕ) (i n : ℕ) → length (part s i (i + n)) ≡ n → 
 unfolding part
 part_short s i n e = omega (arith, simp (length-take, length-drop) at e)
 
-word_within : (s w : List ℕ) (i : ℕ) → found (lookahead_is s w i) ≡ true → i + length w ≤ max i (length s)
+word_within : (s w : List ℕ) (i : ℕ) → is_some (lookahead_is s w i) ≡ true → i + length w ≤ max i (length s)
 word_within s w i e = part_short s i (length w) (ap length (word_stands s w i e))
 
-nothing_at : (j : ℕ) → Nothing ≡ At j → ⊥
-nothing_at j z =
-    let q : ◌≡◌ {A = ℕ} 0 1 = cc in
-    omega arith
-
-pub ahead_within : (s w : List ℕ) (i j : ℕ) → lookahead_is s w i ≡ At j → (i + length w ≡ j) × (i + length w ≤ max i (length s))
+pub ahead_within : (s w : List ℕ) (i j : ℕ) → lookahead_is s w i ≡ Some j → (i + length w ≡ j) × (i + length w ≤ max i (length s))
 unfolding lookahead_is
 ahead_within s w i j e =
-    (by_test (λ f. f ≡ At j → i + length w ≡ j) (same_bytes (part s i (i + length w)) w) (At (i + length w)) Nothing (λ _ z. cc) (λ _ z. absurd (nothing_at j z)) e, word_within s w i (ap found e))
+    (by_test (λ f. f ≡ Some j → i + length w ≡ j) (same_bytes (part s i (i + length w)) w) (Some (i + length w)) None (λ _ z. cc) (λ _ z. absurd (none-some j z)) e, word_within s w i (ap is_some e))
 
 -- ---- the tests
 
 module _ (s : List ℕ) (flags i : ℕ) where
-  pub comment_on : (f : Found) (r : Bool) → flags % 2 ≡ 1 → f ≡ lookahead_is s slashes i → r ≡ found f → r ≡ is_comment s flags i
+  pub comment_on : (f : Option ℕ) (r : Bool) → flags % 2 ≡ 1 → f ≡ lookahead_is s slashes i → r ≡ is_some f → r ≡ is_comment s flags i
   unfolding is_comment comments
-  comment_on f r o e q = q ∙ ap found e ∙ sym (rw (eq-eqb (flags % 2) 1 o))
+  comment_on f r o e q = q ∙ ap is_some e ∙ sym (rw (eq-eqb (flags % 2) 1 o))
 
-  pub comment_off : (flags % 2 ≡ 1 → ⊥) → false ≡ is_comment s flags i
+  pub comment_off : (flags % 2 ≡ 1 → ⊥) → eqb (flags % 2) 1 ≡ is_comment s flags i
   unfolding is_comment comments
-  comment_off o = rw (ne_eqb (flags % 2) 1 o)
+  comment_off o = rw (ne_eqb (flags % 2) 1 o) refl
 
 pub ruleset asking = (rules, comment_on, comment_off)
 
 module _ (s : List ℕ) (i : ℕ) where
-  pub section_ended : i ≡ length s → false ≡ in_section s i
+  pub section_ended : i ≡ length s → not (eqb i (length s)) ≡ in_section s i
   unfolding in_section
-  section_ended e = rw (eq-eqb i (length s) e)
+  section_ended e = rw (eq-eqb i (length s) e) refl
 
-  pub section_by : (f : Found) (r : Bool) → (i ≡ length s → ⊥) → f ≡ lookahead_is s percents i → r ≡ found f → not r ≡ in_section s i
+  pub section_by : (f : Option ℕ) (r : Bool) → (i ≡ length s → ⊥) → f ≡ lookahead_is s percents i → is_some f ≡ not r → r ≡ in_section s i
   unfolding in_section
-  section_by f r d e q = ap not (q ∙ ap found e) ∙ sym (rw (ne_eqb i (length s) d))
+  section_by f r d e q = sym (not-not r) ∙ ap not (sym q ∙ ap is_some e) ∙ sym (rw (ne_eqb i (length s) d) refl)
 
-  module _ (f : Found) (e : f ≡ lookahead_is s percents i) (l : i ≤ length s) where
-    pub no_routines : f ≡ Nothing → false ≡ has_routines s i
-    unfolding has_routines
-    no_routines q = sym (rw (← e, q))
+  pub percents_end : (f : Option ℕ) → f ≡ lookahead_is s percents i → i ≤ length s → (j : ℕ) → f ≡ Some j → j ≤ length s
+  percents_end f e l j q = omega (arith, ahead_within s percents i j (sym e ∙ q))
 
-    module _ (j : ℕ) (q : f ≡ At j) where
-      pub percents_end : j ≤ length s
-      percents_end = omega (arith, ahead_within s percents i j (sym e ∙ q))
-
-      pub routines_by : (k : ℕ) → Between j (length s) (skip_whitespace s j) k → not (eqb k (length s)) ≡ has_routines s i
-      unfolding has_routines
-      routines_by k b = rw (← e, q, (ahead_within s percents i j (sym e ∙ q)).0, ← b.is)
-
-pub ruleset testing = (rules, section_ended, section_by, no_routines, percents_end, routines_by)
+pub ruleset testing = (rules, section_ended, section_by, percents_end)
 
 -- ---- the end of a line that starts with two slashes
 
@@ -102,11 +87,11 @@ end_at_byte : (s : List ℕ) (k : ℕ) → is_line_end (byte s k) ≡ true → 1
 unfolding line_end_len
 end_at_byte s k e = end_one (byte s k) (byte s (k + 1)) (byte s (k + 2)) e
 
-pub slashes_told : (s : List ℕ) (flags i : ℕ) (r : Bool) → r ≡ is_comment s flags i → r ≡ true → found (lookahead_is s slashes i) ≡ true
+pub slashes_told : (s : List ℕ) (flags i : ℕ) (r : Bool) → r ≡ is_comment s flags i → r ≡ true → is_some (lookahead_is s slashes i) ≡ true
 unfolding is_comment
-slashes_told s flags i r q t = and_right (comments flags) (found (lookahead_is s slashes i)) (sym q ∙ t)
+slashes_told s flags i r q t = and_right (comments flags) (is_some (lookahead_is s slashes i)) (sym q ∙ t)
 
-module _ (s : List ℕ) (i : ℕ) (stand : found (lookahead_is s slashes i) ≡ true) where
+module _ (s : List ℕ) (i : ℕ) (stand : is_some (lookahead_is s slashes i) ≡ true) where
   pub slashes_inside : i + 2 ≤ length s
   slashes_inside = omega (arith, word_within s slashes i stand)
 
@@ -183,56 +168,52 @@ forward_both f g n a b = record {
 
 -- ---- skipping, and then passing a line, over and over
 
-none_left : (width : ℕ → ℕ) (n : ℕ) → ((k : ℕ) → 0 < width k → k + width k ≤ n) → (i j : ℕ) → j ≡ skip width n i → width j ≡ 0
+pub none_left : (width : ℕ → ℕ) (n : ℕ) → ((k : ℕ) → 0 < width k → k + width k ≤ n) → (i j : ℕ) → j ≡ skip width n i → width j ≡ 0
 none_left width n inside i j e = rw e (skip_stops width n inside i)
 
 module _ (s : List ℕ) (flags : ℕ) (width : ℕ → ℕ) where
-  -- past what width measures, and then past one line
-  abbrev step : ℕ → ℕ
-  step k = past_comment s flags (skip width (length s) k)
-
   -- to where such a step stays: to_declaration and to_rule are instances
   abbrev walk : ℕ → ℕ
-  walk i = repeat step (length s) i
+  walk i = repeat (past_both s flags width) (length s) i
 
 module _ (s : List ℕ) (flags : ℕ) (width : ℕ → ℕ) (inside : (k : ℕ) → 0 < width k → k + width k ≤ length s) where
-  steps : Forward (step s flags width) (length s)
+  steps : Forward (past_both s flags width) (length s)
   steps = forward_both (skip width (length s)) (past_comment s flags) (length s) (forward_skip width (length s) inside) (forward_comment s flags)
 
-  falls : (k : ℕ) → (step s flags width k ≡ k → ⊥) → length s - step s flags width k < length s - k
-  falls = forward_falls (step s flags width) (length s) steps
+  falls : (k : ℕ) → (past_both s flags width k ≡ k → ⊥) → length s - past_both s flags width k < length s - k
+  falls = forward_falls (past_both s flags width) (length s) steps
 
   walk_between : (i : ℕ) → i ≤ length s → Between i (length s) (walk s flags width i) (walk s flags width i)
   walk_between i h = record {
     is = refl;
-    from = repeat_keeps (λ k. i ≤ k) (step s flags width) (λ k l. omega (arith, steps.from k)) (length s) i (omega arith);
-    to = repeat_keeps (λ k. k ≤ length s) (step s flags width) steps.to (length s) i h;
+    from = repeat_keeps (λ k. i ≤ k) (past_both s flags width) (λ k l. omega (arith, steps.from k)) (length s) i (omega arith);
+    to = repeat_keeps (λ k. k ≤ length s) (past_both s flags width) steps.to (length s) i h;
   }
 
-  onward : (k : ℕ) → walk s flags width k ≡ walk s flags width (step s flags width k)
-  onward k = go (eqb (step s flags width k) k) refl
+  onward : (k : ℕ) → walk s flags width k ≡ walk s flags width (past_both s flags width k)
+  onward k = go (eqb (past_both s flags width k) k) refl
     where
-      go : (t : Bool) → eqb (step s flags width k) k ≡ t → walk s flags width k ≡ walk s flags width (step s flags width k)
-      go true e = ap (walk s flags width) (sym (eqb-true (step s flags width k) k e))
-      go false e = repeat_go (step s flags width) (λ m. length s - m) falls (length s) k (omega arith) (eqb-false (step s flags width k) k e)
+      go : (t : Bool) → eqb (past_both s flags width k) k ≡ t → walk s flags width k ≡ walk s flags width (past_both s flags width k)
+      go true e = ap (walk s flags width) (sym (eqb-true (past_both s flags width k) k e))
+      go false e = repeat_go (past_both s flags width) (λ m. length s - m) falls (length s) k (omega arith) (eqb-false (past_both s flags width k) k e)
 
   -- where nothing is left to skip, a step passes a line only
-  step_there : (k : ℕ) → width k ≡ 0 → step s flags width k ≡ past_comment s flags k
+  step_there : (k : ℕ) → width k ≡ 0 → past_both s flags width k ≡ past_comment s flags k
   step_there k z = ap (past_comment s flags) (sym (skip_stays width (length s) inside k z))
 
   -- skipping first changes nothing: the step from i and the step from j lead to the same place
-  skipped : (i j : ℕ) → j ≡ skip width (length s) i → walk s flags width i ≡ walk s flags width j
+  pub skipped : (i j : ℕ) → j ≡ skip width (length s) i → walk s flags width i ≡ walk s flags width j
   skipped i j e =
-      let same : step s flags width i ≡ step s flags width j = ap (past_comment s flags) (sym e) ∙ sym (step_there j (none_left width (length s) inside i j e)) in
+      let same : past_both s flags width i ≡ past_both s flags width j = ap (past_comment s flags) (sym e) ∙ sym (step_there j (none_left width (length s) inside i j e)) in
       onward i ∙ ap (walk s flags width) same ∙ sym (onward j)
 
   -- the loop began at i and stands at k, where nothing is left to skip
   module _ (i k : ℕ) (before : walk s flags width i ≡ walk s flags width k) (none : width k ≡ 0) (r : Bool) (told : r ≡ is_comment s flags k) where
-    rests : r ≡ false → k ≡ walk s flags width i
+    pub rests : r ≡ false → k ≡ walk s flags width i
     unfolding past_comment
-    rests t = repeat_stop (step s flags width) (length s) k (step_there k none ∙ rw (← told, t)) ∙ sym before
+    rests t = repeat_stop (past_both s flags width) (length s) k (step_there k none ∙ rw (← told, t)) ∙ sym before
 
-    passes : (e j : ℕ) → r ≡ true → e ≡ line_end s k → j ≡ skip width (length s) e → walk s flags width i ≡ walk s flags width j
+    pub passes : (e j : ℕ) → r ≡ true → e ≡ line_end s k → j ≡ skip width (length s) e → walk s flags width i ≡ walk s flags width j
     unfolding past_comment
     passes e j t ends z = before ∙ onward k ∙ ap (walk s flags width) (step_there k none ∙ rw (← told, t) (sym ends)) ∙ skipped e j z
 
@@ -240,16 +221,9 @@ module _ (s : List ℕ) (flags : ℕ) (width : ℕ → ℕ) (inside : (k : ℕ) 
   none_there : (i : ℕ) → width (walk s flags width i) ≡ 0
   none_there i =
       let k = walk s flags width i in
-      let e : step s flags width k ≡ k = repeat_stays (step s flags width) (λ m. length s - m) falls (length s) i (omega arith) in
+      let e : past_both s flags width k ≡ k = repeat_stays (past_both s flags width) (λ m. length s - m) falls (length s) i (omega arith) in
       let stays : skip width (length s) k ≡ k = omega (arith, skip_from width (length s) inside k, (forward_comment s flags).from (skip width (length s) k)) in
       rw stays at (skip_stops width (length s) inside k)
-
-module _ (s : List ℕ) (i j : ℕ) where
-  pub whitespace_skipped : j ≡ skip_whitespace s i → whitespace_len s j ≡ 0
-  whitespace_skipped = none_left (whitespace_len s) (length s) (white_inside s) i j
-
-  pub line_ends_skipped : j ≡ skip_line_ends s i → line_end_len s j ≡ 0
-  line_ends_skipped = none_left (line_end_len s) (length s) (end_inside s) i j
 
 module _ (s : List ℕ) (flags i : ℕ) where
   pub declaration_starts : whitespace_len s (to_declaration s flags i) ≡ 0
@@ -267,52 +241,6 @@ module _ (s : List ℕ) (flags i : ℕ) where
   pub rule_between : i ≤ length s → Between i (length s) (to_rule s flags i) (to_rule s flags i)
   unfolding to_rule past_rule_line
   rule_between = walk_between s flags (line_end_len s) (end_inside s) i
-
--- the loop began at i and stands at k
-module _ (s : List ℕ) (flags i k : ℕ) where
-  pub declaration_begun : k ≡ skip_whitespace s i → to_declaration s flags i ≡ to_declaration s flags k
-  unfolding to_declaration past_line
-  declaration_begun = skipped s flags (whitespace_len s) (white_inside s) i k
-
-  pub declaration_reached : to_declaration s flags i ≡ to_declaration s flags k → whitespace_len s k ≡ 0 → (r : Bool) → r ≡ is_comment s flags k → r ≡ false → k ≡ to_declaration s flags i
-  unfolding to_declaration past_line
-  declaration_reached = rests s flags (whitespace_len s) (white_inside s) i k
-
-  pub declaration_further :
-      to_declaration s flags i ≡ to_declaration s flags k
-      → whitespace_len s k ≡ 0
-      → (r : Bool)
-      → r ≡ is_comment s flags k
-      → (e j : ℕ)
-      → r ≡ true
-      → e ≡ line_end s k
-      → j ≡ skip_whitespace s e
-      → to_declaration s flags i ≡ to_declaration s flags j
-  unfolding to_declaration past_line
-  declaration_further = passes s flags (whitespace_len s) (white_inside s) i k
-
-  pub rule_begun : k ≡ skip_line_ends s i → to_rule s flags i ≡ to_rule s flags k
-  unfolding to_rule past_rule_line
-  rule_begun = skipped s flags (line_end_len s) (end_inside s) i k
-
-  pub rule_reached : to_rule s flags i ≡ to_rule s flags k → line_end_len s k ≡ 0 → (r : Bool) → r ≡ is_comment s flags k → r ≡ false → k ≡ to_rule s flags i
-  unfolding to_rule past_rule_line
-  rule_reached = rests s flags (line_end_len s) (end_inside s) i k
-
-  pub rule_further :
-      to_rule s flags i ≡ to_rule s flags k
-      → line_end_len s k ≡ 0
-      → (r : Bool)
-      → r ≡ is_comment s flags k
-      → (e j : ℕ)
-      → r ≡ true
-      → e ≡ line_end s k
-      → j ≡ skip_line_ends s e
-      → to_rule s flags i ≡ to_rule s flags j
-  unfolding to_rule past_rule_line
-  rule_further = passes s flags (line_end_len s) (end_inside s) i k
-
-pub ruleset resting = (rules, slashes_told, whitespace_skipped, line_ends_skipped, declaration_begun, declaration_reached, declaration_further, rule_begun, rule_reached, rule_further)
 
 -- ---- a line that is not skipped has a byte
 

@@ -51,10 +51,10 @@ use Rattle.section.specs.contracts.reader.Reader as ReaderType
 use Rattle.section.proofs.reader.Reader.TheLaws as ReaderLaws
 use Rattle.section.specs.contracts.reader.Line as LineType
 use Rattle.section.proofs.reader.Line.TheLaws as LineLaws
-use Rattle.section.specs.contracts.reader.reader_at as reader_at
-use Rattle.section.proofs.reader.reader_at.Symbol.{name as #reader-at}
-use Rattle.section.specs.contracts.reader.move_to_line_end as to_end
-use Rattle.section.proofs.reader.move_to_line_end.Symbol.{name as #to-end}
+use Rattle.section.specs.contracts.reader.Reader.at as reader_at
+use Rattle.section.proofs.reader.Reader.at.Symbol.{name as #reader-at}
+use Rattle.section.specs.contracts.reader.Reader.move_to_line_end as to_end
+use Rattle.section.proofs.reader.Reader.move_to_line_end.Symbol.{name as #to-end}
 
 abbrev pub finder : Ended
 finder = record {
@@ -68,7 +68,7 @@ params = (slice 0 tt, (number, (number, tt)))
 abbrev stayed : Stays finder.signature.params finder.kept
 stayed = stays finder.signature.params finder.kept params
 
--- the MIR: `let r = g(reader_at(src, i), flags); let q = move_to_line_end(r); Line { start: r.offset, end: q.offset }`
+-- the MIR: `let r = g(Reader::at(src, i), flags); let q = r.move_to_line_end(); Line { start: r.offset, end: q.offset }`
 abbrev finds_fn : Callee → Fn
 finds_fn g = record {
   lifetimes = 1;

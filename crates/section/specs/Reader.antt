@@ -18,6 +18,10 @@ reader_moved scan r = reader_at r.source (scan r.source.now r.offset)
 abbrev pub reader_moved_by : (List ℕ → ℕ → ℕ → ℕ) → ℕ → Reader → Reader
 reader_moved_by scan flags r = reader_moved (λ s i. scan s flags i) r
 
+-- the line from the reader's place on
+abbrev pub line_from : Reader → Line
+line_from r = record { start = r.offset; end = line_end r.source.now r.offset }
+
 -- x is the line that is read next from i on: it starts at the place that `to` finds (01, Declarations and Rules)
 pub record NextLine (s : List ℕ) (to : ℕ → ℕ) (i : ℕ) (x : Line) : Type 0 where
   pub starts : Between i (length s) (to i) x.start

@@ -3,41 +3,28 @@
 
 pub mod reader; // the source and a place in it
 
-ghost use Rattle.std.specs.Prelude.{◌≡◌, true, ◌+◌, ◌≤◌, length};
+ghost use Rattle.std.specs.Prelude.{◌≡◌, ℕ, true, ◌+◌, ◌≤◌, length, is_some};
 ghost use Rattle.characters.specs.Walk.{Between};
 ghost use Rattle.text.specs.Range.{lookahead_is};
 ghost use Rattle.text.specs.Scan.{line_end};
-ghost use Rattle.section.specs.Section.{found, slashes, is_comment, to_declaration, to_rule, in_section, has_routines};
+ghost use Rattle.section.specs.Section.{PastComments, slashes, is_comment, to_declaration, to_rule, in_section, has_routines};
 
-use characters::Found;
 use characters::class::is_line_end;
 use characters::whitespace::byte_at;
 use text::range::lookahead_is;
 use text::scan::{line_end, parse_nl, parse_ws};
-
-pub fn is_found(f: Found) -> bool
-    ensures { result ≡ found f }
-{
-    match f {
-        Found::At(_) => true,
-        Found::Nothing => false,
-    }
-}
 
 // Whether a line that flag 1 skips starts at i.
 fn is_comment(src: &[u8], flags: u64, i: usize) -> bool
     requires { i ≤ length src.now }
     ensures { result ≡ is_comment src.now flags i }
 {
-    if flags % 2 == 1 {
-        return is_found(lookahead_is(src, b"//", i));
-    }
-    false
+    flags % 2 == 1 && lookahead_is(src, b"//", i).is_some()
 }
 
 // Where the line ends that starts with `//` at i. The slashes are no line end, and an empty comment is settled by the byte behind them.
 fn comment_end(src: &[u8], i: usize) -> usize
-    requires { found (lookahead_is src.now slashes i) ≡ true }
+    requires { is_some (lookahead_is src.now slashes i) ≡ true }
     ensures { Between (i + 2) (length src.now) (line_end src.now i) result }
 {
     let k = i + 2;
@@ -47,28 +34,34 @@ fn comment_end(src: &[u8], i: usize) -> usize
     line_end(src, k)
 }
 
-// Past whitespace and lines that flag 1 skips, to a declaration or the section's end.
-fn to_declaration(src: &[u8], flags: u64, i: usize) -> usize
-    requires { i ≤ length src.now }
-    ensures { Between i (length src.now) (to_declaration src.now flags i) result }
+// Past what `skip` passes and lines that flag 1 skips, one after the other.
+fn past_comments<F: Fn(usize) -> usize>(src: &[u8], flags: u64, i: usize, skip: F) -> usize
+    requires inside { i ≤ length src.now }
+    requires callable { (k : ℕ) → k ≤ length src.now → F.pre skip k }
+    requires onward { (k n : ℕ) → k ≤ length src.now → F.post skip k n → (k ≤ n) × (n ≤ length src.now) }
+    ensures { PastComments src.now flags (F.post skip) i result }
 {
-    let mut k = parse_ws(src, i);
+    let mut k = skip(i);
     while is_comment(src, flags, k) {
-        k = parse_ws(src, comment_end(src, k));
+        k = skip(comment_end(src, k));
     }
     k
 }
 
-// Past line ends and lines that flag 1 skips, to a rule's line or the section's end.
+// To a declaration or the section's end.
+fn to_declaration(src: &[u8], flags: u64, i: usize) -> usize
+    requires { i ≤ length src.now }
+    ensures { Between i (length src.now) (to_declaration src.now flags i) result }
+{
+    past_comments(src, flags, i, |k| parse_ws(src, k))
+}
+
+// To a rule's line or the section's end.
 fn to_rule(src: &[u8], flags: u64, i: usize) -> usize
     requires { i ≤ length src.now }
     ensures { Between i (length src.now) (to_rule src.now flags i) result }
 {
-    let mut k = parse_nl(src, i);
-    while is_comment(src, flags, k) {
-        k = parse_nl(src, comment_end(src, k));
-    }
-    k
+    past_comments(src, flags, i, |k| parse_nl(src, k))
 }
 
 // Whether a section goes on at i.
@@ -76,10 +69,7 @@ pub fn in_section(src: &[u8], i: usize) -> bool
     requires { i ≤ length src.now }
     ensures { result ≡ in_section src.now i }
 {
-    if i == src.len() {
-        return false;
-    }
-    !is_found(lookahead_is(src, b"%%", i))
+    i != src.len() && lookahead_is(src, b"%%", i).is_none()
 }
 
 // Whether a `%%` stands at i with more than whitespace behind it.
@@ -87,8 +77,5 @@ pub fn has_routines(src: &[u8], i: usize) -> bool
     requires { i ≤ length src.now }
     ensures { result ≡ has_routines src.now i }
 {
-    match lookahead_is(src, b"%%", i) {
-        Found::At(j) => !(parse_ws(src, j) == src.len()),
-        Found::Nothing => false,
-    }
+    lookahead_is(src, b"%%", i).is_some_and(|j| parse_ws(src, j) != src.len())
 }

@@ -4,7 +4,7 @@ ghost use Rattle.std.specs.Prelude.{◌≡◌, ◌≤◌, length};
 ghost use Rattle.characters.specs.Walk.{Between};
 ghost use Rattle.text.specs.Scan.{line_end, skip_blanks};
 ghost use Rattle.section.specs.Section.{to_declaration, to_rule};
-ghost use Rattle.section.specs.Reader.{reader_at, reader_moved, reader_moved_by, NextLine};
+ghost use Rattle.section.specs.Reader.{reader_at, reader_moved, reader_moved_by, line_from, NextLine};
 
 use crate::{to_declaration, to_rule};
 use text::scan::{line_end, parse_spaces};
@@ -22,46 +22,56 @@ pub struct Line {
     pub end: usize,
 }
 
-pub fn reader_at<'a>(source: &'a [u8], offset: usize) -> Reader<'a>
-    ensures { result ≡ reader_at source.entry offset }
-{
-    Reader { source, offset }
-}
+impl<'a> Reader<'a> {
+    pub fn at(source: &'a [u8], offset: usize) -> Self
+        ensures { result ≡ reader_at source.entry offset }
+    {
+        Reader { source, offset }
+    }
 
-pub fn move_to_line_end<'a>(mut r: Reader<'a>) -> Reader<'a>
-    requires { r.offset ≤ length r.source.now }
-    ensures { result ≡ reader_moved line_end r.entry }
-{
-    let k = line_end(r.source, r.offset);
-    r.offset = k;
-    r
-}
+    pub fn move_to_line_end(mut self) -> Self
+        requires { self.offset ≤ length self.source.now }
+        ensures { result ≡ reader_moved line_end self.entry }
+    {
+        self.offset = line_end(self.source, self.offset);
+        self
+    }
 
-pub fn move_past_blanks<'a>(mut r: Reader<'a>) -> Reader<'a>
-    requires { r.offset ≤ length r.source.now }
-    ensures { result ≡ reader_moved skip_blanks r.entry }
-{
-    let k = parse_spaces(r.source, r.offset);
-    r.offset = k;
-    r
-}
+    pub fn move_past_blanks(mut self) -> Self
+        requires { self.offset ≤ length self.source.now }
+        ensures { result ≡ reader_moved skip_blanks self.entry }
+    {
+        self.offset = parse_spaces(self.source, self.offset);
+        self
+    }
 
-pub fn move_to_declaration<'a>(mut r: Reader<'a>, flags: u64) -> Reader<'a>
-    requires { r.offset ≤ length r.source.now }
-    ensures { result ≡ reader_moved_by to_declaration flags r.entry }
-{
-    let k = to_declaration(r.source, flags, r.offset);
-    r.offset = k;
-    r
-}
+    pub fn move_to_declaration(mut self, flags: u64) -> Self
+        requires { self.offset ≤ length self.source.now }
+        ensures { result ≡ reader_moved_by to_declaration flags self.entry }
+    {
+        self.offset = to_declaration(self.source, flags, self.offset);
+        self
+    }
 
-pub fn move_to_rule<'a>(mut r: Reader<'a>, flags: u64) -> Reader<'a>
-    requires { r.offset ≤ length r.source.now }
-    ensures { result ≡ reader_moved_by to_rule flags r.entry }
-{
-    let k = to_rule(r.source, flags, r.offset);
-    r.offset = k;
-    r
+    pub fn move_to_rule(mut self, flags: u64) -> Self
+        requires { self.offset ≤ length self.source.now }
+        ensures { result ≡ reader_moved_by to_rule flags self.entry }
+    {
+        self.offset = to_rule(self.source, flags, self.offset);
+        self
+    }
+
+    // The line from the reader's place on.
+    fn line(self) -> Line
+        requires { self.offset ≤ length self.source.now }
+        ensures { result ≡ line_from self.entry }
+    {
+        let end = self.move_to_line_end();
+        Line {
+            start: self.offset,
+            end: end.offset,
+        }
+    }
 }
 
 // The line of the next declaration from i on.
@@ -69,12 +79,7 @@ pub fn next_declaration(src: &[u8], flags: u64, i: usize) -> Line
     requires { i ≤ length src.now }
     ensures { NextLine src.now (to_declaration src.now flags) i result }
 {
-    let r = move_to_declaration(reader_at(src, i), flags);
-    let q = move_to_line_end(r);
-    Line {
-        start: r.offset,
-        end: q.offset,
-    }
+    Reader::at(src, i).move_to_declaration(flags).line()
 }
 
 // The next rule's line from i on.
@@ -82,12 +87,7 @@ pub fn next_rule(src: &[u8], flags: u64, i: usize) -> Line
     requires { i ≤ length src.now }
     ensures { NextLine src.now (to_rule src.now flags) i result }
 {
-    let r = move_to_rule(reader_at(src, i), flags);
-    let q = move_to_line_end(r);
-    Line {
-        start: r.offset,
-        end: q.offset,
-    }
+    Reader::at(src, i).move_to_rule(flags).line()
 }
 
 // Past the blanks at i.
@@ -95,6 +95,5 @@ pub fn past_blanks(src: &[u8], i: usize) -> usize
     requires { i ≤ length src.now }
     ensures { Between i (length src.now) (skip_blanks src.now i) result }
 {
-    let r = move_past_blanks(reader_at(src, i));
-    r.offset
+    Reader::at(src, i).move_past_blanks().offset
 }

@@ -1,9 +1,9 @@
 -- What the tests of a sheet come to when they are joined: each record's as its code joins them, and an area's one record at a time.
 -- A list that grows at its end passes a test where it passed before and the new element does.
-use mathlib.Core.Path.{◌≡◌, refl, sym, ap, subst⁻¹, ◌∙◌}
-use mathlib.Core.Bool.{Bool, true, false, ◌&&◌, not, true≢false}
+use mathlib.Core.Path.{◌≡◌, sym, ap, subst⁻¹, ◌∙◌}
+use mathlib.Core.Bool.{Bool, true, false, ◌&&◌, not}
 use mathlib.Core.List.{List}
-use Prim.Native.Nat.{ℕ, ◌+◌, ◌*◌, ◌≤◌, ◌<◌}
+use Prim.Native.Nat.{ℕ, ◌*◌, ◌≤◌, ◌<◌}
 use native.Mathlib.Nat.{mul-one}
 use native.Mathlib.Omega.{arith}
 use lib.Dec.{leb, ltb}
@@ -21,7 +21,7 @@ use Rattle.sheet_check.specs.SheetCheck.{SheetBytes, sizes_of, long_enough, good
 use Rattle.sheet_check.specs.SheetCheck.{good_state, good_rule, good_expected, good_records, decoded, sheet_check}
 use Rattle.sheet_check.specs.Phrases.{AreasLong}
 use Rattle.area.specs.Lists.{all}
-use Rattle.area.proofs.All.{all-at, all_from, all_next}
+use Rattle.area.proofs.All.{all-at, all_from}
 use Rattle.area.proofs.Contents.{contents_count, contents_read}
 
 -- ---- a record
@@ -65,18 +65,6 @@ module _ {A : Type 0} (F : Format A) (test : A → Bool) (l : List ℕ) where
       where
         at : (k : ℕ) → k < n → test (get_or (contents F l n) k F.blank) ≡ true
         at k h = ap test (contents_read F l n k h) ∙ f k h
-
-  -- a loop that leaves at the first record that does not pass
-  module _ (k : ℕ) (x : A) (t : Bool) (is : x ≡ F.read l k) (judged : t ≡ test x) where
-    pub goes_on_at_good : true ≡ all test (contents F l k) → t ≡ true → true ≡ all test (contents F l (k + 1))
-    goes_on_at_good g good = sym good ∙ all_next F test l k true t x g is judged
-
-    pub leaves_at_bad : (n : ℕ) → k < n → t ≡ false → false ≡ all test (contents F l n)
-    leaves_at_bad n h bad = by (all test (contents F l n)) refl
-      where
-        by : (b : Bool) → all test (contents F l n) ≡ b → false ≡ all test (contents F l n)
-        by true q = absurd (true≢false (sym (record_at n k q h) ∙ sym (judged ∙ ap test is) ∙ bad))
-        by false q = sym q
 
 -- ---- the sizes
 

@@ -1,6 +1,7 @@
 -- Short words for contracts: the sheet that is lent.
 use Rattle.std.specs.Prelude.{ℕ, ◌*◌, ◌≤◌, List, length}
 use Rattle.area.specs.Records.{state_width, rule_width, entry_width, expected_width}
+use Rattle.sheet_check.specs.declared.Sheet.{Sheet}
 use Rattle.sheet_check.specs.declared.Sizes.{Sizes}
 use Rattle.sheet_check.specs.SheetCheck.{SheetBytes, sheet_bytes}
 
@@ -8,6 +9,10 @@ use Rattle.sheet_check.specs.SheetCheck.{SheetBytes, sheet_bytes}
 abbrev pub sheet_in : List ℕ → List ℕ → List ℕ → List ℕ → List ℕ → List ℕ → List ℕ → SheetBytes
 sheet_in src area1 area2 area3 area4 area5 counts =
     sheet_bytes src area1 area2 area3 area4 area5 counts
+
+-- the same, lent as one value
+abbrev pub lent_sheet : Sheet → SheetBytes
+lent_sheet s = sheet_bytes s.source.now s.states.now s.rules.now s.entries.now s.text.now s.expected.now s.counts.now
 
 -- the areas that are read are long enough for sizes that count their records
 pub record AreasLong (z : Sizes) (area1 area2 area3 area5 : List ℕ) : Type 0 where

@@ -5,13 +5,13 @@ ghost use Rattle.area.specs.Records.{state_width, rule_width, entry_width, expec
 ghost use Rattle.area.specs.Contents.{contents, state_format, rule_format, entry_format, expected_format};
 ghost use Rattle.area.specs.Lists.{all};
 ghost use Rattle.sheet_check.specs.SheetCheck.{sizes_of, good_counts, good_sizes, ordered, within, declared, text_bytes, good_state, good_rule, good_expected, good_records, sheet_check};
-ghost use Rattle.sheet_check.specs.Phrases.{sheet_in, AreasLong};
-ghost use Rattle.area.specs.Phrases.{before};
+ghost use Rattle.sheet_check.specs.Phrases.{lent_sheet, AreasLong};
 
-use crate::Sizes;
+use crate::{Sheet, Sizes};
+use area::list::Records;
 use area::{
     ENTRY_WIDTH, EXPECTED_WIDTH, Expected, MOST_RULES, MOST_STATES, RULE_WIDTH, Rule, STATE_WIDTH,
-    State, read_entry, read_expected, read_rule, read_state,
+    State,
 };
 use lanes::{entries_within, quick_rules};
 
@@ -78,29 +78,14 @@ fn good_states(sizes: Sizes, area: &[u8]) -> bool
     requires { sizes.states * state_width ≤ length area.now }
     ensures { result ≡ all (good_state sizes) (contents state_format area.now sizes.states) }
 {
-    let most = sizes.states as usize;
-    let mut k = 0;
-    while k < most {
-        if !good_state(sizes, read_state(area, k)) {
-            return false;
-        }
-        k += 1;
-    }
-    true
+    Records::<State>::new(area, sizes.states).all(|x| good_state(sizes, x))
 }
 
 fn good_rules(sizes: Sizes, area: &[u8]) -> bool
     requires { sizes.rules * rule_width ≤ length area.now }
     ensures { result ≡ all (good_rule sizes) (contents rule_format area.now sizes.rules) }
 {
-    let most = sizes.rules as usize;
-    let mut good = true;
-    let mut k = 0;
-    while k < most {
-        good = good & good_rule(sizes, read_rule(area, k));
-        k += 1;
-    }
-    good
+    Records::<Rule>::new(area, sizes.rules).all(|x| good_rule(sizes, x))
 }
 
 // The greatest limit of a sum, so that one that was cut at 65,535 is above every limit.
@@ -109,10 +94,24 @@ const MOST_SUM: u16 = 65534;
 fn sum_limit(n: usize) -> u16
     ensures { result ≡ min n 65534 }
 {
-    if n < MOST_SUM as usize {
-        return n as u16;
-    }
-    MOST_SUM
+    n.min(MOST_SUM as usize) as u16
+}
+
+// The quick test of the rules: where it passes, every rule is good. The limits go as numbers, for `sizes` would be laid out in memory to be
+// lent.
+fn rules_within(sizes: Sizes, area: &[u8]) -> bool
+    requires rule_width_in_bounds { sizes.rules * rule_width ≤ length area.now }
+    requires le_states { 1 ≤ sizes.states }
+    ensures { result ≡ true → all (good_rule sizes) (contents rule_format area.now sizes.rules) ≡ true }
+{
+    quick_rules(
+        area,
+        sizes.rules,
+        sum_limit(sizes.source),
+        sizes.states - 1,
+        sum_limit(sizes.entries as usize),
+        sum_limit(sizes.text as usize),
+    )
 }
 
 // The quick test first, which the rules of a sheet mostly pass.
@@ -121,17 +120,7 @@ fn rules_pass(sizes: Sizes, area: &[u8]) -> bool
     requires le_states { 1 ≤ sizes.states }
     ensures { result ≡ all (good_rule sizes) (contents rule_format area.now sizes.rules) }
 {
-    if quick_rules(
-        area,
-        sizes.rules,
-        sum_limit(sizes.source),
-        sizes.states - 1,
-        sum_limit(sizes.entries as usize),
-        sum_limit(sizes.text as usize),
-    ) {
-        return true;
-    }
-    good_rules(sizes, area)
+    rules_within(sizes, area) || good_rules(sizes, area)
 }
 
 // Also whether the ids in use on the stack of a run are declared.
@@ -139,28 +128,14 @@ pub fn good_entries(area: &[u8], count: u16, states: u16) -> bool
     requires { count * entry_width ≤ length area.now }
     ensures { result ≡ all (declared states) (contents entry_format area.now count) }
 {
-    let most = count as usize;
-    let mut good = true;
-    let mut k = 0;
-    while k < most {
-        good = good & (read_entry(area, k) < states);
-        k += 1;
-    }
-    good
+    Records::<u16>::new(area, count).all(|id| id < states)
 }
 
 fn good_names(sizes: Sizes, area: &[u8]) -> bool
     requires { sizes.expected * expected_width ≤ length area.now }
     ensures { result ≡ all (good_expected sizes) (contents expected_format area.now sizes.expected) }
 {
-    let most = sizes.expected as usize;
-    let mut good = true;
-    let mut k = 0;
-    while k < most {
-        good = good & good_expected(sizes, read_expected(area, k));
-        k += 1;
-    }
-    good
+    Records::<Expected>::new(area, sizes.expected).all(|x| good_expected(sizes, x))
 }
 
 // ---- the sheet
@@ -191,132 +166,92 @@ fn good_sizes(sizes: Sizes) -> bool
     long1 & long2 & long3 & long4 & long5 & few
 }
 
-// Area 4 and the source are asked for their lengths alone.
-fn good_records(sizes: Sizes, area1: &[u8], area2: &[u8], area3: &[u8], area5: &[u8]) -> bool
-    requires areas_long { AreasLong sizes area1.now area2.now area3.now area5.now }
+// Area 4 and the source are asked for their lengths alone. The tests are not joined by &&, since what the first of them say is lost to the
+// proof at each join.
+fn good_records(sizes: Sizes, sheet: Sheet) -> bool
+    requires areas_long { AreasLong sizes sheet.states.now sheet.rules.now sheet.entries.now sheet.expected.now }
     requires le_states { 1 ≤ sizes.states }
     ensures { result ≡ good_records sizes
-        (contents state_format area1.now sizes.states)
-        (contents rule_format area2.now sizes.rules)
-        (contents entry_format area3.now sizes.entries)
-        (contents expected_format area5.now sizes.expected) }
+        (contents state_format sheet.entry.states.now sizes.states)
+        (contents rule_format sheet.entry.rules.now sizes.rules)
+        (contents entry_format sheet.entry.entries.now sizes.entries)
+        (contents expected_format sheet.entry.expected.now sizes.expected) }
 {
-    if !good_states(sizes, area1) {
+    if !good_states(sizes, sheet.states) {
         return false;
     }
-    if !rules_pass(sizes, area2) {
+    if !rules_pass(sizes, sheet.rules) {
         return false;
     }
-    if !good_entries(area3, sizes.entries, sizes.states) {
+    if !good_entries(sheet.entries, sizes.entries, sizes.states) {
         return false;
     }
-    good_names(sizes, area5)
+    good_names(sizes, sheet.expected)
 }
 
-fn sizes_of(
-    src: &[u8],
-    area1: &[u8],
-    area2: &[u8],
-    area3: &[u8],
-    area4: &[u8],
-    area5: &[u8],
-    counts: &[u16; 6],
-) -> Sizes
-    ensures { result ≡ sizes_of (sheet_in src.now area1.now area2.now area3.now area4.now area5.now counts.now) }
+fn sizes_of(sheet: Sheet) -> Sizes
+    ensures { result ≡ sizes_of (lent_sheet sheet.entry) }
 {
     Sizes {
-        source: src.len(),
-        area1: area1.len(),
-        area2: area2.len(),
-        area3: area3.len(),
-        area4: area4.len(),
-        area5: area5.len(),
-        states: counts[0],
-        rules: counts[1],
-        entries: counts[2],
-        text: counts[3],
-        expected: counts[4],
+        source: sheet.source.len(),
+        area1: sheet.states.len(),
+        area2: sheet.rules.len(),
+        area3: sheet.entries.len(),
+        area4: sheet.text.len(),
+        area5: sheet.expected.len(),
+        states: sheet.counts[0],
+        rules: sheet.counts[1],
+        entries: sheet.counts[2],
+        text: sheet.counts[3],
+        expected: sheet.counts[4],
     }
 }
 
 // Whether what the host hands in is a sheet. The sizes first, so that every record may be read.
-pub fn check(
-    src: &[u8],
-    area1: &[u8],
-    area2: &[u8],
-    area3: &[u8],
-    area4: &[u8],
-    area5: &[u8],
-    counts: &[u16; 6],
-) -> bool
-    ensures { result ≡ sheet_check (sheet_in src.now area1.now area2.now area3.now area4.now area5.now counts.now) }
+pub fn check(sheet: Sheet) -> bool
+    ensures { result ≡ sheet_check (lent_sheet sheet.entry) }
 {
-    let sizes = sizes_of(src, area1, area2, area3, area4, area5, counts);
-    if good_sizes(sizes) {
-        return good_records(sizes, area1, area2, area3, area5);
-    }
-    false
+    let sizes = sizes_of(sheet);
+    good_sizes(sizes) && good_records(sizes, sheet)
 }
 
 // ---- the sheet, asked at every move
 
-// The quick tests alone: where they pass, every record is good. The limits of the rules go as numbers, for `sizes` would be laid out in memory
-// to be lent.
-fn quick_records(sizes: Sizes, area1: &[u8], area2: &[u8], area3: &[u8], area5: &[u8]) -> bool
-    requires areas_long { AreasLong sizes area1.now area2.now area3.now area5.now }
+// The quick tests alone: where they pass, every record is good.
+fn quick_records(sizes: Sizes, sheet: Sheet) -> bool
+    requires areas_long { AreasLong sizes sheet.states.now sheet.rules.now sheet.entries.now sheet.expected.now }
     requires le_states { 1 ≤ sizes.states }
     ensures { result ≡ true
         → good_records sizes
-        (contents state_format area1.now sizes.states)
-        (contents rule_format area2.now sizes.rules)
-        (contents entry_format area3.now sizes.entries)
-        (contents expected_format area5.now sizes.expected)
+        (contents state_format sheet.entry.states.now sizes.states)
+        (contents rule_format sheet.entry.rules.now sizes.rules)
+        (contents entry_format sheet.entry.entries.now sizes.entries)
+        (contents expected_format sheet.entry.expected.now sizes.expected)
         ≡ true }
 {
-    if !good_states(sizes, area1) {
+    if !good_states(sizes, sheet.states) {
         return false;
     }
-    if !quick_rules(
-        area2,
-        sizes.rules,
-        sum_limit(sizes.source),
-        sizes.states - 1,
-        sum_limit(sizes.entries as usize),
-        sum_limit(sizes.text as usize),
-    ) {
+    if !rules_within(sizes, sheet.rules) {
         return false;
     }
-    if !entries_within(area3, sizes.entries, sizes.states - 1) {
+    if !entries_within(sheet.entries, sizes.entries, sizes.states - 1) {
         return false;
     }
-    good_names(sizes, area5)
+    good_names(sizes, sheet.expected)
 }
 
 // Whether what the host hands in is a sheet, as `check` says, for the step alone, which asks at every move: with one caller it becomes part
-// of that caller. The slices are bound anew on the way to `check`, so that the quick way need not lay them out in memory.
-pub fn quick_check(
-    src: &[u8],
-    area1: &[u8],
-    area2: &[u8],
-    area3: &[u8],
-    area4: &[u8],
-    area5: &[u8],
-    counts: &[u16; 6],
-) -> bool
-    ensures { result ≡ sheet_check (sheet_in src.now area1.now area2.now area3.now area4.now area5.now counts.now) }
+// of that caller.
+pub fn quick_check(sheet: Sheet) -> bool
+    ensures { result ≡ sheet_check (lent_sheet sheet.entry) }
 {
-    let sizes = sizes_of(src, area1, area2, area3, area4, area5, counts);
+    let sizes = sizes_of(sheet);
     if good_sizes(sizes) {
-        if quick_records(sizes, area1, area2, area3, area5) {
+        if quick_records(sizes, sheet) {
             return true;
         }
-        let source = src;
-        let states = area1;
-        let rules = area2;
-        let lists = area3;
-        let text = area4;
-        let expected = area5;
-        return check(source, states, rules, lists, text, expected, counts);
+        return check(sheet);
     }
     false
 }

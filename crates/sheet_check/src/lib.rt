@@ -4,15 +4,28 @@
 pub mod check;
 pub mod pattern;
 
-// Where a rule's text stands: its place, from where, and its length; or number 6.
+// What a host hands in as a sheet: the source, areas 1 to 5, and the counts of the areas.
 #[derive(Clone, Copy)]
-pub enum Located {
-    Part(u16, u16, u16),
-    BrokenSheet,
+pub struct Sheet<'a> {
+    pub source: &'a [u8],
+    pub states: &'a [u8],
+    pub rules: &'a [u8],
+    pub entries: &'a [u8],
+    pub text: &'a [u8],
+    pub expected: &'a [u8],
+    pub counts: &'a [u16; 6],
 }
 
-// The lengths of the source and of areas 1 to 5, and the counts of the areas. They are handed on by value, so that the check gets only the
-// areas that it reads, and products of counts are known to fit.
+// Where a rule's text stands: its place, from where, and its length.
+#[derive(Clone, Copy)]
+pub struct Part {
+    pub place: u16,
+    pub from: u16,
+    pub length: u16,
+}
+
+// The lengths of the source and of areas 1 to 5, and the counts of the areas. They are handed on by value, so that products of counts are
+// known to fit.
 #[derive(Clone, Copy)]
 pub struct Sizes {
     pub source: usize,

@@ -1,28 +1,29 @@
 // Lines of text: a word, then numbers, with a blank before each. The records of a sheet's areas, and refusals.
 #![tactic(auto)]
 
-ghost use Rattle.std.specs.Prelude.{◌≡◌};
+ghost use Rattle.std.specs.Prelude.{◌≡◌, ℕ, List};
 ghost use Rattle.area.specs.Records.{state_at, rule_at, fault_at};
-ghost use Rattle.area.specs.Phrases.{before};
-ghost use Rattle.output.specs.Phrases.{Puts};
+ghost use Rattle.output.specs.Output.{appended, joined};
 ghost use Rattle.sheet_lines.specs.Lines.{state_name, state_head, state_line, rule_line, fault_line, refused_line, full_line};
 ghost use Rattle.sheet_lines.specs.Lines.{state_lines, rule_lines, fault_lines, sheet_lines};
 
-use answers::AREA_FULL;
+use answers::Number;
 use area::{FAULT_WIDTH, RULE_WIDTH, STATE_WIDTH, State};
-use output::fields::{field_at, put_fields};
-use output::{put_blank, put_field, put_line_end, put_part, put_text};
+use output::Text;
+use output::fields::field_at;
 
 // INITIAL is not in the source.
-fn put_name(out: &mut [u8], n: usize, src: &[u8], k: u16, start: u16, end: u16) -> usize
-    ensures { Puts (state_name src.now k start end) out n result }
+fn put_name<const N: usize>(out: &mut Text<N>, src: &[u8], k: u16, start: u16, end: u16)
+    ensures { out.new ≡ appended N out.old (state_name src.now k start end) }
 {
     if k == 0 {
-        return put_text(out, n, b"INITIAL");
+        out.push_text(b"INITIAL");
+    } else {
+        out.push_part(src, start as usize, end as usize);
     }
-    put_part(out, n, src, start as usize, end as usize)
 }
 
+// `read_state` of area asks for room for the record; here a state that stands past the end of the area has fields of 0.
 fn state_at(area: &[u8], k: u16) -> State
     ensures { result ≡ state_at area.now k }
 {
@@ -35,106 +36,132 @@ fn state_at(area: &[u8], k: u16) -> State
 }
 
 // A state's line up to its name.
-fn put_state_head(out: &mut [u8], n: usize, src: &[u8], k: u16, start: u16, end: u16) -> usize
-    ensures { Puts (state_head src.now k start end) out n result }
+fn put_state_head<const N: usize>(out: &mut Text<N>, src: &[u8], k: u16, start: u16, end: u16)
+    ensures { out.new ≡ appended N out.old (state_head src.now k start end) }
 {
-    let n = put_text(out, n, b"state");
-    let n = put_field(out, n, k);
-    let n = put_blank(out, n);
-    put_name(out, n, src, k, start, end)
+    out.push_text(b"state");
+    out.push_field(k);
+    out.push_blank();
+    put_name(out, src, k, start, end);
 }
 
-fn put_state(out: &mut [u8], n: usize, src: &[u8], k: u16, x: State) -> usize
-    ensures { Puts (state_line src.now k x) out n result }
+fn put_state<const N: usize>(out: &mut Text<N>, src: &[u8], k: u16, x: State)
+    ensures { out.new ≡ appended N out.old (state_line src.now k x) }
 {
-    let n = put_state_head(out, n, src, k, x.start, x.end);
-    let n = put_field(out, n, x.exclusive);
-    let n = put_field(out, n, x.start);
-    let n = put_field(out, n, x.end);
-    put_line_end(out, n)
+    put_state_head(out, src, k, x.start, x.end);
+    out.push_field(x.exclusive);
+    out.push_field(x.start);
+    out.push_field(x.end);
+    out.push_line_end();
 }
 
-fn put_rule(out: &mut [u8], n: usize, area: &[u8], k: u16) -> usize
-    ensures { Puts (rule_line k (rule_at area.now k)) out n result }
-{
-    let n = put_text(out, n, b"rule");
-    let n = put_field(out, n, k);
-    let n = put_fields(out, n, area, k as usize * RULE_WIDTH, 14);
-    put_line_end(out, n)
+// The records of an area, each of which is a line.
+trait Records<const N: usize> {
+    ghost line: { Self → ℕ → List ℕ };
+
+    fn put_line(&self, out: &mut Text<N>, k: u16)
+        ensures { out.new ≡ appended N out.old (line self.now k) };
 }
 
-fn put_fault(out: &mut [u8], n: usize, area: &[u8], k: u16) -> usize
-    ensures { Puts (fault_line (fault_at area.now k)) out n result }
-{
-    let n = put_text(out, n, b"fault");
-    let n = put_fields(out, n, area, k as usize * FAULT_WIDTH, 4);
-    put_line_end(out, n)
+// The states of area 1, whose names stand in the source.
+#[derive(Drop)]
+struct States<'a> {
+    src: &'a [u8],
+    area: &'a [u8],
 }
 
-pub fn put_states(out: &mut [u8], n: usize, src: &[u8], area: &[u8], count: u16) -> usize
-    ensures { Puts (state_lines src.now area.now count) out n result }
-{
-    let mut r = n;
-    let mut k = 0;
-    while k < count {
-        r = put_state(out, r, src, k, state_at(area, k));
-        k += 1;
+#[derive(Drop)]
+struct Rules<'a> {
+    area: &'a [u8],
+}
+
+#[derive(Drop)]
+struct Faults<'a> {
+    area: &'a [u8],
+}
+
+impl<'a, const N: usize> Records<N> for States<'a> {
+    ghost line = { λ x k. state_line x.src.now k (state_at x.area.now k) };
+
+    fn put_line(&self, out: &mut Text<N>, k: u16) {
+        put_state(out, self.src, k, state_at(self.area, k));
     }
-    r
 }
 
-pub fn put_rules(out: &mut [u8], n: usize, area: &[u8], count: u16) -> usize
-    ensures { Puts (rule_lines area.now count) out n result }
-{
-    let mut r = n;
-    let mut k = 0;
-    while k < count {
-        r = put_rule(out, r, area, k);
-        k += 1;
+impl<'a, const N: usize> Records<N> for Rules<'a> {
+    ghost line = { λ x k. rule_line k (rule_at x.area.now k) };
+
+    fn put_line(&self, out: &mut Text<N>, k: u16) {
+        out.push_text(b"rule");
+        out.push_field(k);
+        out.push_fields(self.area, k as usize * RULE_WIDTH, 14);
+        out.push_line_end();
     }
-    r
 }
 
-pub fn put_faults(out: &mut [u8], n: usize, area: &[u8], count: u16) -> usize
-    ensures { Puts (fault_lines area.now count) out n result }
-{
-    let mut r = n;
-    let mut k = 0;
-    while k < count {
-        r = put_fault(out, r, area, k);
-        k += 1;
+impl<'a, const N: usize> Records<N> for Faults<'a> {
+    ghost line = { λ x k. fault_line (fault_at x.area.now k) };
+
+    fn put_line(&self, out: &mut Text<N>, k: u16) {
+        out.push_text(b"fault");
+        out.push_fields(self.area, k as usize * FAULT_WIDTH, 4);
+        out.push_line_end();
     }
-    r
 }
 
-pub fn put_refused(out: &mut [u8], n: usize, number: u16) -> usize
-    ensures { Puts (refused_line number) out n result }
+fn put_lines<const N: usize, R: Records<N>>(out: &mut Text<N>, records: &R, count: u16)
+    ensures { out.new ≡ appended N out.old (joined (R.line records.now) count) }
 {
-    let n = put_text(out, n, b"refused");
-    let n = put_field(out, n, number);
-    put_line_end(out, n)
+    for k in 0..count {
+        records.put_line(out, k);
+    }
 }
 
-pub fn put_full(out: &mut [u8], n: usize, area: u16) -> usize
-    ensures { Puts (full_line area) out n result }
+pub fn put_states<const N: usize>(out: &mut Text<N>, src: &[u8], area: &[u8], count: u16)
+    ensures { out.new ≡ appended N out.old (state_lines src.now area.now count) }
 {
-    let n = put_text(out, n, b"refused");
-    let n = put_field(out, n, AREA_FULL);
-    let n = put_field(out, n, area);
-    put_line_end(out, n)
+    put_lines(out, &States { src, area }, count);
 }
 
-pub fn put_sheet(
-    out: &mut [u8],
-    n: usize,
+pub fn put_rules<const N: usize>(out: &mut Text<N>, area: &[u8], count: u16)
+    ensures { out.new ≡ appended N out.old (rule_lines area.now count) }
+{
+    put_lines(out, &Rules { area }, count);
+}
+
+pub fn put_faults<const N: usize>(out: &mut Text<N>, area: &[u8], count: u16)
+    ensures { out.new ≡ appended N out.old (fault_lines area.now count) }
+{
+    put_lines(out, &Faults { area }, count);
+}
+
+pub fn put_refused<const N: usize>(out: &mut Text<N>, number: u16)
+    ensures { out.new ≡ appended N out.old (refused_line number) }
+{
+    out.push_text(b"refused");
+    out.push_field(number);
+    out.push_line_end();
+}
+
+pub fn put_full<const N: usize>(out: &mut Text<N>, area: u16)
+    ensures { out.new ≡ appended N out.old (full_line area) }
+{
+    out.push_text(b"refused");
+    out.push_field(Number::AreaFull as u16);
+    out.push_field(area);
+    out.push_line_end();
+}
+
+pub fn put_sheet<const N: usize>(
+    out: &mut Text<N>,
     src: &[u8],
     states: u16,
     area1: &[u8],
     rules: u16,
     area2: &[u8],
-) -> usize
-    ensures { Puts (sheet_lines src.now area1.now states area2.now rules) out n result }
+)
+    ensures { out.new ≡ appended N out.old (sheet_lines src.now area1.now states area2.now rules) }
 {
-    let n = put_states(out, n, src, area1, states);
-    put_rules(out, n, area2, rules)
+    put_states(out, src, area1, states);
+    put_rules(out, area2, rules);
 }

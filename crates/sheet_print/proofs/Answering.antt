@@ -1,13 +1,11 @@
--- The lines of each answer; and that an answer, the counts and the areas have the outcome of the file: an area determines its records, so that
--- what is printed of the areas' bytes is what is printed of the outcome.
-use mathlib.Core.Path.{◌≡◌, refl, sym, ap, ap₂, subst, ◌∙◌}
+-- That an answer, the counts and the areas have the outcome of the file: an area determines its records, so that what is printed of the areas'
+-- bytes is what is printed of the outcome.
+use mathlib.Core.Path.{◌≡◌, refl, ap, ap₂, subst, ◌∙◌}
 use mathlib.Core.List.{List, ◌++◌}
 use Prim.Native.Nat.{ℕ, zero, suc, ◌+◌, ◌*◌, ◌-◌, ◌<◌}
 use native.Mathlib.Nat.{le_refl}
 use native.Mathlib.Omega.{arith}
 use lib.ListN.{length, get_or, length-append}
-use borrow.Author.Rules.{rules}
-use Rattle.answers.specs.Numbers.{long_file_number, unknown_flag_number, invalid_utf8_number}
 use Rattle.area.specs.declared.State.{State}
 use Rattle.area.specs.declared.Rule.{Rule}
 use Rattle.area.specs.declared.Fault.{Fault}
@@ -18,53 +16,12 @@ use Rattle.area.specs.Records.{nth_state, nth_rule, nth_fault}
 use Rattle.area.proofs.Contents.{Sound, state_sound, rule_sound, fault_sound}
 use Rattle.area.proofs.Fields.{bytes-length}
 use Rattle.parse.specs.declared.Answer.{Answer}
-use Rattle.parse.specs.declared.Answer.TheVariants.{Accepted, LongFile, UnknownFlag, InvalidUtf8, AreaFull, FaultyFile}
 use Rattle.parse.specs.Parse.{Outcome, long_file, unknown_flag, invalid_utf8, area_full, faulty, accepted}
 use Rattle.parse.specs.Parse.{Caps, caps, Left, left, leaves, outcome, parse_call}
-use Rattle.output.specs.Output.{Appends, Written, joined}
-use Rattle.output.proofs.Appending.{appends_first}
-use Rattle.sheet_lines.specs.Lines.{state_line, rule_line, fault_line, refused_line, full_line}
+use Rattle.output.specs.Output.{joined}
+use Rattle.sheet_lines.specs.Lines.{state_line, rule_line, fault_line}
 use Rattle.sheet_lines.specs.Lines.{state_lines, rule_lines, fault_lines, sheet_lines}
 use Rattle.sheet_print.specs.Lines.{answer_text, text_of, sheet_caps, sheet_request, sheet_text}
-
--- ---- the lines of an answer
-
-module _ (s : List ℕ) (a : Answer) (states rules : ℕ) (l1 l2 l6 : List ℕ) {l e : List ℕ} {r : ℕ} where
-  answer_by : (b : Answer) → a ≡ b → Appends (answer_text s b states rules l1 l2 l6) l 0 e r → Written (answer_text s a states rules l1 l2 l6) e r
-  answer_by b z p = subst (λ (x : Answer). Written (answer_text s x states rules l1 l2 l6) e r) (sym z) (appends_first p)
-
-  pub answer_accepted : a ≡ Accepted → Appends (sheet_lines s l1 states l2 rules) l 0 e r
-      → Written (answer_text s a states rules l1 l2 l6) e r
-  unfolding answer_text
-  answer_accepted z p = answer_by Accepted z p
-
-  pub answer_long_file : a ≡ LongFile → Appends (refused_line long_file_number) l 0 e r
-      → Written (answer_text s a states rules l1 l2 l6) e r
-  unfolding answer_text
-  answer_long_file z p = answer_by LongFile z p
-
-  pub answer_unknown_flag : a ≡ UnknownFlag → Appends (refused_line unknown_flag_number) l 0 e r
-      → Written (answer_text s a states rules l1 l2 l6) e r
-  unfolding answer_text
-  answer_unknown_flag z p = answer_by UnknownFlag z p
-
-  pub answer_invalid_utf8 : a ≡ InvalidUtf8 → Appends (refused_line invalid_utf8_number) l 0 e r
-      → Written (answer_text s a states rules l1 l2 l6) e r
-  unfolding answer_text
-  answer_invalid_utf8 z p = answer_by InvalidUtf8 z p
-
-  pub answer_full : (area : ℕ) → a ≡ AreaFull area → Appends (full_line area) l 0 e r
-      → Written (answer_text s a states rules l1 l2 l6) e r
-  unfolding answer_text
-  answer_full area z p = answer_by (AreaFull area) z p
-
-  pub answer_faulty : (spans : ℕ) → a ≡ FaultyFile spans → Appends (fault_lines l6 spans) l 0 e r
-      → Written (answer_text s a states rules l1 l2 l6) e r
-  unfolding answer_text
-  answer_faulty spans z p = answer_by (FaultyFile spans) z p
-
-pub ruleset answer_printing =
-    (rules, answer_accepted, answer_long_file, answer_unknown_flag, answer_invalid_utf8, answer_full, answer_faulty)
 
 -- ---- what the areas hold
 
@@ -135,14 +92,14 @@ module _ (s : List ℕ) (k : Caps) (y : Left) (e : y ≡ parse_call (sheet_reque
   call_text h = ap (left_text s) e ∙ leaves_text s k (outcome (sheet_request s) k) (subst (λ (z : Left). Kept k z) e h)
 
 -- the areas that the program lends
-pub sheet_written : (s : List ℕ) (a : Answer) (n x1 x2 x3 x4 x5 x6 : List ℕ) (c1 c2 c3 c4 c5 c6 : ℕ) {e : List ℕ} {r : ℕ}
+pub sheet_written : (s : List ℕ) (a : Answer) (n x1 x2 x3 x4 x5 x6 : List ℕ) (c1 c2 c3 c4 c5 c6 : ℕ)
     → left a n x1 x2 x3 x4 x5 x6 ≡ parse_call (sheet_request s) (caps c1 c2 c3 c4 c5 c6)
     → c1 ≡ 384 → c2 ≡ 57344 → c3 ≡ 32768 → c4 ≡ 32768 → c5 ≡ 32768 → c6 ≡ 32768
     → length x1 ≡ 384 → length x2 ≡ 57344 → length x6 ≡ 32768
-    → Written (answer_text s a (get_or n 0 0) (get_or n 1 0) x1 x2 x6) e r → Written (sheet_text s) e r
+    → answer_text s a (get_or n 0 0) (get_or n 1 0) x1 x2 x6 ≡ sheet_text s
 unfolding sheet_text sheet_caps
-sheet_written s a n x1 x2 x3 x4 x5 x6 c1 c2 c3 c4 c5 c6 {e} {r} p q1 q2 q3 q4 q5 q6 h1 h2 h6 w =
+sheet_written s a n x1 x2 x3 x4 x5 x6 c1 c2 c3 c4 c5 c6 p q1 q2 q3 q4 q5 q6 h1 h2 h6 =
     let k : Caps = caps 384 57344 32768 32768 32768 32768 in
     let z : caps c1 c2 c3 c4 c5 c6 ≡ k = λ i. caps (q1 i) (q2 i) (q3 i) (q4 i) (q5 i) (q6 i) in
     let called = p ∙ ap (parse_call (sheet_request s)) z in
-    subst (λ (t : List ℕ). Written t e r) (call_text s k (left a n x1 x2 x3 x4 x5 x6) called (record { one = h1; two = h2; six = h6 })) w
+    call_text s k (left a n x1 x2 x3 x4 x5 x6) called (record { one = h1; two = h2; six = h6 })

@@ -1,11 +1,10 @@
--- How long the text of a file can be: each line has a bound beside the name in it, and the areas bound how many lines there are. In a buffer with
--- that room the text stands whole.
+-- How long the text of a file can be: each line has a bound beside the name in it, and the areas bound how many lines there are. A text with that
+-- room has all of it.
 use Prim.Native.Nat.{ℕ, zero, suc, ◌+◌, ◌*◌, ◌≤◌}
-use mathlib.Core.Path.{◌≡◌, refl, ap, ◌∙◌}
-use mathlib.Core.List.{List}
+use mathlib.Core.Path.{◌≡◌, refl}
+use mathlib.Core.List.{List, []}
 use native.Mathlib.Omega.{arith}
-use lib.ListN.{length, take, length-append}
-use lib.Seq.{take-length}
+use lib.ListN.{length, length-append}
 use Rattle.answers.specs.Numbers.{long_file_number, unknown_flag_number, invalid_utf8_number}
 use Rattle.area.specs.declared.State.{State}
 use Rattle.area.specs.declared.Rule.{Rule}
@@ -15,7 +14,8 @@ use Rattle.parse.specs.Parse.{Outcome, long_file, unknown_flag, invalid_utf8, ar
 use Rattle.parsed_sheet.proofs.Accepting.{accepted_holds, accepted_short}
 use Rattle.parsed_sheet.proofs.Bounds.{Bounded, outcome_bounded}
 use Rattle.parsed_sheet.proofs.Totals.{total, total_plus, name_length, name_bytes}
-use Rattle.output.specs.Output.{Written, AllWritten, joined}
+use Rattle.output.specs.Output.{appended, joined}
+use Rattle.output.proofs.Appending.{appended_whole}
 use Rattle.output.proofs.Lengths.{joined_most}
 use Rattle.sheet_lines.specs.Lines.{state_line, rule_line, fault_line}
 use Rattle.sheet_lines.proofs.Lengths.{state_most, rule_most, fault_most, refused_most, full_most}
@@ -65,8 +65,6 @@ pub text_most : (s : List ℕ) → length (sheet_text s) ≤ sheet_room
 unfolding sheet_text sheet_caps
 text_most s = outcome_most s (outcome (sheet_request s) sheet_caps) refl (outcome_bounded (sheet_request s) sheet_caps)
 
--- so a buffer with that room has the whole text
-pub all_written : (s : List ℕ) {l : List ℕ} {n : ℕ} → sheet_room ≤ length l → Written (sheet_text s) l n → AllWritten (sheet_text s) l n
-all_written s {l} {n} h w =
-    let z : n ≡ length (sheet_text s) = omega (arith, w.count, text_most s) in
-    record { count = z; is = w.is ∙ ap (λ (k : ℕ). take k (sheet_text s)) z ∙ take-length (sheet_text s) }
+-- so a text with that room has all of it
+pub all_appended : (n : ℕ) (s : List ℕ) → sheet_room ≤ n → appended n [] (sheet_text s) ≡ sheet_text s
+all_appended n s h = appended_whole n [] (sheet_text s) (omega (arith, text_most s))

@@ -1,26 +1,23 @@
 -- Positions that are looked at together: where none of a block passes, the walk for the first that does goes on behind the block, and the walk
 -- for the last in front of it; where one may, the walk within the block answers, or it goes on as well.
-use mathlib.Core.Path.{◌≡◌, sym, ap, ◌∙◌}
-use mathlib.Core.Bool.{Bool, true, false, cond}
+use mathlib.Core.Path.{◌≡◌, sym, ◌∙◌}
+use mathlib.Core.Bool.{Bool, false}
 use mathlib.Core.List.{List}
 use mathlib.Core.Logic.{⊎_elim}
 use Prim.Native.Nat.{ℕ, ◌+◌, ◌-◌, ◌≤◌, ◌<◌}
 use native.Mathlib.Omega.{arith}
 use borrow.Author.Rules.{rules}
-use borrow.Author.Tests.{eq-eqb, ne_eqb}
-use lib.Dec.{eqb}
 use lib.ListN.{length}
 use Rattle.characters.specs.Class.{is_blank}
 use Rattle.characters.specs.Walk.{any, first, Between}
 use Rattle.characters.specs.Whitespace.{byte, at_line_end}
 use Rattle.text.specs.Scan.{find_line_end, line_end, last_blank}
-use Rattle.characters.specs.Shortcuts.{RulesOut}
-use Rattle.characters.specs.declared.Found.TheVariants.{At, Nothing}
-use Rattle.characters.proofs.Tests.{answer, le_or_lt}
+use Rattle.characters.specs.Shortcuts.{RulesOut, may_end_line}
+use Rattle.characters.proofs.Tests.{le_or_lt}
 use Rattle.characters.proofs.Spaces.{end_may_start}
-use Rattle.characters.proofs.Walks.{first_here, first_over, first_from, last_none, last_over, last_found, last_again, last_ended}
+use Rattle.characters.proofs.Walks.{first_here, first_over, first_from, last_over}
 use Rattle.characters.proofs.Firsts.{first_passes, first_before}
-use Rattle.characters.proofs.Runs.{block_fails, none_ruled_out, rules_out_again, rules_out_ended}
+use Rattle.characters.proofs.Runs.{block_fails}
 
 -- ---- the first that passes
 
@@ -40,6 +37,10 @@ module _ (test : ℕ → Bool) (i m e : ℕ) (h : i ≤ m) (l : m ≤ e) where
       ⊎_elim (λ q. absurd (omega (arith, n, first_behind q, first_from test m e))) (λ q. first_cut q) (le_or_lt m (first test i m))
 
 -- ---- line ends
+
+-- no line end stands where the byte may end no line
+pub may_end : (s : List ℕ) (k : ℕ) (r : Bool) → RulesOut (may_end_line (byte s k)) r → r ≡ false → false ≡ at_line_end s k
+may_end s k r f e = sym ((end_may_start s k r f).none e)
 
 -- the loop began at i and stands at k
 module _ (s : List ℕ) (i k : ℕ) (before : line_end s i ≡ line_end s k) where
@@ -66,8 +67,6 @@ module _ (s : List ℕ) (i k : ℕ) (before : line_end s i ≡ line_end s k) whe
 
 pub ruleset passing_blocks = (rules, block_without, block_ends, block_passed, rest_ends)
 
-pub ruleset looking = (rules, none_ruled_out, rules_out_again, rules_out_ended, end_may_start)
-
 -- ---- blanks, from the end
 
 -- the loop came down from e and stands at k
@@ -85,37 +84,3 @@ block_blankless s i k e block next r before is l f g =
     (λ m a b. block_fails (λ x. is_blank (byte s x)) next block m (f.none g) a (omega arith))
 
 pub ruleset passing_blankless = (rules, block_blankless)
-
--- the loop has counted n bytes before e that are no blanks
-pub tail_begins : (s : List ℕ) (i e : ℕ) → last_blank s i e ≡ last_blank s i (e - 0)
-tail_begins s i e =
-    let q : e ≡ e - 0 = omega arith in
-    ap (last_blank s i) q
-
-module _ (s : List ℕ) (i e n : ℕ) (before : last_blank s i e ≡ last_blank s i (e - n)) where
-  module _ (l : n < e - i) where
-    pub tail_found : is_blank (byte s (e - n - 1)) ≡ true → last_blank s i e ≡ cond (eqb (e - n) i) Nothing (At (e - n - 1))
-    tail_found t = rw (ne_eqb (e - n) i (omega arith)) (sym (last_found _ i (e - n) e before (omega arith) t))
-
-    pub tail_again : is_blank (byte s (e - n - 1)) ≡ false → last_blank s i e ≡ last_blank s i (e - (n + 1))
-    tail_again t =
-        let q : e - n - 1 ≡ e - (n + 1) = omega arith in
-        last_again _ i (e - n) e before (omega arith) t ∙ ap (last_blank s i) q
-
-  pub tail_ended : e - i ≤ n → n ≤ e - i → i ≤ e → last_blank s i e ≡ cond (eqb (e - n) i) Nothing (At (e - n - 1))
-  tail_ended h l f = rw (eq-eqb (e - n) i (omega arith)) (sym (last_ended _ i (e - n) e before (omega arith)))
-
-pub ruleset counting_plain = (rules, answer, tail_begins, tail_found, tail_again, tail_ended)
-
--- blocks are passed down to w and then to k, and the last n bytes before k are no blanks
-module _
-    (s : List ℕ) (i e w k n : ℕ)
-    (wide : last_blank s i e ≡ last_blank s i w) (narrow : last_blank s i w ≡ last_blank s i k)
-    (tail : last_blank s i k ≡ cond (eqb (k - n) i) Nothing (At (k - n - 1))) where
-  pub all_plain : k - n ≡ i → Nothing ≡ last_blank s i e
-  all_plain q = sym (wide ∙ narrow ∙ tail ∙ rw (eq-eqb (k - n) i q))
-
-  pub blank_before : (k - n ≡ i → ⊥) → At (k - n - 1) ≡ last_blank s i e
-  blank_before d = sym (wide ∙ narrow ∙ tail ∙ rw (ne_eqb (k - n) i d))
-
-pub ruleset finding_blank = (rules, last_none, all_plain, blank_before)

@@ -1,21 +1,29 @@
 -- Equal ranges: the comparison says equality of lists, and of ranges that are split at the same place it compares the parts, each by itself. So
--- a loop that has compared the first k bytes goes on to the next byte, or block of bytes, by comparing these alone.
+-- it is told by a test of each position, and a loop that has compared the first k bytes goes on by comparing the next block alone.
 use mathlib.Core.Path.{◌≡◌, refl, sym, ap, ap₂, ◌∙◌}
-use mathlib.Core.Bool.{Bool, true, false, not, ◌&&◌, cond, false≢true, and-true, and-false, and_assoc}
+use mathlib.Core.Bool.{Bool, true, false, not, ◌&&◌, ◌||◌, cond, false≢true, and-true, and-false, and_assoc}
 use mathlib.Core.List.{List, [], ◌∷◌, ◌++◌}
 use mathlib.Core.Logic.{⊎_elim}
-use Prim.Native.Nat.{ℕ, suc, ◌+◌, ◌-◌, ◌≤◌, ◌<◌, min}
+use Prim.Native.Nat.{ℕ, zero, suc, ◌+◌, ◌-◌, ◌≤◌, ◌<◌, min}
 use native.Mathlib.Nat.{add-zero}
+use native.Mathlib.Numerals.{add-one}
 use native.Mathlib.Omega.{arith}
 use borrow.Author.Rules.{rules}
 use borrow.Author.Tests.{eq-eqb, ne_eqb, eqb-true, not-false}
 use lib.Dec.{eqb}
 use lib.ListN.{length, take, drop, length-take, length-drop}
 use lib.Seq.{take-length, take_all, take-add, drop-drop, drop-cons}
+use Rattle.characters.specs.Walk.{any, first}
 use Rattle.characters.specs.Whitespace.{byte}
 use Rattle.text.specs.Range.{part, same_bytes, same_range, SameRests, lookahead_is}
-use Rattle.characters.specs.declared.Found.TheVariants.{At, Nothing}
+use Rattle.std.specs.Prelude.{Some, None}
 use Rattle.characters.proofs.Tests.{and_left, and_right, le_or_lt}
+use Rattle.characters.proofs.Walks.{first_here, first_next, first_none}
+
+both_or_not : (p q : Bool) → not (p || not q) ≡ not p && q
+both_or_not true q = refl
+both_or_not false true = refl
+both_or_not false false = refl
 
 -- ---- same_bytes is equality
 
@@ -97,7 +105,7 @@ module _ (s : List ℕ) (a e : ℕ) (t : List ℕ) (c d : ℕ) where
   unfolding same_range same_bytes
   range_one x y ls lt = rw (part_one s a e x ls, part_one t c d y lt) (and-true (eqb (byte s a) (byte t c)))
 
--- ---- the loop has compared the first k of n bytes
+-- ---- one byte after the other
 
 module _ (s : List ℕ) (a : ℕ) (t : List ℕ) (c : ℕ) where
   pub range_none : true ≡ same_range s a (a + 0) t c (c + 0)
@@ -114,22 +122,7 @@ module _ (s : List ℕ) (a : ℕ) (t : List ℕ) (c : ℕ) where
       let one = range_one s (a + k) (a + (k + 1)) t (c + k) (c + (k + 1)) (omega arith) (omega arith) (omega arith) (omega arith) in
       rw (← one) (sym (range_split s a (a + (k + 1)) t c (c + (k + 1)) (a + k) (c + k) (omega arith) (omega arith) (omega arith)))
 
-  module _ (n k : ℕ) (same : Bool) (before : same ≡ same_range s a (a + k) t c (c + k)) where
-    pub range_again :
-        a + n ≤ length s
-        → c + n ≤ length t
-        → k < n
-        → same && eqb (byte s (a + k)) (byte t (c + k)) ≡ same_range s a (a + (k + 1)) t c (c + (k + 1))
-    range_again fs ft h = rw before (range_more k (omega arith) (omega arith))
-
-    pub range_ended : n ≤ k → k ≤ n → same ≡ same_range s a (a + n) t c (c + n)
-    range_ended h l =
-        let q : k ≡ n = omega arith in
-        before ∙ ap (λ (m : ℕ). same_range s a (a + m) t c (c + m)) q
-
-pub ruleset comparing = (rules, range_none, range_again, range_ended)
-
--- ---- a loop that ends at the first difference: what it is to answer is the comparison of the rests
+-- ---- what is left to compare behind a place
 
 -- w bytes from i on, and the rest behind them
 rest_split :
@@ -169,31 +162,52 @@ blocks_compared s a t c n k m r wide narrow is =
     let whole : same_range s a (a + n) t c (c + n) ≡ same_range s (a + 0) (a + n) t (c + 0) (c + n) = rw (add-zero a, add-zero c) in
     is ∙ sym (whole ∙ wide ∙ narrow)
 
--- the bytes from i to before j are compared, one by one
-module _
-    (s : List ℕ) (a : ℕ) (t : List ℕ) (c n i j : ℕ)
-    (before : same_range s (a + i) (a + n) t (c + i) (c + n) ≡ same_range s (a + j) (a + n) t (c + j) (c + n)) where
-  module _ (fs : a + n ≤ length s) (ft : c + n ≤ length t) (l : j < n) where
+-- n bytes are compared position by position
+module _ (s : List ℕ) (a : ℕ) (t : List ℕ) (c : ℕ) where
+  -- the bytes at k differ
+  abbrev pub differs : ℕ → Bool
+  differs k = not (eqb (byte s (a + k)) (byte t (c + k)))
+
+  -- all of them, whatever is found
+  pub none_differs : (n : ℕ) → a + n ≤ length s → c + n ≤ length t → not (any differs n) ≡ same_range s a (a + n) t c (c + n)
+  unfolding any
+  none_differs zero fs ft = range_none s a t c
+  none_differs (suc n) fs ft =
+      both_or_not (any differs n) (eqb (byte s (a + n)) (byte t (c + n)))
+      ∙ ap (λ (q : Bool). q && eqb (byte s (a + n)) (byte t (c + n))) (none_differs n (omega arith) (omega arith))
+      ∙ rw add-one at (range_more s a t c n (omega arith) (omega arith))
+
+  module _ (n : ℕ) (fs : a + n ≤ length s) (ft : c + n ≤ length t) where
     byte_and_rest :
-        same_range s (a + i) (a + n) t (c + i) (c + n)
+        (j : ℕ)
+        → j < n
+        → same_range s (a + j) (a + n) t (c + j) (c + n)
         ≡ eqb (byte s (a + j)) (byte t (c + j)) && same_range s (a + (j + 1)) (a + n) t (c + (j + 1)) (c + n)
-    byte_and_rest =
-        before
-        ∙ rest_split s a t c n j 1 fs ft (omega arith)
+    byte_and_rest j l =
+        rest_split s a t c n j 1 fs ft (omega arith)
         ∙ rw (range_one s (a + j) (a + j + 1) t (c + j) (c + j + 1) refl refl (omega arith) (omega arith))
 
-    pub byte_differs : (byte s (a + j) ≡ byte t (c + j) → ⊥) → false ≡ same_range s (a + i) (a + n) t (c + i) (c + n)
-    byte_differs d = sym (byte_and_rest ∙ rw (ne_eqb (byte s (a + j)) (byte t (c + j)) d))
+    rest_compared : (m j : ℕ) → j + m ≡ n → eqb (first differs j n) n ≡ same_range s (a + j) (a + n) t (c + j) (c + n)
+    unfolding same_range same_bytes
+    rest_compared zero j e =
+        eq-eqb (first differs j n) n (sym (first_none differs j n (omega arith)) ∙ omega arith)
+        ∙ rw (part_none s (a + j) (a + n) (omega arith), part_none t (c + j) (c + n) (omega arith)) refl
+    rest_compared (suc m) j e = go (eqb (byte s (a + j)) (byte t (c + j))) refl (rest_compared m (j + 1) (omega arith))
+      where
+        go :
+            (q : Bool)
+            → eqb (byte s (a + j)) (byte t (c + j)) ≡ q
+            → eqb (first differs (j + 1) n) n ≡ same_range s (a + (j + 1)) (a + n) t (c + (j + 1)) (c + n)
+            → eqb (first differs j n) n ≡ same_range s (a + j) (a + n) t (c + j) (c + n)
+        go true p before = ap (λ k. eqb k n) (first_next differs j n (omega arith) (ap not p)) ∙ before ∙ sym (byte_and_rest j (omega arith) ∙ rw p refl)
+        go false p before =
+            ap (λ k. eqb k n) (sym (first_here differs j n (omega arith) (ap not p)))
+            ∙ ne_eqb j n (omega arith)
+            ∙ sym (byte_and_rest j (omega arith) ∙ rw p refl)
 
-    pub byte_same :
-        byte s (a + j) ≡ byte t (c + j) → same_range s (a + i) (a + n) t (c + i) (c + n) ≡ same_range s (a + (j + 1)) (a + n) t (c + (j + 1)) (c + n)
-    byte_same q = byte_and_rest ∙ rw (eq-eqb (byte s (a + j)) (byte t (c + j)) q)
-
-  pub bytes_end_lem : n ≤ j → true ≡ same_range s (a + i) (a + n) t (c + i) (c + n)
-  unfolding same_range same_bytes
-  bytes_end_lem h = sym (before ∙ rw (part_none s (a + j) (a + n) (omega arith), part_none t (c + j) (c + n) (omega arith)))
-
-pub ruleset comparing_rests = (rules, byte_differs, byte_same, bytes_end_lem)
+    -- the bytes behind the first i, up to the first that differs
+    pub first_differs : (i : ℕ) → i ≤ n → eqb (first differs i n) n ≡ same_range s (a + i) (a + n) t (c + i) (c + n)
+    first_differs i h = rest_compared (n - i) i (omega arith)
 
 -- ---- the calls over it
 
@@ -275,11 +289,11 @@ part_whole w =
     ap (λ (m : ℕ). take m w) n ∙ take-length w
 
 module _ (s w : List ℕ) (i : ℕ) where
-  picks : (t : Bool) → same_bytes (part s i (i + length w)) w ≡ t → cond t (At (i + length w)) Nothing ≡ lookahead_is s w i
+  picks : (t : Bool) → same_bytes (part s i (i + length w)) w ≡ t → cond t (Some (i + length w)) None ≡ lookahead_is s w i
   unfolding lookahead_is
   picks t e = rw e
 
-  pub ahead_short : length s - i < length w → Nothing ≡ lookahead_is s w i
+  pub ahead_short : length s - i < length w → None ≡ lookahead_is s w i
   ahead_short h = picks false (sym (same_lengths (part s i (i + length w)) w (part_short s i (length w) h)))
 
   module _ (r : Bool) (is : r ≡ same_range s i (i + length w) w 0 (0 + length w)) where
@@ -287,10 +301,10 @@ module _ (s w : List ℕ) (i : ℕ) where
     unfolding same_range
     stands = is ∙ ap (same_bytes (part s i (i + length w))) (part_whole w)
 
-    pub ahead_yes : r ≡ true → At (i + length w) ≡ lookahead_is s w i
+    pub ahead_yes : r ≡ true → Some (i + length w) ≡ lookahead_is s w i
     ahead_yes e = picks true (sym stands ∙ e)
 
-    pub ahead_no : r ≡ false → Nothing ≡ lookahead_is s w i
+    pub ahead_no : r ≡ false → None ≡ lookahead_is s w i
     ahead_no e = picks false (sym stands ∙ e)
 
 pub ruleset looking_ahead = (rules, ahead_short, ahead_yes, ahead_no)

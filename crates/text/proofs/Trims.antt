@@ -12,12 +12,12 @@ use borrow.Author.Tests.{le-leb, lt-leb, eq-eqb, ne_eqb, eqb-true, leb-false}
 use lib.Dec.{eqb, leb}
 use lib.ListN.{length}
 use Rattle.characters.specs.Class.{is_whitespace_byte}
-use Rattle.characters.specs.Walk.{last, skip, Between}
+use Rattle.characters.specs.Walk.{skip, Between}
 use Rattle.characters.specs.Whitespace.{byte, is_next_line, is_mark, is_separator, whitespace_of, whitespace_len, Width}
 use Rattle.characters.specs.Shortcuts.{RulesOut, Tells, may_be_whitespace}
-use Rattle.text.specs.Scan.{skip_whitespace, trim_start, trim_end, backslashes_behind, backslashes_before, keep_escaped, trim_end_unescaped}
-use Rattle.characters.proofs.Tests.{and_left, and_right, or_cases, or_none, not_true, by_test, le_or_lt, equal, unequal}
-use Rattle.characters.proofs.Walks.{first_here, first_none, first_over, last_found, last_again, last_ended, skip_stays, skip_goes, repeat_keeps}
+use Rattle.text.specs.Scan.{skip_whitespace, trim_end, backslashes_before, keep_escaped, trim_end_unescaped}
+use Rattle.characters.proofs.Tests.{and_left, and_right, or_cases, or_none, not_true, by_test, le_or_lt}
+use Rattle.characters.proofs.Walks.{first_here, first_none, first_over, skip_stays, skip_goes, repeat_keeps}
 use Rattle.characters.proofs.Spaces.{white_inside, inner_none}
 
 -- ---- no whitespace character starts inside another
@@ -183,37 +183,6 @@ module _ (s : List ℕ) (i e : ℕ) where
   plain_end r f t = sym (eqb-true (trim_end s i e) e (f.holds t))
 
 pub ruleset ending_plainly = (rules, nothing_told, told_by_last_byte, plain_end)
-
--- ---- at the start
-
-module _ (s : List ℕ) (i e k : ℕ) (f : Between i (length s) (skip_whitespace s i) k) where
-  pub start_before : k ≤ e → Between i e (trim_start s i e) k
-  unfolding trim_start
-  start_before h = record { is = rw (← f.is) (omega arith); from = f.from; to = h }
-
-  pub start_past : e < k → i ≤ e → Between i e (trim_start s i e) e
-  unfolding trim_start
-  start_past h l = record { is = rw (← f.is) (omega arith); from = l; to = le_refl e }
-
-pub ruleset trimming_start = (rules, start_before, start_past)
-
--- ---- backslashes in front of u, counted down to i
-
-abbrev no_backslash : List ℕ → ℕ → Bool
-no_backslash s k = not (eqb (byte s k) 0x5c)
-
-module _ (s : List ℕ) (i u k : ℕ) (before : last (no_backslash s) i u ≡ last (no_backslash s) i k) where
-  pub backslash_found : i < k → k ≤ u → (byte s (k - 1) ≡ 0x5c → ⊥) → u - k ≡ backslashes_before s i u
-  unfolding backslashes_before backslashes_behind
-  backslash_found h l d =
-      let q : u - k ≡ u - (k - 1 + 1) = omega arith in
-      q ∙ ap (backslashes_behind i u) (last_found (no_backslash s) i k u before h (unequal (byte s (k - 1)) 0x5c d))
-
-  pub backslash_ended : k ≤ i → u - i ≡ backslashes_before s i u
-  unfolding backslashes_before backslashes_behind
-  backslash_ended h = ap (backslashes_behind i u) (last_ended (no_backslash s) i k u before h)
-
-pub ruleset counting = (rules, last_again, equal, unequal, backslash_found, backslash_ended)
 
 -- ---- the pattern's end; its trailing whitespace starts at u
 

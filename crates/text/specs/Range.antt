@@ -1,7 +1,5 @@
 -- Ranges of a text, and whether two are the same bytes.
-use Rattle.std.specs.Prelude.{◌≡◌, Bool, true, false, ◌&&◌, cond, List, [], ◌∷◌, ℕ, ◌+◌, ◌-◌, eqb, length, take, drop}
-use Rattle.characters.specs.declared.Found.{Found}
-use Rattle.characters.specs.declared.Found.TheVariants.{At, Nothing}
+use Rattle.std.specs.Prelude.{◌≡◌, Bool, true, false, ◌&&◌, cond, List, [], ◌∷◌, ℕ, ◌+◌, ◌-◌, eqb, length, take, drop, Option, Some, None}
 
 -- the bytes from a to before e
 unfoldable pub part : List ℕ → ℕ → ℕ → List ℕ
@@ -23,5 +21,5 @@ abbrev pub SameRests : List ℕ → ℕ → List ℕ → ℕ → ℕ → ℕ →
 SameRests s a t c n i k = same_range s (a + i) (a + n) t (c + i) (c + n) ≡ same_range s (a + k) (a + n) t (c + k) (c + n)
 
 -- behind the bytes w, if they stand at i
-unfoldable pub lookahead_is : List ℕ → List ℕ → ℕ → Found
-lookahead_is s w i = cond (same_bytes (part s i (i + length w)) w) (At (i + length w)) Nothing
+unfoldable pub lookahead_is : List ℕ → List ℕ → ℕ → Option ℕ
+lookahead_is s w i = cond (same_bytes (part s i (i + length w)) w) (Some (i + length w)) None

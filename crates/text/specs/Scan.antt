@@ -1,10 +1,8 @@
 -- The scanners that declarations and rules are read with, each one walk (01, Declarations and Rules).
-use Rattle.std.specs.Prelude.{cond, not, List, ℕ, ◌+◌, ◌-◌, ◌%◌, min, eqb, leb, length}
+use Rattle.std.specs.Prelude.{cond, not, List, ℕ, ◌+◌, ◌-◌, ◌%◌, min, eqb, leb, length, Option, Some, None}
 use Rattle.characters.specs.Class.{is_blank, is_ascii_whitespace}
 use Rattle.characters.specs.Walk.{first, last, skip}
 use Rattle.characters.specs.Whitespace.{byte, whitespace_len, line_end_len, at_whitespace, at_line_end}
-use Rattle.characters.specs.declared.Found.{Found}
-use Rattle.characters.specs.declared.Found.TheVariants.{At, Nothing}
 
 -- past the whitespace characters at i: no more of them than bytes (01, Declarations)
 abbrev pub skip_whitespace : List ℕ → ℕ → ℕ
@@ -43,7 +41,7 @@ abbrev pub find_byte : List ℕ → ℕ → ℕ → ℕ → ℕ
 find_byte s i e b = first (λ k. eqb (byte s k) b) i e
 
 -- the last space or tab from i to before e (01, Rules)
-abbrev pub last_blank : List ℕ → ℕ → ℕ → Found
+abbrev pub last_blank : List ℕ → ℕ → ℕ → Option ℕ
 last_blank s i e = last (λ k. is_blank (byte s k)) i e
 
 -- where the text from i to e starts without its leading whitespace (01, Declarations and Rules)
@@ -55,9 +53,9 @@ unfoldable pub trim_end : List ℕ → ℕ → ℕ → ℕ
 trim_end s i e = first (λ k. leb e (skip_whitespace s k)) i e
 
 -- from the last byte that is no backslash, of those from i to u: how many bytes stand behind it
-unfoldable pub backslashes_behind : ℕ → ℕ → Found → ℕ
-backslashes_behind i u Nothing = u - i
-backslashes_behind i u (At q) = u - (q + 1)
+unfoldable pub backslashes_behind : ℕ → ℕ → Option ℕ → ℕ
+backslashes_behind i u None = u - i
+backslashes_behind i u (Some q) = u - (q + 1)
 
 -- how many backslashes stand in front of u, from i on (01, Rules)
 unfoldable pub backslashes_before : List ℕ → ℕ → ℕ → ℕ

@@ -2,26 +2,19 @@
 ghost use Rattle.std.specs.Prelude.{◌≡◌, ◌+◌, ◌-◌, ◌≤◌, ◌<◌, min, length};
 ghost use Rattle.text.specs.Range.{same_range, SameRests, lookahead_is};
 
-use characters::Found;
+use characters::walk::{any_of, find};
 
 // How many bytes are compared together, and how many of long ranges.
 const BLOCK: usize = 8;
 
 const WIDE_BLOCK: usize = 64;
 
-// Whether the n bytes of s from a on are those of t from c on. It looks at every byte whatever it finds, so that the compiler can take many at
-// once.
+// Whether the n bytes of s from a on are those of t from c on.
 fn same_bytes(s: &[u8], a: usize, t: &[u8], c: usize, n: usize) -> bool
     requires { (a + n ≤ length s.now) × (c + n ≤ length t.now) }
     ensures { result ≡ same_range s.now a (a + n) t.now c (c + n) }
 {
-    let mut same = true;
-    let mut j = 0;
-    while j < n {
-        same = same & (s[a + j] == t[c + j]);
-        j += 1;
-    }
-    same
+    !any_of(n, |j| s[a + j] != t[c + j])
 }
 
 // The same of the bytes behind the first i of the n, one by one up to the first that differs.
@@ -29,14 +22,7 @@ fn same_rest(s: &[u8], a: usize, t: &[u8], c: usize, n: usize, i: usize) -> bool
     requires { (i ≤ n) × (a + n ≤ length s.now) × (c + n ≤ length t.now) }
     ensures { result ≡ same_range s.now (a + i) (a + n) t.now (c + i) (c + n) }
 {
-    let mut j = i;
-    while j < n {
-        if s[a + j] != t[c + j] {
-            return false;
-        }
-        j += 1;
-    }
-    true
+    find(i, n, |j| s[a + j] != t[c + j]) == n
 }
 
 // Past the blocks of that width, behind the first i of the n bytes, that are the same. Few bytes are looked at where ranges differ early.
@@ -68,16 +54,7 @@ fn same_blocks(s: &[u8], a: usize, t: &[u8], c: usize, n: usize) -> bool
 pub fn part_len(n: usize, a: usize, e: usize) -> usize
     ensures { result ≡ min (e - a) (n - a) }
 {
-    if e <= a {
-        return 0;
-    }
-    if n <= a {
-        return 0;
-    }
-    if e < n {
-        return e - a;
-    }
-    n - a
+    e.saturating_sub(a).min(n.saturating_sub(a))
 }
 
 // The same of ranges that lie in their texts. Their last bytes are asked first, since names that begin alike differ at their ends.
@@ -89,10 +66,8 @@ fn same_inside(s: &[u8], a: usize, e: usize, t: &[u8], c: usize, d: usize) -> bo
     if n != d - c {
         return false;
     }
-    if 0 < n {
-        if s[e - 1] != t[d - 1] {
-            return false;
-        }
+    if 0 < n && s[e - 1] != t[d - 1] {
+        return false;
     }
     same_blocks(s, a, t, c, n)
 }
@@ -117,29 +92,23 @@ fn same_cut(s: &[u8], a: usize, e: usize, t: &[u8], c: usize, d: usize) -> bool
 pub fn same_range(s: &[u8], a: usize, e: usize, t: &[u8], c: usize, d: usize) -> bool
     ensures { result ≡ same_range s.now a e t.now c d }
 {
-    if a <= e {
-        if e <= s.len() {
-            if c <= d {
-                if d <= t.len() {
-                    return same_inside(s, a, e, t, c, d);
-                }
-            }
-        }
+    if a <= e && e <= s.len() && c <= d && d <= t.len() {
+        return same_inside(s, a, e, t, c, d);
     }
     same_cut(s, a, e, t, c, d)
 }
 
 // Behind the bytes of word, if they stand at i.
-pub fn lookahead_is(s: &[u8], word: &[u8], i: usize) -> Found
+pub fn lookahead_is(s: &[u8], word: &[u8], i: usize) -> Option<usize>
     requires { i ≤ length s.now }
     ensures { result ≡ lookahead_is s.now word.now i }
 {
     let n = word.len();
     if s.len() - i < n {
-        return Found::Nothing;
+        return None;
     }
     if same_bytes(s, i, word, 0, n) {
-        return Found::At(i + n);
+        return Some(i + n);
     }
-    Found::Nothing
+    None
 }

@@ -4,14 +4,13 @@ ghost use Rattle.characters.specs.Class.{is_blank};
 ghost use Rattle.characters.specs.Shortcuts.{RulesOut, Tells};
 ghost use Rattle.characters.specs.Walk.{Between, any};
 ghost use Rattle.characters.specs.Whitespace.{byte, at_line_end};
-ghost use Rattle.characters.specs.declared.Found.TheVariants.{At, Nothing};
 ghost use Rattle.text.specs.Scan.{skip_whitespace, skip_line_ends, skip_blanks, find_line_end, line_end, find_whitespace, skip_ascii_whitespace};
 ghost use Rattle.text.specs.Scan.{find_ascii_whitespace, find_byte, last_blank, trim_start, trim_end, backslashes_before, trim_end_unescaped};
 
-use characters::Found;
 use characters::class::{
     is_ascii_whitespace, is_blank, may_be_blank, may_be_whitespace, may_end_line,
 };
+use characters::walk::{any_of, find, find_last, skip};
 use characters::whitespace::{at_line_end, line_end_len, matches_whitespace, whitespace_len};
 
 // How many bytes are looked at together.
@@ -25,14 +24,7 @@ pub fn parse_ws(s: &[u8], i: usize) -> usize
     requires { i ≤ length s.now }
     ensures { Between i (length s.now) (skip_whitespace s.now i) result }
 {
-    let mut k = i;
-    loop {
-        let n = whitespace_len(s, k);
-        if n == 0 {
-            return k;
-        }
-        k += n;
-    }
+    skip(i, s.len(), |k| whitespace_len(s, k))
 }
 
 // Past the line ends at i.
@@ -40,14 +32,7 @@ pub fn parse_nl(s: &[u8], i: usize) -> usize
     requires { i ≤ length s.now }
     ensures { Between i (length s.now) (skip_line_ends s.now i) result }
 {
-    let mut k = i;
-    loop {
-        let n = line_end_len(s, k);
-        if n == 0 {
-            return k;
-        }
-        k += n;
-    }
+    skip(i, s.len(), |k| line_end_len(s, k))
 }
 
 // Past the blanks at i.
@@ -55,14 +40,7 @@ pub fn parse_spaces(s: &[u8], i: usize) -> usize
     requires { i ≤ length s.now }
     ensures { Between i (length s.now) (skip_blanks s.now i) result }
 {
-    let mut k = i;
-    while k < s.len() {
-        if !is_blank(s[k]) {
-            return k;
-        }
-        k += 1;
-    }
-    k
+    find(i, s.len(), |k| !is_blank(s[k]))
 }
 
 // The first line end from i to before e, or e. Most bytes start none.
@@ -70,30 +48,15 @@ fn find_line_end(s: &[u8], i: usize, e: usize) -> usize
     requires { (i ≤ e) × (e ≤ length s.now) }
     ensures { Between i e (find_line_end s.now i e) result }
 {
-    let mut k = i;
-    while k < e {
-        if may_end_line(s[k]) {
-            if at_line_end(s, k) {
-                return k;
-            }
-        }
-        k += 1;
-    }
-    k
+    find(i, e, |k| may_end_line(s[k]) && at_line_end(s, k))
 }
 
-// Whether one of the 16 bytes from i on may start a line end. It looks at all of them, so that the compiler can take them at once.
+// Whether one of the 16 bytes from i on may start a line end.
 fn block_may_end_line(s: &[u8], i: usize) -> bool
     requires { i + 16 ≤ length s.now }
     ensures { RulesOut (any (λ j. at_line_end s.now (i + j)) 16) result }
 {
-    let mut found = false;
-    let mut j = 0;
-    while j < BLOCK {
-        found = found | may_end_line(s[i + j]);
-        j += 1;
-    }
-    found
+    any_of(BLOCK, |j| may_end_line(s[i + j]))
 }
 
 // Where the line ends that i stands in. Blocks without a candidate are passed at once.
@@ -120,70 +83,36 @@ pub fn find_whitespace(s: &[u8], i: usize, e: usize) -> usize
     requires { (i ≤ e) × (e ≤ length s.now) }
     ensures { Between i e (find_whitespace s.now i e) result }
 {
-    let mut k = i;
-    while k < e {
-        if matches_whitespace(s, k) {
-            return k;
-        }
-        k += 1;
-    }
-    k
+    find(i, e, |k| matches_whitespace(s, k))
 }
 
 pub fn skip_ascii_whitespace(s: &[u8], i: usize, e: usize) -> usize
     requires { (i ≤ e) × (e ≤ length s.now) }
     ensures { Between i e (skip_ascii_whitespace s.now i e) result }
 {
-    let mut k = i;
-    while k < e {
-        if !is_ascii_whitespace(s[k]) {
-            return k;
-        }
-        k += 1;
-    }
-    k
+    find(i, e, |k| !is_ascii_whitespace(s[k]))
 }
 
 pub fn find_ascii_whitespace(s: &[u8], i: usize, e: usize) -> usize
     requires { (i ≤ e) × (e ≤ length s.now) }
     ensures { Between i e (find_ascii_whitespace s.now i e) result }
 {
-    let mut k = i;
-    while k < e {
-        if is_ascii_whitespace(s[k]) {
-            return k;
-        }
-        k += 1;
-    }
-    k
+    find(i, e, |k| is_ascii_whitespace(s[k]))
 }
 
 pub fn find_byte(s: &[u8], i: usize, e: usize, b: u8) -> usize
     requires { (i ≤ e) × (e ≤ length s.now) }
     ensures { Between i e (find_byte s.now i e b) result }
 {
-    let mut k = i;
-    while k < e {
-        if s[k] == b {
-            return k;
-        }
-        k += 1;
-    }
-    k
+    find(i, e, |k| s[k] == b)
 }
 
-// Whether one of the n bytes from i on may be a blank. It looks at all of them, so that the compiler can take them at once.
+// Whether one of the n bytes from i on may be a blank.
 fn may_have_blank(s: &[u8], i: usize, n: usize) -> bool
     requires { i + n ≤ length s.now }
     ensures { RulesOut (any (λ j. is_blank (byte s.now (i + j))) n) result }
 {
-    let mut found = false;
-    let mut j = 0;
-    while j < n {
-        found = found | may_be_blank(s[i + j]);
-        j += 1;
-    }
-    found
+    any_of(n, |j| may_be_blank(s[i + j]))
 }
 
 // Down from e past the blocks of that width in which no blank stands. That i is within the text, and a block short, keeps i + block in range.
@@ -202,47 +131,23 @@ fn past_blankless(s: &[u8], i: usize, e: usize, block: usize) -> usize
     k
 }
 
-// How many bytes before e, from i on, are no blanks: all of them, or those behind the last blank.
-fn plain_tail(s: &[u8], i: usize, e: usize) -> usize
-    requires { (i ≤ e) × (e ≤ length s.now) }
-    ensures { (result ≤ e - i) × (last_blank s.now i e ≡ cond (eqb (e - result) i) Nothing (At (e - result - 1))) }
-{
-    let most = e - i;
-    let mut n = 0;
-    while n < most {
-        if is_blank(s[e - n - 1]) {
-            return n;
-        }
-        n += 1;
-    }
-    n
-}
-
 // The last space or tab from i to before e. Blocks without a candidate are passed at once, wide ones first.
-pub fn last_blank(s: &[u8], i: usize, e: usize) -> Found
+pub fn last_blank(s: &[u8], i: usize, e: usize) -> Option<usize>
     requires { e ≤ length s.now }
     ensures { result ≡ last_blank s.now i e }
 {
     if e <= i {
-        return Found::Nothing;
+        return None;
     }
     let k = past_blankless(s, i, past_blankless(s, i, e, WIDE_BLOCK), BLOCK);
-    let n = plain_tail(s, i, k);
-    if k - n == i {
-        return Found::Nothing;
-    }
-    Found::At(k - n - 1)
+    find_last(i, k, |j| is_blank(s[j]))
 }
 
 pub fn trim_start(s: &[u8], i: usize, e: usize) -> usize
     requires { (i ≤ e) × (e ≤ length s.now) }
     ensures { Between i e (trim_start s.now i e) result }
 {
-    let k = parse_ws(s, i);
-    if k <= e {
-        return k;
-    }
-    e
+    parse_ws(s, i).min(e)
 }
 
 // Whether the text from i to e ends with a byte that no whitespace character has, as most do: then nothing is trimmed.
@@ -288,15 +193,10 @@ fn backslashes_before(s: &[u8], i: usize, u: usize) -> usize
     requires { (i ≤ u) × (u ≤ length s.now) }
     ensures { result ≡ backslashes_before s.now i u }
 {
-    let mut k = u;
-    while i < k {
-        let j = k - 1;
-        if s[j] != 0x5c {
-            return u - k;
-        }
-        k = j;
+    match find_last(i, u, |k| s[k] != b'\\') {
+        Some(q) => u - (q + 1),
+        None => u - i,
     }
-    u - i
 }
 
 // Where a pattern from i to e ends without its trailing whitespace, of which an escaped character stays.

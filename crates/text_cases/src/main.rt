@@ -4,123 +4,102 @@
 
 ghost use Rattle.std.specs.Prelude.{◌≤◌, length};
 
-use characters::Found;
 use characters::utf8::utf8;
 use characters::whitespace::matches_whitespace;
-use streams::read_full;
+use std::fmt;
+use streams::{read_full, say, show_texts};
 use text::range::{lookahead_is, same_range};
 use text::scan::{
     find_ascii_whitespace, find_byte, find_whitespace, last_blank, line_end, parse_nl,
     parse_spaces, parse_ws, skip_ascii_whitespace, trim_end, trim_end_unescaped, trim_start,
 };
 
+// A place that was found, or none.
+#[derive(Drop)]
+struct Place(Option<usize>);
+
+impl fmt::Display for Place {
+    fn fmt<W: fmt::Write>(&self, f: &mut fmt::Formatter<W>) -> fmt::Result {
+        match self.0 {
+            Some(k) => write!(f, "{k}"),
+            None => write!(f, "-"),
+        }
+    }
+}
+
+// An offset of a text. Displayed, it is what the scanners answer there.
+#[derive(Drop)]
+struct Offset<'a> {
+    text: &'a [u8],
+    at: usize,
+    ghost inside: { at ≤ length text.now },
+}
+
+impl<'a> Offset<'a> {
+    // What stands there.
+    fn skips<W: fmt::Write>(&self, f: &mut fmt::Formatter<W>) -> fmt::Result {
+        let white = u8::from(matches_whitespace(self.text, self.at));
+        let ws = parse_ws(self.text, self.at);
+        let nl = parse_nl(self.text, self.at);
+        let spaces = parse_spaces(self.text, self.at);
+        let end = line_end(self.text, self.at);
+        write!(f, " {white} {ws} {nl} {spaces} {end}")
+    }
+
+    // What follows, up to the end of the text.
+    fn finds<W: fmt::Write>(&self, f: &mut fmt::Formatter<W>) -> fmt::Result {
+        let e = self.text.len();
+        let whitespace = find_whitespace(self.text, self.at, e);
+        let skipped = skip_ascii_whitespace(self.text, self.at, e);
+        let ascii = find_ascii_whitespace(self.text, self.at, e);
+        let byte = find_byte(self.text, self.at, e, b'<');
+        write!(f, " {whitespace} {skipped} {ascii} {byte}")
+    }
+
+    // The text from there on, trimmed, and the text up to there.
+    fn trims<W: fmt::Write>(&self, f: &mut fmt::Formatter<W>) -> fmt::Result {
+        let e = self.text.len();
+        let start = trim_start(self.text, self.at, e);
+        let end = trim_end(self.text, self.at, e);
+        let unescaped = trim_end_unescaped(self.text, 0, self.at);
+        let blank = Place(last_blank(self.text, 0, self.at));
+        write!(f, " {start} {end} {unescaped} {blank}")
+    }
+
+    // What stands there or up to there, and whether that is well formed.
+    fn words<W: fmt::Write>(&self, f: &mut fmt::Formatter<W>) -> fmt::Result {
+        let ahead = Place(lookahead_is(self.text, b"%%", self.at));
+        let same = u8::from(same_range(self.text, 0, self.at, b"%x", 0, 2));
+        let formed = u8::from(utf8(&self.text[..self.at]));
+        write!(f, " {ahead} {same} {formed}")
+    }
+}
+
+impl<'a> fmt::Display for Offset<'a> {
+    fn fmt<W: fmt::Write>(&self, f: &mut fmt::Formatter<W>) -> fmt::Result {
+        write!(f, "{}", self.at)?;
+        self.skips(f)?;
+        self.finds(f)?;
+        self.trims(f)?;
+        self.words(f)
+    }
+}
+
 // What cannot be written is left out.
-fn say(rt: &impl Print, word: &[u8]) {
-    let _ = rt.write_all(word);
-}
-
-fn print(rt: &impl Print, n: usize) {
-    let _ = print!(rt; " {n}");
-}
-
-fn print_found(rt: &impl Print, f: Found) {
-    match f {
-        Found::At(k) => print(rt, k),
-        Found::Nothing => say(rt, b" -"),
-    }
-}
-
-fn print_bool(rt: &impl Print, b: bool) {
-    if b {
-        print(rt, 1);
-    } else {
-        print(rt, 0);
-    }
-}
-
-// What stands at i.
-fn skips(rt: &impl Print, s: &[u8], i: usize)
-    requires { i ≤ length s.now }
-{
-    print_bool(rt, matches_whitespace(s, i));
-    print(rt, parse_ws(s, i));
-    print(rt, parse_nl(s, i));
-    print(rt, parse_spaces(s, i));
-    print(rt, line_end(s, i));
-}
-
-// What follows i, up to the end of the text.
-fn finds(rt: &impl Print, s: &[u8], i: usize)
-    requires { i ≤ length s.now }
-{
-    let e = s.len();
-    print(rt, find_whitespace(s, i, e));
-    print(rt, skip_ascii_whitespace(s, i, e));
-    print(rt, find_ascii_whitespace(s, i, e));
-    print(rt, find_byte(s, i, e, b'<'));
-}
-
-// The text from i on, trimmed, and the text up to i.
-fn trims(rt: &impl Print, s: &[u8], i: usize)
-    requires { i ≤ length s.now }
-{
-    let e = s.len();
-    print(rt, trim_start(s, i, e));
-    print(rt, trim_end(s, i, e));
-    print(rt, trim_end_unescaped(s, 0, i));
-    print_found(rt, last_blank(s, 0, i));
-}
-
-fn words(rt: &impl Print, s: &[u8], i: usize)
-    requires { i ≤ length s.now }
-{
-    print_found(rt, lookahead_is(s, b"%%", i));
-    print_bool(rt, same_range(s, 0, i, b"%x", 0, 2));
-}
-
-// Whether the text up to i is well formed.
-fn prefix(rt: &impl Print, s: &[u8], i: usize)
-    requires { i ≤ length s.now }
-{
-    print_bool(rt, utf8(&s[0..i]));
-    say(rt, b"\n");
-}
-
 fn show(rt: &impl Print, s: &[u8]) {
+    say(rt, b"text\n");
     if !utf8(s) {
         say(rt, b"not text\n");
         return;
     }
-    let mut i = 0;
-    while i <= s.len() {
-        let _ = rt.print(i);
-        skips(rt, s, i);
-        finds(rt, s, i);
-        trims(rt, s, i);
-        words(rt, s, i);
-        prefix(rt, s, i);
-        if i == s.len() {
-            return;
-        }
-        i += 1;
-    }
-}
-
-fn show_all(rt: &impl Print, s: &[u8]) {
-    let mut from = 0;
-    while from < s.len() {
-        let to = find_byte(s, from, s.len(), 0);
-        say(rt, b"text\n");
-        show(rt, &s[from..to]);
-        if to == s.len() {
-            return;
-        }
-        from = to + 1;
+    for i in 0..=s.len() {
+        let offset = Offset { text: s, at: i };
+        let _ = println!(rt; "{offset}");
     }
 }
 
 fn main(rt: HostRuntime) {
     let mut buffer = [0u8; 4096];
     let n = read_full(&mut rt.stdin(), &mut buffer);
-    show_all(&rt, &buffer[0..n]);
+    show_texts(&buffer[..n], |text| show(&rt, text));
 }

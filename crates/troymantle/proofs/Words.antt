@@ -4,9 +4,10 @@ use mathlib.Core.List.{List}
 use Prim.Native.Nat.{ℕ}
 use Rattle.parse.specs.declared.Answer.{Answer}
 use Rattle.parse.specs.Parse.{Left, left, parse_word}
-use Rattle.link.specs.declared.LinkAnswer.{LinkAnswer}
-use Rattle.link.specs.Link.{LinkLeft, link_left, link_word}
-use Rattle.lines.specs.declared.LineColumn.{LineColumn}
+use Rattle.link.specs.Link.{LinkAnswer, LinkLeft, link_left, link_word}
+use Rattle.std.specs.Prelude.{Result}
+use Rattle.lines.specs.declared.Place.{Place}
+use Rattle.lines.specs.declared.PlaceError.{PlaceError}
 use Rattle.lines.specs.Lines.{line_column, line_column_word, place_left, line_column_left, line_column_call}
 use Rattle.run.specs.declared.Run.{Run}
 use Rattle.run.specs.Run.{RunLeft, run_left, leaving}
@@ -22,12 +23,12 @@ pub word_link_left : (a : LinkAnswer) (r : ℕ) → r ≡ link_word a → (x2 x7
 word_link_left a r w x2 x7 x8 y e = ap (λ (k : ℕ). link_in_words k x2 x7 x8) w ∙ ap in_link_words e
 
 -- of the start call and of the step call
-pub word_run_left : {A : Type 0} (word_of : A → ℕ) (a : A) (w : ℕ) → w ≡ word_of a → (r : Run) (s : List ℕ) (y : RunLeft A)
-    → run_left a r s ≡ y → run_left w r s ≡ leaving (word_of y.answer) y.after
-word_run_left {A} word_of a w h r s y e = ap (λ (k : ℕ). run_left k r s) h ∙ ap (λ (x : RunLeft A). leaving (word_of x.answer) x.after) e
+pub word_run_left : {A : Type 0} (word_of : A → ℕ) (a : A) (w : ℕ) (r q : Run) (s : List ℕ) (y : RunLeft A)
+    → w ≡ word_of a → q ≡ r → run_left a r s ≡ y → run_left w q s ≡ leaving (word_of y.answer) y.after
+word_run_left {A} word_of a w r q s y h same e = (λ i. run_left (h i) (same i) s) ∙ ap (λ (x : RunLeft A). leaving (word_of x.answer) x.after) e
 
 -- of the line_column call
-pub word_place_left : (s : List ℕ) (b : ℕ) (was : List ℕ) (x : LineColumn) (w : ℕ) (l : List ℕ)
+pub word_place_left : (s : List ℕ) (b : ℕ) (was : List ℕ) (x : Result Place PlaceError) (w : ℕ) (l : List ℕ)
     → x ≡ line_column s b → w ≡ line_column_word x → l ≡ place_left x was → line_column_left w l ≡ line_column_call s b was
 word_place_left s b was x w l is h e =
-    (λ i. line_column_left (h i) (e i)) ∙ ap (λ (y : LineColumn). line_column_left (line_column_word y) (place_left y was)) is
+    (λ i. line_column_left (h i) (e i)) ∙ ap (λ (y : Result Place PlaceError). line_column_left (line_column_word y) (place_left y was)) is

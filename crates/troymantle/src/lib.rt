@@ -10,7 +10,7 @@ ghost use Rattle.troymantle.specs.Words.{in_words};
 ghost use Rattle.troymantle.specs.Phrases.{words_left_in};
 
 use parse::call::parse;
-use words::parse_word;
+use words::Word;
 
 pub mod linking;
 pub mod pattern;
@@ -18,6 +18,7 @@ pub mod places;
 pub mod running;
 
 // Reads a lex file into six areas. On refusal the areas and counts are zero, but for the fault spans of number 5.
+#[tactic(auto, using(crate::proofs::Words::word_left))]
 pub fn troymantle_parse(
     src: &[u8],
     flags: u64,
@@ -33,7 +34,8 @@ pub fn troymantle_parse(
     ensures { words_left_in result counts area1 area2 area3 area4 area5 area6
         ≡ in_words (parse_call (asked src.now flags verdicts.now) (room_in area1 area2 area3 area4 area5 area6)) }
 {
-    parse_word(parse(
+    let answer = parse(
         src, flags, verdicts, counts, area1, area2, area3, area4, area5, area6,
-    ))
+    );
+    Word::from(answer).0
 }

@@ -6,9 +6,10 @@ ghost use Rattle.area.specs.Phrases.{before, after};
 ghost use Rattle.troymantle.specs.LinkWords.{in_link_words, link_in_words};
 
 use link::call::set_rule_ids_spanned;
-use words::link_word;
+use words::Word;
 
 // Gives the named rules of a sheet the ids of a map. A refusal changes nothing.
+#[tactic(auto, using(crate::proofs::Words::word_link_left))]
 pub fn troymantle_link(
     src: &[u8],
     area1: &[u8],
@@ -25,7 +26,8 @@ pub fn troymantle_link(
     ensures { link_in_words result area2.new area7.new area8.new
         ≡ in_link_words (link_call (sheet_in src.now area1.now area2.old area3.now area4.now area5.now counts.now) names.now entries.now area7.old area8.old) }
 {
-    link_word(set_rule_ids_spanned(
+    let answer = set_rule_ids_spanned(
         src, area1, area2, area3, area4, area5, counts, names, entries, area7, area8,
-    ))
+    );
+    Word::from(answer).0
 }

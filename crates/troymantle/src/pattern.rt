@@ -3,8 +3,9 @@ ghost use Rattle.std.specs.Prelude.{◌≡◌};
 ghost use Rattle.sheet_check.specs.Pattern.{pattern_part, number_of, pattern_word};
 ghost use Rattle.sheet_check.specs.Phrases.{sheet_in};
 
+use sheet_check::Sheet;
 use sheet_check::pattern::{locate, pattern_test};
-use words::pattern_word;
+use words::Word;
 
 // Where the text of a rule stands: its place, from where, and its length; or number 6.
 pub fn troymantle_pattern(
@@ -19,7 +20,17 @@ pub fn troymantle_pattern(
 ) -> u64
     ensures { result ≡ pattern_word (pattern_part (sheet_in src.now area1.now area2.now area3.now area4.now area5.now counts.now) rule) }
 {
-    pattern_word(locate(src, area1, area2, area3, area4, area5, counts, rule))
+    let sheet = Sheet {
+        source: src,
+        states: area1,
+        rules: area2,
+        entries: area3,
+        text: area4,
+        expected: area5,
+        counts,
+    };
+    let part = locate(sheet, rule);
+    Word::from(part).0
 }
 
 // 0 where the rule has a text, and 6 where it has none.
@@ -35,5 +46,14 @@ pub fn troymantle_pattern_test(
 ) -> u64
     ensures { result ≡ number_of (pattern_part (sheet_in src.now area1.now area2.now area3.now area4.now area5.now counts.now) rule) }
 {
-    pattern_test(src, area1, area2, area3, area4, area5, counts, rule)
+    let sheet = Sheet {
+        source: src,
+        states: area1,
+        rules: area2,
+        entries: area3,
+        text: area4,
+        expected: area5,
+        counts,
+    };
+    pattern_test(sheet, rule)
 }

@@ -1,68 +1,40 @@
 // The start call and the step call (01, The run).
 ghost use Rattle.std.specs.Prelude.{◌≡◌};
 ghost use Rattle.run.specs.Run.{running, input, run_left, start_call, step_call};
-ghost use Rattle.sheet_check.specs.Phrases.{sheet_in};
+ghost use Rattle.sheet_check.specs.Phrases.{lent_sheet, sheet_in};
 ghost use Rattle.area.specs.Phrases.{before, after};
 ghost use Rattle.troymantle.specs.RunWords.{start_in_words, step_in_words};
 
-use run::Run;
 use run::call::{start, step};
-use words::{start_word, step_word};
+use run::{After, Run};
+use sheet_check::Sheet;
+use words::Word;
 
-// An answer's word, and the run's numbers after the call.
-#[derive(Clone, Copy)]
-pub struct Worded {
-    pub word: u64,
-    pub run: Run,
-}
-
-// The start call on a run by value.
-fn start_by_value(n: u64, r: Run, stack: &mut [u8]) -> Worded
-    ensures { run_left result.word result.run stack.new ≡ start_in_words (start_call n (running r stack.old)) }
+// The start call on a run by value, its answer as a word: what is lent a `&mut Run` stays thin.
+#[tactic(auto, using(crate::proofs::Words::word_run_left))]
+fn start_by_value(n: u64, r: Run, stack: &mut [u8]) -> After<Word>
+    ensures { run_left result.answer.0 result.run stack.new ≡ start_in_words (start_call n (running r stack.old)) }
 {
-    let begun = start(n, r, stack);
-    let answer = begun.answer;
-    let run = begun.run;
-    Worded {
-        word: start_word(answer),
-        run,
-    }
+    start(n, r, stack).map(Word::from)
 }
 
 // Begins a run over an entry of n bytes. A refusal changes nothing.
 pub fn troymantle_start(n: u64, run: &mut Run, stack: &mut [u8]) -> u64
     ensures { run_left result run.new stack.new ≡ start_in_words (start_call n (running run.old stack.old)) }
 {
-    let worded = start_by_value(n, *run, stack);
-    *run = worded.run;
-    worded.word
+    let after = start_by_value(n, *run, stack);
+    *run = after.run;
+    after.answer.0
 }
 
-// The step call on a run by value.
-fn step_by_value(
-    src: &[u8],
-    area1: &[u8],
-    area2: &[u8],
-    area3: &[u8],
-    area4: &[u8],
-    area5: &[u8],
-    counts: &[u16; 6],
-    r: Run,
-    stack: &mut [u8],
-    row: &[u8],
-) -> Worded
-    ensures { run_left result.word result.run stack.new
-        ≡ step_in_words (step_call (sheet_in src.now area1.now area2.now area3.now area4.now area5.now counts.now) (running r stack.old) (input row.now)) }
+// The step call likewise.
+#[tactic(auto, using(crate::proofs::Words::word_run_left))]
+fn step_by_value(sheet: Sheet, r: Run, stack: &mut [u8], row: &[u8]) -> After<Word>
+    ensures { run_left result.answer.0 result.run stack.new
+        ≡ step_in_words (step_call (lent_sheet sheet.entry) (running r stack.old) (input row.now)) }
 {
-    let stepped = step(
-        src, area1, area2, area3, area4, area5, counts, r, stack, row,
-    );
-    let answer = stepped.answer;
-    let run = stepped.run;
-    Worded {
-        word: step_word(answer),
-        run,
-    }
+    let after = step(sheet, r, stack, row);
+    after.map(Word::from)
 }
 
 // Moves a run on by a row, one length for each rule. A refusal changes nothing.
@@ -81,9 +53,16 @@ pub fn troymantle_step(
     ensures { run_left result
         run.new stack.new ≡ step_in_words (step_call (sheet_in src.now area1.now area2.now area3.now area4.now area5.now counts.now) (running run.old stack.old) (input row.now)) }
 {
-    let worded = step_by_value(
-        src, area1, area2, area3, area4, area5, counts, *run, stack, row,
-    );
-    *run = worded.run;
-    worded.word
+    let sheet = Sheet {
+        source: src,
+        states: area1,
+        rules: area2,
+        entries: area3,
+        text: area4,
+        expected: area5,
+        counts,
+    };
+    let after = step_by_value(sheet, *run, stack, row);
+    *run = after.run;
+    after.answer.0
 }

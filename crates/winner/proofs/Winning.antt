@@ -4,72 +4,64 @@ use mathlib.Core.Path.{◌≡◌, refl, sym, ap, ap₂, subst, ◌∙◌}
 use mathlib.Core.Bool.{Bool, true, false, cond, or-false}
 use mathlib.Core.List.{List}
 use mathlib.Core.Logic.{◌⊎◌, inl, inr}
-use Prim.Native.Nat.{ℕ, zero, suc, ◌+◌, ◌≤◌, ◌<◌, max}
+use Prim.Native.Nat.{ℕ, zero, suc, ◌+◌, ◌*◌, ◌≤◌, ◌<◌, max}
 use native.Mathlib.Numerals.{add-one}
 use native.Mathlib.Omega.{arith}
 use borrow.Author.Rules.{rules}
 use borrow.Author.Tests.{lt-ltb, le-ltb, ltb-true, ltb-false, eq-eqb, ne_eqb, eqb-true, eqb-false}
 use lib.Dec.{eqb, ltb}
+use lib.ListN.{length, get_or}
 use Rattle.characters.specs.Walk.{first}
 use Rattle.characters.proofs.Tests.{le_or_lt}
-use Rattle.characters.proofs.Walks.{first_none, first_found, first_again, first_ended, first_to}
+use Rattle.characters.proofs.Walks.{first_none, first_to}
 use Rattle.area.specs.declared.State.{State}
 use Rattle.area.specs.declared.Rule.{Rule}
-use Rattle.area.specs.Records.{state_at, rule_at, entry_at, nth_state, nth_rule, nth_entry}
-use Rattle.area.specs.Contents.{contents, state_format, rule_format, entry_format}
-use Rattle.area.proofs.Contents.{contents_read}
+use Rattle.area.specs.Records.{entry_width, rule_at, nth_state, nth_rule, nth_entry}
+use Rattle.area.specs.Asked.{FirstFound}
+use Rattle.area.specs.Contents.{contents, rule_format, entry_format}
+use Rattle.area.proofs.Contents.{contents_count, contents_read}
 use Rattle.winner.specs.declared.Best.{Best}
+use Rattle.winner.specs.declared.Row.{Row}
 use Rattle.winner.specs.Winner.{Lexer, find_in_list, list_end, in_list, live, length_in, weight, greatest, earliest, best, better}
-use Rattle.winner.specs.Phrases.{lexer_at, Readable}
+use Rattle.winner.specs.Phrases.{Readable, ListsInside}
 use Rattle.characters.proofs.Firsts.{first_passes, first_before, first_low, first_only}
-
--- ---- a state in a list
-
-module _ (l : List ℕ) (n from end state i : ℕ) (inside : end ≤ n)
-    (before : find_in_list (contents entry_format l n) from end state ≡ find_in_list (contents entry_format l n) i end state) where
-  entry_test : (x : ℕ) → x ≡ entry_at l i → i < end → eqb (nth_entry (contents entry_format l n) i) state ≡ eqb x state
-  entry_test x e h = ap (λ (y : ℕ). eqb y state) (contents_read entry_format l n i (omega arith) ∙ sym e)
-
-  pub state_found : (x : ℕ) → x ≡ entry_at l i → x ≡ state → i < end → i ≡ find_in_list (contents entry_format l n) from end state
-  unfolding find_in_list
-  state_found x e q h =
-      first_found (λ j. eqb (nth_entry (contents entry_format l n) j) state) from i end before h (entry_test x e h ∙ eq-eqb x state q)
-
-  pub state_again : (x : ℕ) → x ≡ entry_at l i → (x ≡ state → ⊥) → i < end
-      → find_in_list (contents entry_format l n) from end state ≡ find_in_list (contents entry_format l n) (i + 1) end state
-  unfolding find_in_list
-  state_again x e q h =
-      first_again (λ j. eqb (nth_entry (contents entry_format l n) j) state) from i end before h (entry_test x e h ∙ ne_eqb x state q)
-
-  pub state_ended : end ≤ i → i ≡ find_in_list (contents entry_format l n) from end state
-  unfolding find_in_list
-  state_ended h = first_ended (λ j. eqb (nth_entry (contents entry_format l n) j) state) from i end before h
-
-pub ruleset listing = (rules, state_found, state_again, state_ended)
 
 -- ---- a rule that is live
 
-module _ (l1 l3 : List ℕ) (states entries state : ℕ) (x : Rule) where
-  none_in_list : x.list_count ≡ 0 → in_list (contents entry_format l3 entries) state x ≡ false
+module _ (states : List State) (lists : List ℕ) (state : ℕ) (x : Rule) where
+  none_in_list : x.list_count ≡ 0 → in_list lists state x ≡ false
   unfolding in_list find_in_list
   none_in_list z =
       let h : list_end x ≤ x.list_from = omega (arith, z) in
-      let none = first_none (λ j. eqb (nth_entry (contents entry_format l3 entries) j) state) x.list_from (list_end x) h in
+      let none = first_none (λ j. eqb (nth_entry lists j) state) x.list_from (list_end x) h in
       ap (λ (j : ℕ). ltb j (list_end x)) (sym none) ∙ le-ltb x.list_from (list_end x) h
 
-  pub live_empty : x.list_count ≡ 0 → state < states → (s : State) → s ≡ state_at l1 state
-      → eqb s.exclusive 0 ≡ live (contents state_format l1 states) (contents entry_format l3 entries) state x
+  pub live_empty : x.list_count ≡ 0 → (s : State) → s ≡ nth_state states state → eqb s.exclusive 0 ≡ live states lists state x
   unfolding live
-  live_empty z g s e =
-      let q : s ≡ nth_state (contents state_format l1 states) state = e ∙ sym (contents_read state_format l1 states state g) in
-      rw (none_in_list z, eq-eqb x.list_count 0 z) (ap (λ (y : State). eqb y.exclusive 0) q)
+  live_empty z s e = rw (none_in_list z, eq-eqb x.list_count 0 z) (ap (λ (y : State). eqb y.exclusive 0) e)
 
-  pub live_listed : (x.list_count ≡ 0 → ⊥) → (i : ℕ) → i ≡ find_in_list (contents entry_format l3 entries) x.list_from (list_end x) state
-      → ltb i (list_end x) ≡ live (contents state_format l1 states) (contents entry_format l3 entries) state x
+  pub live_listed : (x.list_count ≡ 0 → ⊥) → (i : ℕ) → i ≡ find_in_list lists x.list_from (list_end x) state → ltb i (list_end x) ≡ live states lists state x
   unfolding live in_list
   live_listed z i is = rw (ne_eqb x.list_count 0 z, or-false) (ap (λ (j : ℕ). ltb j (list_end x)) is)
 
-pub ruleset living = (rules, live_empty, live_listed)
+-- the same, of rule k of a lexer that is seen by its parts
+module _ {states : List State} {rules : List Rule} {lists : List ℕ} {lexer : Lexer} (seen : record { states = states; rules = rules; lists = lists } ≡ lexer)
+    (state k : ℕ) {x : Rule} (read : x ≡ nth_rule rules k) where
+  rule_live : (t : Bool) → t ≡ live states lists state x → t ≡ live lexer.states lexer.lists state (nth_rule lexer.rules k)
+  rule_live t e = e ∙ ap (live states lists state) read ∙ ap (λ (y : Lexer). live y.states y.lists state (nth_rule y.rules k)) seen
+
+  pub rule_unlisted : x.list_count ≡ 0 → (s : State) → s ≡ nth_state states state
+      → eqb s.exclusive 0 ≡ live lexer.states lexer.lists state (nth_rule lexer.rules k)
+  rule_unlisted z s e = rule_live (eqb s.exclusive 0) (live_empty states lists state x z s e)
+
+  pub rule_listed : {post : ℕ → ℕ → Bool → Type 0} {i : ℕ} → (x.list_count ≡ 0 → ⊥) → FirstFound post 0 lists x.list_from (list_end x) i
+      → ((j id : ℕ) (b : Bool) → post j id b → b ≡ eqb id state)
+      → ltb i (list_end x) ≡ live lexer.states lexer.lists state (nth_rule lexer.rules k)
+  unfolding find_in_list
+  rule_listed {i = i} z found answers =
+      let is : i ≡ find_in_list lists x.list_from (list_end x) state =
+      found.is (λ j. eqb (nth_entry lists j) state) (λ j b _ _ p. answers j (get_or lists j 0) b p) in
+      rule_live (ltb i (list_end x)) (live_listed states lists state x z i is)
 
 -- ---- the better of two
 
@@ -233,29 +225,42 @@ module _ (x : Lexer) (state : ℕ) (row : List ℕ) where
   weights_low q n h =
       greatest_low (weight x state row) q n (λ k g. weight_under (live x.states x.lists state (nth_rule x.rules k)) (length_in row k) q (h k g))
 
+-- ---- the lengths of a row
+
+module _ (row : List ℕ) (n : ℕ) {lengths : List ℕ} (are : lengths ≡ contents entry_format row n) where
+  pub lengths_count : length lengths ≡ n
+  lengths_count = ap length are ∙ contents_count entry_format row n
+
+  pub length_read : (k : ℕ) → k < n → get_or lengths k 0 ≡ length_in row k
+  length_read k h = ap (λ (l : List ℕ). get_or l k 0) are ∙ contents_read entry_format row n k h
+
+-- a row that was made of some bytes: what holds of its parts holds of them
+module _ (rules : ℕ) (row : List ℕ) (x : Row) (made : (x.bytes.now ≡ row) × (x.rules ≡ rules)) where
+  pub of_row : (P : ℕ → List ℕ → Type 0) → P x.rules x.bytes.now → P rules row
+  of_row P h = subst (λ (n : ℕ). P n row) made.1 (subst (P x.rules) made.0 h)
+
+  pub long_row : length row ≡ rules * entry_width → length x.bytes.now ≡ x.rules * entry_width
+  long_row e = ap length made.0 ∙ e ∙ ap (λ (n : ℕ). n * entry_width) (sym made.1)
+
 -- ---- the scan of the rules
 
-module _ (l1 l2 l3 : List ℕ) (states rules entries state : ℕ) (row : List ℕ) where
-  pub scan_next : (k : ℕ) (b e : Best) (x : Rule) (bytes : ℕ) → k < rules
-      → b ≡ best (weight (lexer_at l1 l2 l3 states rules entries) state row) k
-      → x ≡ rule_at l2 k → bytes ≡ entry_at row k
-      → e ≡ better b k (cond (live (contents state_format l1 states) (contents entry_format l3 entries) state x) bytes 0)
-      → e ≡ best (weight (lexer_at l1 l2 l3 states rules entries) state row) (k + 1)
+module _ (x : Lexer) (state : ℕ) (row : List ℕ) where
+  pub scan_next : (k : ℕ) (b e : Best) (bytes : ℕ) → b ≡ best (weight x state row) k → bytes ≡ length_in row k
+      → e ≡ better b k (cond (live x.states x.lists state (nth_rule x.rules k)) bytes 0)
+      → e ≡ best (weight x state row) (k + 1)
   unfolding weight
-  scan_next k b e x bytes h q ex eb ee =
-      let f : ℕ → ℕ = weight (lexer_at l1 l2 l3 states rules entries) state row in
-      let w : cond (live (contents state_format l1 states) (contents entry_format l3 entries) state x) bytes 0 ≡ f k =
-      ap₂ (λ (y : Rule) (n : ℕ). cond (live (contents state_format l1 states) (contents entry_format l3 entries) state y) n 0)
-      (ex ∙ sym (contents_read rule_format l2 rules k h)) eb in
-      ee ∙ ap₂ (λ (y : Best) (n : ℕ). better y k n) q w ∙ best_next f k
+  scan_next k b e bytes q eb ee =
+      ee ∙ ap₂ (λ (y : Best) (n : ℕ). better y k (cond (live x.states x.lists state (nth_rule x.rules k)) n 0)) q eb ∙ best_next (weight x state row) k
 
-  pub scan_ended : (k : ℕ) (b : Best) → k ≤ rules → rules ≤ k
-      → b ≡ best (weight (lexer_at l1 l2 l3 states rules entries) state row) k
-      → b ≡ best (weight (lexer_at l1 l2 l3 states rules entries) state row) rules
-  scan_ended k b h g q =
-      q ∙ ap (best (weight (lexer_at l1 l2 l3 states rules entries) state row)) (omega arith)
+-- ---- a lexer that is lent
 
--- the list of a rule that was read lies inside the entries
-pub list_inside : {l1 l2 l3 : List ℕ} {states rules entries : ℕ} → Readable l1 l2 l3 states rules entries
-    → (k : ℕ) (x : Rule) → k < rules → x ≡ rule_at l2 k → x.list_from + x.list_count ≤ entries
-list_inside {entries = entries} g k x h e = subst (λ (y : Rule). y.list_from + y.list_count ≤ entries) (sym e) (g.lists k h)
+-- what areas hold that are long enough, with the list of each rule inside the entries
+pub lists_inside : {l1 l2 l3 : List ℕ} {states rules entries : ℕ} → Readable l1 l2 l3 states rules entries
+    → ListsInside (contents rule_format l2 rules) (contents entry_format l3 entries)
+lists_inside {l2 = l2} {l3 = l3} {rules = rules} {entries = entries} g = record {
+  each = λ k h.
+      let inside : k < rules = omega (arith, contents_count rule_format l2 rules, h) in
+      let z : list_end (rule_at l2 k) ≤ entries = g.lists k inside in
+      subst (λ (y : Rule). list_end y ≤ length (contents entry_format l3 entries)) (sym (contents_read rule_format l2 rules k inside))
+      (omega (arith, z, contents_count entry_format l3 entries));
+}

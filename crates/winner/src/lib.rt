@@ -1,14 +1,15 @@
 // The rule that wins: of those that are live the one with the greatest length, the earlier at a tie (01, The run).
 #![tactic(auto)]
 
-ghost use Rattle.std.specs.Prelude.{◌≡◌, cond, ◌+◌, ◌*◌, ◌≤◌, ◌<◌, max, length};
-ghost use Rattle.area.specs.Records.{state_width, entry_width};
-ghost use Rattle.area.specs.Contents.{contents, state_format, entry_format};
-ghost use Rattle.area.specs.Phrases.{before};
-ghost use Rattle.winner.specs.Winner.{find_in_list, live, length_in, weight, greatest, best, better, first_with};
-ghost use Rattle.winner.specs.Phrases.{lexer_in, Readable};
+ghost use Rattle.std.specs.Prelude.{◌≡◌, ◌&&◌, eqb, cond, ◌+◌, ◌*◌, ◌≤◌, ◌<◌, length};
+ghost use Rattle.area.specs.Contents.{contents, entry_format};
+ghost use Rattle.area.specs.Records.{entry_width, nth_rule};
+ghost use Rattle.winner.specs.Winner.{Lexer, live, length_in, weight, greatest, best, better, first_with};
+ghost use Rattle.winner.specs.Phrases.{lexer_in, Readable, winning};
 
-use area::{Rule, read_entry, read_rule, read_state};
+use area::list::Records;
+use area::{Rule, State};
+use std::marker::Model;
 
 // The greatest length among live rules, and the first rule that has it.
 #[derive(Clone, Copy)]
@@ -17,197 +18,174 @@ pub struct Best {
     pub rule: usize,
 }
 
-// ---- a rule that is live
+// ---- the row
 
-// Where a state stands among the list entries from one place to before another.
-fn find_in_list(area3: &[u8], entries: u16, from: usize, end: usize, state: u16) -> usize
-    requires { (from ≤ end) × (end ≤ entries) × (entries * entry_width ≤ length area3.now) }
-    ensures { result ≡ find_in_list (contents entry_format area3.now entries) from end state }
-{
-    let mut i = from;
-    while i < end {
-        if read_entry(area3, i) == state {
-            return i;
-        }
-        i += 1;
-    }
-    i
-}
-
-fn is_live(area1: &[u8], area3: &[u8], states: u16, entries: u16, state: u16, x: Rule) -> bool
-    requires list_count_bound { x.list_from + x.list_count ≤ entries }
-    requires entry_width_in_bounds { entries * entry_width ≤ length area3.now }
-    requires state_lt_states { (state < states) × (states * state_width ≤ length area1.now) }
-    ensures { result ≡ live (contents state_format area1.now states) (contents entry_format area3.now entries) state x }
-{
-    if x.list_count == 0 {
-        let s = read_state(area1, state as usize);
-        return s.exclusive == 0;
-    }
-    let from = x.list_from as usize;
-    let end = from + x.list_count as usize;
-    find_in_list(area3, entries, from, end, state) < end
-}
-
-// ---- the plain scan of all rules
-
-// The list of a rule is read only where its length would win.
-fn better_of(
-    area1: &[u8],
-    area3: &[u8],
-    states: u16,
-    entries: u16,
-    state: u16,
-    b: Best,
-    k: usize,
-    x: Rule,
-    bytes: u16,
-) -> Best
-    requires list_count_bound { x.list_from + x.list_count ≤ entries }
-    requires entry_width_in_bounds { entries * entry_width ≤ length area3.now }
-    requires state_lt_states { (state < states) × (states * state_width ≤ length area1.now) }
-    ensures { result ≡ better b k (cond (live (contents state_format area1.now states) (contents entry_format area3.now entries) state x) bytes 0) }
-{
-    if b.length < bytes {
-        if is_live(area1, area3, states, entries, state, x) {
-            return Best {
-                length: bytes,
-                rule: k,
-            };
-        }
-    }
-    b
-}
-
-fn longest(
-    area1: &[u8],
-    area2: &[u8],
-    area3: &[u8],
-    states: u16,
-    rules: u16,
-    entries: u16,
-    state: u16,
-    row: &[u8],
-) -> Best
-    requires readable { Readable area1.now area2.now area3.now states rules entries }
-    requires state_lt_states { state < states }
-    requires entry_width_in_bounds { rules * entry_width ≤ length row.now }
-    ensures { result ≡ best (weight (lexer_in area1.now area2.now area3.now states rules entries) state row.now) rules }
-{
-    let most = rules as usize;
-    let mut b = Best { length: 0, rule: 0 };
-    let mut k = 0;
-    while k < most {
-        let bytes = read_entry(row, k);
-        let x = read_rule(area2, k);
-        b = better_of(area1, area3, states, entries, state, b, k, x, bytes);
-        k += 1;
-    }
-    b
-}
-
-// ---- the greatest length of a row
-
-fn max(x: u16, y: u16) -> u16
-    ensures { result ≡ max x y }
-{
-    if x < y {
-        return y;
-    }
-    x
+// The lengths of a row, one for each of so many rules, and the greatest of them.
+#[derive(Clone, Copy)]
+pub struct Row<'a> {
+    pub bytes: &'a [u8],
+    pub rules: u16,
+    pub top: u16,
+    pub ghost long: { rules * entry_width ≤ length bytes.now },
+    pub ghost greatest_is: { top ≡ greatest (length_in bytes.now) rules },
 }
 
 pub fn greatest_length(row: &[u8], rules: u16) -> u16
     requires { rules * entry_width ≤ length row.now }
     ensures { result ≡ greatest (length_in row.now) rules }
 {
-    let most = rules as usize;
-    let mut top = 0;
-    let mut k = 0;
-    while k < most {
-        top = max(top, read_entry(row, k));
-        k += 1;
+    let lengths = Records::<u16>::new(row, rules);
+    let mut top: u16 = 0;
+    for k in 0..rules as usize {
+        top = top.max(lengths.get(k));
     }
     top
 }
 
-// ---- the search by it
-
-// The first rule that has a length, from one rule to before another.
-fn find_length(row: &[u8], from: usize, end: usize, bytes: u16) -> usize
-    requires { end * entry_width ≤ length row.now }
-    ensures { result ≡ first_with (length_in row.now) bytes from end }
-{
-    let mut k = from;
-    while k < end {
-        if read_entry(row, k) == bytes {
-            return k;
+impl<'a> Row<'a> {
+    pub fn new(bytes: &'a [u8], rules: u16) -> Row<'a>
+        requires { rules * entry_width ≤ length bytes.now }
+        ensures { (result.bytes.now ≡ bytes.now) × (result.rules ≡ rules) }
+    {
+        Row {
+            bytes,
+            rules,
+            top: greatest_length(bytes, rules),
         }
-        k += 1;
     }
-    k
+
+    pub fn lengths(self) -> Records<'a, u16>
+        ensures { result ≡ contents entry_format self.entry.bytes.now self.entry.rules }
+    {
+        Records::new(self.bytes, self.rules)
+    }
 }
 
-// The first live rule whose length is `top`, which is not 0. A rule is read only where the row has that length.
-fn first_longest(
-    area1: &[u8],
-    area2: &[u8],
-    area3: &[u8],
-    states: u16,
-    rules: u16,
-    entries: u16,
-    state: u16,
-    row: &[u8],
-    top: u16,
-) -> usize
-    requires readable { Readable area1.now area2.now area3.now states rules entries }
-    requires state_lt_states { state < states }
-    requires entry_width_in_bounds { rules * entry_width ≤ length row.now }
-    requires top_nonzero { 0 < top }
-    ensures { result ≡ first_with (weight (lexer_in area1.now area2.now area3.now states rules entries) state row.now) top 0 rules }
-{
-    let most = rules as usize;
-    let mut k = find_length(row, 0, most, top);
-    while k < most {
-        let rule = read_rule(area2, k);
-        if is_live(area1, area3, states, entries, state, rule) {
-            return k;
-        }
-        k = find_length(row, k + 1, most, top);
-    }
-    k
+// ---- the rules, the states and the lists
+
+// The states, the rules and the list entries of a sheet, as they are lent. The list of each rule lies inside the entries.
+#[derive(Drop)]
+pub struct LentLexer<'a> {
+    states: Records<'a, State>,
+    rules: Records<'a, Rule>,
+    entries: Records<'a, u16>,
 }
 
-// ---- the winner
+impl<'a> Model for LentLexer<'a> {
+    ghost use Rattle.winner.specs.Winner.{Lexer};
 
-// The winner, by the greatest length of the row. Mostly a live rule has it; where none has, all rules are looked at.
-#[tactic(auto, using(crate::proofs::Topping::winner_none))]
-pub fn winner(
-    area1: &[u8],
-    area2: &[u8],
-    area3: &[u8],
-    states: u16,
-    rules: u16,
-    entries: u16,
-    state: u16,
-    row: &[u8],
-    top: u16,
-) -> Best
-    requires readable { Readable area1.now area2.now area3.now states rules entries }
-    requires state_lt_states { state < states }
-    requires entry_width_in_bounds { rules * entry_width ≤ length row.now }
-    requires top_value { top ≡ greatest (length_in row.now) rules }
-    ensures { result ≡ best (weight (lexer_in area1.now area2.now area3.now states rules entries) state row.now) rules }
-{
-    if top == 0 {
-        return Best { length: 0, rule: 0 };
+    ghost Value = { Lexer };
+
+    ghost use Rattle.winner.specs.Phrases.{ListsInside};
+
+    ghost view = { λ s. record { states = s.states; rules = s.rules; lists = s.entries } };
+
+    ghost invariant = { λ s. ListsInside s.rules s.entries };
+}
+
+impl<'a> LentLexer<'a> {
+    pub fn new(
+        area1: &'a [u8],
+        area2: &'a [u8],
+        area3: &'a [u8],
+        states: u16,
+        rules: u16,
+        entries: u16,
+    ) -> LentLexer<'a>
+        requires { Readable area1.now area2.now area3.now states rules entries }
+        ensures { result ≡ lexer_in area1.now area2.now area3.now states rules entries }
+    {
+        LentLexer {
+            states: Records::new(area1, states),
+            rules: Records::new(area2, rules),
+            entries: Records::new(area3, entries),
+        }
     }
-    let k = first_longest(area1, area2, area3, states, rules, entries, state, row, top);
-    if k < rules as usize {
-        return Best {
-            length: top,
-            rule: k,
-        };
+
+    pub fn rule(&self, k: usize) -> Rule
+        requires { k < length self.now.rules }
+        ensures { result ≡ nth_rule self.now.rules k }
+    {
+        self.rules.get(k)
     }
-    longest(area1, area2, area3, states, rules, entries, state, row)
+
+    // Whether rule k is live in a state.
+    fn is_live(&self, state: u16, k: usize) -> bool
+        requires { (state < length self.now.states) × (k < length self.now.rules) }
+        ensures { result ≡ live self.now.states self.now.lists state (nth_rule self.now.rules k) }
+    {
+        let x = self.rules.get(k);
+        if x.list_count == 0 {
+            return self.states.get(state as usize).exclusive == 0;
+        }
+        let from = x.list_from as usize;
+        let end = from + x.list_count as usize;
+        self.entries.position_in(from, end, |_, id| id == state) < end
+    }
+
+    // The better of the best rule so far and rule k, whose list is read only where its length would win.
+    fn better_of(&self, state: u16, b: Best, k: usize, bytes: u16) -> Best
+        requires { (state < length self.now.states) × (k < length self.now.rules) }
+        ensures { result ≡ better b k (cond (live self.now.states self.now.lists state (nth_rule self.now.rules k)) bytes 0) }
+    {
+        if b.length < bytes {
+            if self.is_live(state, k) {
+                return Best {
+                    length: bytes,
+                    rule: k,
+                };
+            }
+        }
+        b
+    }
+
+    // The plain scan of all rules.
+    fn longest(&self, state: u16, row: Row) -> Best
+        requires state_declared { state < length self.now.states }
+        requires row_long { row.rules ≡ length self.now.rules }
+        ensures { result ≡ best (weight self.now state row.entry.bytes.now) row.entry.rules }
+    {
+        let lengths = row.lengths();
+        let mut b = Best { length: 0, rule: 0 };
+        for k in 0..row.rules as usize {
+            b = self.better_of(state, b, k, lengths.get(k));
+        }
+        b
+    }
+
+    // The first live rule that has the greatest length, which is not 0. A rule is read only where the row has that length.
+    fn first_longest(&self, state: u16, row: Row) -> usize
+        requires state_declared { state < length self.now.states }
+        requires row_long { row.rules ≡ length self.now.rules }
+        requires top_nonzero { 0 < row.top }
+        ensures { result ≡ first_with (weight self.now state row.entry.bytes.now) row.entry.top 0 row.entry.rules }
+    {
+        row.lengths().position(
+            |k, bytes|
+                requires { (state < length self.now.states) × (k < length self.now.rules) }
+                ensures { result ≡ (eqb bytes row.top && live self.entry.now.states self.entry.now.lists state (nth_rule self.entry.now.rules k)) }
+            { bytes == row.top && self.is_live(state, k) },
+        )
+    }
+
+    // The winner, by the greatest length of the row; none where no live rule has a length. Mostly a live rule has it; where none has, all rules are looked at.
+    #[tactic(auto, using(crate::proofs::Topping::winner_none))]
+    pub fn winner(&self, state: u16, row: Row) -> Option<Best>
+        requires state_declared { state < length self.now.states }
+        requires row_long { row.rules ≡ length self.now.rules }
+        ensures { result ≡ winning (best (weight self.now state row.entry.bytes.now) row.entry.rules) }
+    {
+        if row.top == 0 {
+            return None;
+        }
+        let k = self.first_longest(state, row);
+        if k < row.rules as usize {
+            return Some(Best {
+                length: row.top,
+                rule: k,
+            });
+        }
+        let b = self.longest(state, row);
+        if b.length == 0 { None } else { Some(b) }
+    }
 }

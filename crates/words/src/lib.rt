@@ -2,110 +2,157 @@
 #![tactic(auto)]
 
 ghost use Rattle.std.specs.Prelude.{◌≡◌};
+ghost use Rattle.answers.specs.Numbers.{number_of};
+ghost use Rattle.answers.specs.Words.{fields, word};
 ghost use Rattle.parse.specs.Parse.{parse_word};
 ghost use Rattle.sheet_check.specs.Pattern.{pattern_word};
 ghost use Rattle.link.specs.Link.{link_word};
 ghost use Rattle.run.specs.Run.{start_word, step_word};
-ghost use Rattle.lines.specs.Lines.{line_column_word, offset_word};
+ghost use Rattle.lines.specs.Lines.{refusal_fields, line_column_word, offset_word};
 ghost use Rattle.lines.specs.Places.{SmallOffset};
 
-use answers::{
-    ACCEPTED, AREA_FULL, BROKEN_MAP, BROKEN_RUN, BROKEN_SHEET, DONE, FAULTY_FILE, INVALID_UTF8,
-    LONG_FILE, NO_SUCH_PLACE, ROW_MISMATCH, SKIP, START_REFUSED, STOPPED, TOKEN, UNKNOWN_FLAG,
-    UNLINKED, word,
-};
-use lines::{LineColumn, OffsetAt};
-use link::LinkAnswer;
+use answers::Number;
+use lines::{Byte, Place, PlaceError};
+use link::{LinkError, Linked};
 use parse::Answer;
-use run::{Begun, Step};
-use sheet_check::Located;
+use run::{StartRefused, Step, StepError};
+use sheet_check::Part;
+
+// An answer as one word.
+#[derive(Clone, Copy, PartialEq, Eq, Debug)]
+pub struct Word(pub u64);
+
+impl Word {
+    // The number in the low 16 bits, and the three values above it.
+    pub fn new(number: Number, a: u16, b: u16, c: u16) -> Word
+        ensures { result.0 ≡ word (fields (number_of number) a b c) }
+    {
+        Word(
+            (u16::from(number) as u64)
+                + 65536 * (a as u64)
+                + 4294967296 * (b as u64)
+                + 281474976710656 * (c as u64),
+        )
+    }
+}
 
 // The word of a parse's answer.
-pub fn parse_word(answer: Answer) -> u64
-    ensures { result ≡ parse_word answer }
-{
-    match answer {
-        Answer::Accepted => word(ACCEPTED, 0, 0, 0),
-        Answer::LongFile => word(LONG_FILE, 0, 0, 0),
-        Answer::UnknownFlag => word(UNKNOWN_FLAG, 0, 0, 0),
-        Answer::InvalidUtf8 => word(INVALID_UTF8, 0, 0, 0),
-        Answer::AreaFull(n) => word(AREA_FULL, n, 0, 0),
-        Answer::FaultyFile(n) => word(FAULTY_FILE, n, 0, 0),
+impl From<Answer> for Word {
+    ghost from_gives = { λ answer word. word.0 ≡ parse_word answer };
+
+    #[tactic(auto, unfolding(parse::specs::Parse::parse_fields))]
+    fn from(answer: Answer) -> Word {
+        match answer {
+            Answer::Accepted => Word::new(Number::Accepted, 0, 0, 0),
+            Answer::LongFile => Word::new(Number::LongFile, 0, 0, 0),
+            Answer::UnknownFlag => Word::new(Number::UnknownFlag, 0, 0, 0),
+            Answer::InvalidUtf8 => Word::new(Number::InvalidUtf8, 0, 0, 0),
+            Answer::AreaFull(n) => Word::new(Number::AreaFull, n, 0, 0),
+            Answer::FaultyFile(n) => Word::new(Number::FaultyFile, n, 0, 0),
+        }
     }
 }
 
 // That of where a pattern stands.
-pub fn pattern_word(part: Located) -> u64
-    ensures { result ≡ pattern_word part }
-{
-    match part {
-        Located::Part(place, from, length) => word(ACCEPTED, place, from, length),
-        Located::BrokenSheet => word(BROKEN_SHEET, 0, 0, 0),
+impl From<Option<Part>> for Word {
+    ghost from_gives = { λ part word. word.0 ≡ pattern_word part };
+
+    #[tactic(auto, unfolding(sheet_check::specs::Pattern::pattern_fields))]
+    fn from(part: Option<Part>) -> Word {
+        match part {
+            Some(x) => Word::new(Number::Accepted, x.place, x.from, x.length),
+            None => Word::new(Number::BrokenSheet, 0, 0, 0),
+        }
     }
 }
 
 // That of a link's answer.
-pub fn link_word(answer: LinkAnswer) -> u64
-    ensures { result ≡ link_word answer }
-{
-    match answer {
-        LinkAnswer::Linked(unmapped, unused) => word(ACCEPTED, unmapped, unused, 0),
-        LinkAnswer::BrokenSheet => word(BROKEN_SHEET, 0, 0, 0),
-        LinkAnswer::BrokenMap => word(BROKEN_MAP, 0, 0, 0),
-        LinkAnswer::AreaFull(n) => word(AREA_FULL, n, 0, 0),
+impl From<Result<Linked, LinkError>> for Word {
+    ghost from_gives = { λ answer word. word.0 ≡ link_word answer };
+
+    #[tactic(auto, unfolding(link::specs::Link::link_fields))]
+    fn from(answer: Result<Linked, LinkError>) -> Word {
+        match answer {
+            Ok(linked) => Word::new(
+                Number::Accepted,
+                linked.unmapped_count,
+                linked.unused_count,
+                0,
+            ),
+            Err(LinkError::BrokenSheet) => Word::new(Number::BrokenSheet, 0, 0, 0),
+            Err(LinkError::BrokenMap) => Word::new(Number::BrokenMap, 0, 0, 0),
+            Err(LinkError::AreaFull(n)) => Word::new(Number::AreaFull, n, 0, 0),
+        }
     }
 }
 
 // That of a start's answer.
-pub fn start_word(answer: Begun) -> u64
-    ensures { result ≡ start_word answer }
-{
-    match answer {
-        Begun::Started => word(ACCEPTED, 0, 0, 0),
-        Begun::StartRefused => word(START_REFUSED, 0, 0, 0),
+impl From<Result<(), StartRefused>> for Word {
+    ghost from_gives = { λ answer word. word.0 ≡ start_word answer };
+
+    #[tactic(auto, unfolding(run::specs::Run::start_fields))]
+    fn from(answer: Result<(), StartRefused>) -> Word {
+        match answer {
+            Ok(_) => Word::new(Number::Accepted, 0, 0, 0),
+            Err(_) => Word::new(Number::StartRefused, 0, 0, 0),
+        }
     }
 }
 
 // That of a step's answer.
-pub fn step_word(answer: Step) -> u64
-    ensures { result ≡ step_word answer }
-{
-    match answer {
-        Step::BrokenSheet => word(BROKEN_SHEET, 0, 0, 0),
-        Step::BrokenRun => word(BROKEN_RUN, 0, 0, 0),
-        Step::RowMismatch => word(ROW_MISMATCH, 0, 0, 0),
-        Step::Done => word(DONE, 0, 0, 0),
-        Step::Stopped => word(STOPPED, 0, 0, 0),
-        Step::Unlinked => word(UNLINKED, 0, 0, 0),
-        Step::Skip => word(SKIP, 0, 0, 0),
-        Step::Token(id, from, length) => word(TOKEN, id, from, length),
+impl From<Result<Step, StepError>> for Word {
+    ghost from_gives = { λ answer word. word.0 ≡ step_word answer };
+
+    #[tactic(auto, unfolding(run::specs::Run::view, run::specs::Run::view_fields))]
+    fn from(answer: Result<Step, StepError>) -> Word {
+        match answer {
+            Err(StepError::BrokenSheet) => Word::new(Number::BrokenSheet, 0, 0, 0),
+            Err(StepError::BrokenRun) => Word::new(Number::BrokenRun, 0, 0, 0),
+            Err(StepError::RowMismatch) => Word::new(Number::RowMismatch, 0, 0, 0),
+            Ok(Step::Done) => Word::new(Number::Done, 0, 0, 0),
+            Ok(Step::Stopped) => Word::new(Number::Stopped, 0, 0, 0),
+            Ok(Step::Unlinked) => Word::new(Number::Unlinked, 0, 0, 0),
+            Ok(Step::Skip) => Word::new(Number::Skip, 0, 0, 0),
+            Ok(Step::Token { id, start, length }) => Word::new(Number::Token, id, start, length),
+        }
+    }
+}
+
+// That of a source or a place that is refused.
+impl From<PlaceError> for Word {
+    ghost from_gives = { λ error refused. refused.0 ≡ word (refusal_fields error) };
+
+    #[tactic(auto, unfolding(lines::specs::Lines::refusal_number))]
+    fn from(error: PlaceError) -> Word {
+        match error {
+            PlaceError::LongFile => Word::new(Number::LongFile, 0, 0, 0),
+            PlaceError::InvalidUtf8 => Word::new(Number::InvalidUtf8, 0, 0, 0),
+            PlaceError::NoSuchPlace => Word::new(Number::NoSuchPlace, 0, 0, 0),
+        }
     }
 }
 
 // That of the line and column of an offset, which do not fit it.
-pub fn line_column_word(answer: LineColumn) -> u64
-    ensures { result ≡ line_column_word answer }
-{
-    match answer {
-        LineColumn::Known(_) => word(ACCEPTED, 0, 0, 0),
-        LineColumn::LongFile => word(LONG_FILE, 0, 0, 0),
-        LineColumn::InvalidUtf8 => word(INVALID_UTF8, 0, 0, 0),
-        LineColumn::NoSuchPlace => word(NO_SUCH_PLACE, 0, 0, 0),
+impl From<Result<Place, PlaceError>> for Word {
+    ghost from_gives = { λ answer word. word.0 ≡ line_column_word answer };
+
+    #[tactic(auto, unfolding(lines::specs::Lines::line_column_fields))]
+    fn from(answer: Result<Place, PlaceError>) -> Word {
+        match answer {
+            Ok(_) => Word::new(Number::Accepted, 0, 0, 0),
+            Err(error) => Word::from(error),
+        }
     }
 }
 
-// That of the offset of a line and column.
-pub fn offset_word(answer: OffsetAt) -> u64
+// That of the offset of a line and column. A `From` asks nothing of its callers, and this needs an offset of two bytes.
+#[tactic(auto, unfolding(lines::specs::Lines::offset_fields))]
+pub fn offset_word(answer: Result<Byte, PlaceError>) -> Word
     requires { SmallOffset answer }
-    ensures { result ≡ offset_word answer }
+    ensures { result.0 ≡ offset_word answer }
 {
     match answer {
-        OffsetAt::Known(byte) => {
-            let b = byte.0;
-            word(ACCEPTED, b as u16, 0, 0)
-        }
-        OffsetAt::LongFile => word(LONG_FILE, 0, 0, 0),
-        OffsetAt::InvalidUtf8 => word(INVALID_UTF8, 0, 0, 0),
-        OffsetAt::NoSuchPlace => word(NO_SUCH_PLACE, 0, 0, 0),
+        Ok(byte) => Word::new(Number::Accepted, byte.0 as u16, 0, 0),
+        Err(error) => Word::from(error),
     }
 }

@@ -53,8 +53,8 @@ enum_told-1 c = search sectioning
 pub overflow_cast-result : goal.overflow_cast-result
 overflow_cast-result c = search sectioning
 
-pub returns-in-At : goal.returns-in-At
-returns-in-At c = search sectioning
+pub returns-in-Some : goal.returns-in-Some
+returns-in-Some c = search sectioning
 
-pub returns-in-Nothing : goal.returns-in-Nothing
-returns-in-Nothing c = search sectioning
+pub returns-in-None : goal.returns-in-None
+returns-in-None c = search sectioning

@@ -1,11 +1,9 @@
 -- `input_check::all_at_edge` meets its contract: no character goes on over the places where a length can end, or each length is tested.
-use mathlib.Core.Path.{sym, ◌∙◌}
-use borrow.Author.Rules.{rules}
-use borrow.Author.Tests.{not-true}
+use Rattle.std.proofs.Common.{sym, ◌∙◌}
 use Rattle.input_check.proofs.Rows.{edges_clear}
 use Rattle.input_check.proofs.all_at_edge.Goals as goal
 
 pub returns-then-not-has_inside : goal.returns-then-not-has_inside
 returns-then-not-has_inside c =
-    edges_clear c.args.text.now _ _ _ _ c.requires.top_value c.requires.top_in_bounds (sym c.is_edge.ensures ∙ c.if-is_edge.true)
+    edges_clear c.args.text.now _ _ _ _ c.args.row.greatest_is c.requires (sym c.is_edge.ensures ∙ c.if-is_edge.true)
     (c.has_inside.ensures.none c.if-not-has_inside.true)

@@ -1,10 +1,7 @@
 -- `lanes::entries_within` meets its contract: the entries of the eights so far are within, and those with the rest are all.
-use Rattle.std.proofs.Common.{◌-◌, ◌*◌, ◌≤◌}
+use Rattle.std.proofs.Common.{◌*◌}
 use Rattle.lanes.specs.Lanes.{lane_count, EntriesWithin}
 use Rattle.lanes.proofs.entries_within.Given as goal
 
 abbrev pub invariant-loop-k : goal.invariant-loop-k
-invariant-loop-k l = (l.k ≤ l.blocks) × EntriesWithin l.area 0 (l.k * lane_count) l.highest
-
-abbrev pub decreases-loop-k : goal.decreases-loop-k
-decreases-loop-k l = l.blocks - l.k
+invariant-loop-k l = EntriesWithin l.area 0 (l.k * lane_count) l.highest

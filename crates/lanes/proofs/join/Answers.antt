@@ -1,15 +1,13 @@
 -- `lanes::join` meets its contract: the lanes so far are joined.
-use Rattle.std.proofs.Common.{arith, rules}
+use Rattle.std.proofs.Common.{arith}
 use Rattle.lanes.proofs.LaneLaws.{joined_next, fields_at, sum_at}
 use Rattle.lanes.proofs.join.Goals as goal
 
 pub loop-j-preserved : goal.loop-j-preserved
 loop-j-preserved c =
     let is = c.read_lane-x.ensures in
-    let joined = c.loop-j.invariant.1 in (
-      search rules,
-      record {
-        fields = joined_next _ _ _ _ joined.fields (omega arith) _ (fields_at _ _ _ _ is _ _ _ _ c.field_excess.ensures);
-        totals = joined_next _ _ _ _ joined.totals (omega arith) _ (sum_at _ _ _ _ is _ _ _ c.sum_excess.ensures);
-      },
-    )
+    let joined = c.loop-j.invariant in
+    record {
+      fields = joined_next _ _ _ _ joined.fields (omega arith) _ (fields_at _ _ _ _ is _ _ _ _ c.field_excess.ensures);
+      totals = joined_next _ _ _ _ joined.totals (omega arith) _ (sum_at _ _ _ _ is _ _ _ c.sum_excess.ensures);
+    }

@@ -6,7 +6,7 @@ use Rattle.lanes.proofs.quick_rules.Goals as goal
 pub returns : goal.returns
 returns c =
     let all : c.loop-k.k ≡ c.args.count = omega arith in
-    λ passed. rules_within _ _ _ _ _ _ _ _ _ (rules_all all c.loop-k.invariant.1) (c.all_zero.ensures passed) c.requires.source_bound
+    λ passed. rules_within _ _ _ _ _ _ _ _ _ (rules_all all c.loop-k.invariant) (c.all_zero.ensures passed) c.requires.source_bound
     (record {
       has_id = (refl, refl);
       named = (refl, refl);
@@ -17,6 +17,6 @@ returns c =
       target = refl;
       name = (refl, refl);
       source_text_lem = refl;
-      rewritten_text = c.wrapping_sub_u16.ensures.value;
+      rewritten_text = omega arith;
       list = (refl, refl);
     })

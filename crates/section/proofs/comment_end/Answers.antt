@@ -6,12 +6,6 @@ use Rattle.section.proofs.comment_end.Goals as goal
 pub overflow_add-k : goal.overflow_add-k
 overflow_add-k c = omega (arith, slashes_inside c.args.src.now c.args.i c.requires)
 
-pub byte_at-requires : goal.byte_at-requires
-byte_at-requires c = search ending
-
-pub is_line_end-requires : goal.is_line_end-requires
-is_line_end-requires c = search ending
-
 pub returns-then-is_line_end : goal.returns-then-is_line_end
 returns-then-is_line_end c = search ending
 

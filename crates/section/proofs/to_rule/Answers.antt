@@ -1,27 +1,10 @@
--- `section::to_rule` meets its contract: from where the loop stands, with nothing left to skip there, the walk comes to rest at the same place.
-use Rattle.section.proofs.Lines.{resting}
+-- `section::to_rule` meets its contract: what it skips is measured by `line_end_len`.
+use Rattle.std.proofs.Common.{rules}
+use Rattle.characters.specs.Whitespace.{line_end_len}
+use Rattle.section.specs.Section.{to_rule, past_rule_line}
+use Rattle.characters.proofs.Spaces.{end_inside}
 use Rattle.section.proofs.to_rule.Goals as goal
 
-pub parse_nl-k-requires : goal.parse_nl-k-requires
-parse_nl-k-requires c = search resting
-
-pub loop-k-init : goal.loop-k-init
-loop-k-init c = search resting
-
-pub is_comment-requires : goal.is_comment-requires
-is_comment-requires c = search resting
-
-pub comment_end-requires : goal.comment_end-requires
-comment_end-requires c = search resting
-
-pub parse_nl-k-requires-in-loop-k : goal.parse_nl-k-requires-in-loop-k
-parse_nl-k-requires-in-loop-k c = search resting
-
-pub loop-k-smaller : goal.loop-k-smaller
-loop-k-smaller c = search resting
-
-pub loop-k-preserved : goal.loop-k-preserved
-loop-k-preserved c = search resting
-
 pub returns : goal.returns
-returns c = search resting
+unfolding to_rule past_rule_line
+returns c = c.past_comments.ensures.rule (line_end_len c.args.src.now) (end_inside c.args.src.now) (λ k n h a. search rules)

@@ -2,14 +2,5 @@
 use Rattle.sheet_lines.proofs.Printing.{line_printing}
 use Rattle.sheet_lines.proofs.put_refused.Goals as goal
 
-pub put_text-n-requires : goal.put_text-n-requires
-put_text-n-requires c = search line_printing
-
-pub put_field-n-requires : goal.put_field-n-requires
-put_field-n-requires c = search line_printing
-
-pub put_line_end-requires : goal.put_line_end-requires
-put_line_end-requires c = search line_printing
-
 pub returns : goal.returns
-returns c = search line_printing
+returns g c = search line_printing

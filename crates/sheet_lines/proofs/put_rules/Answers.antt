@@ -1,21 +1,7 @@
--- `sheet_lines::put_rules` meets its contract: the first k lines are appended.
-use Rattle.sheet_lines.proofs.Printing.{record_printing}
+-- `sheet_lines::put_rules` meets its contract: its lines are those of the records of the area.
+use Rattle.sheet_lines.specs.Lines.{rule_lines}
 use Rattle.sheet_lines.proofs.put_rules.Goals as goal
 
-pub loop-k-init : goal.loop-k-init
-loop-k-init c = search record_printing
-
-pub put_rule-r-requires : goal.put_rule-r-requires
-put_rule-r-requires c = search record_printing
-
-pub overflow_add-k : goal.overflow_add-k
-overflow_add-k c = search record_printing
-
-pub loop-k-smaller : goal.loop-k-smaller
-loop-k-smaller c = search record_printing
-
-pub loop-k-preserved : goal.loop-k-preserved
-loop-k-preserved c = search record_printing
-
 pub returns : goal.returns
-returns c = search record_printing
+unfolding rule_lines
+returns g c = c.put_lines.ensures

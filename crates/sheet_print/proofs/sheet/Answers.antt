@@ -1,19 +1,18 @@
 -- `sheet_print::sheet` meets its contract: the call leaves what the outcome of the file has, the lines are those of what it left, and there is room
 -- for all of them.
 use Prim.Native.Nat.{ℕ}
-use native.Mathlib.Omega.{arith}
 use lib.ListN.{length-replicate}
+use Rattle.std.proofs.Common.{ap₂, ◌∙◌, List}
+use Rattle.output.specs.Output.{appended}
 use Rattle.sheet_print.proofs.Answering.{sheet_written}
-use Rattle.sheet_print.proofs.Lengths.{all_written}
+use Rattle.sheet_print.proofs.Lengths.{all_appended}
 use Rattle.sheet_print.proofs.sheet.Goals as goal
 
 pub returns : goal.returns
-returns c =
+returns g c =
     let src = c.args.src.now in
     let call = c.parse-answer in
-    all_written src
-    (omega (arith, c.requires, c.put_answer.auto.out))
-    (sheet_written src call.result _ _ _ _ _ _ _ _ _ _ _ _ _
+    let printed = sheet_written src call.result _ _ _ _ _ _ _ _ _ _ _ _ _
     call.ensures
     (length-replicate {A = ℕ} 384 0)
     (length-replicate {A = ℕ} 57344 0)
@@ -23,5 +22,7 @@ returns c =
     (length-replicate {A = ℕ} 32768 0)
     c.parse-answer.auto.area1
     c.parse-answer.auto.area2
-    c.parse-answer.auto.area6
-    c.put_answer.ensures)
+    c.parse-answer.auto.area6 in
+    c.put_answer.ensures
+    ∙ ap₂ (λ (t v : List ℕ). appended g.row.N t v) c.clear.ensures printed
+    ∙ all_appended g.row.N src c.requires

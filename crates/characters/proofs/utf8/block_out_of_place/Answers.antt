@@ -1,18 +1,9 @@
 -- `characters::utf8::block_out_of_place` meets its contract: ASCII bytes are in place.
 use Rattle.std.proofs.lemmas.Bool.{not_from_false}
-use Rattle.characters.proofs.InPlace.{ascii_block, passing_blocks}
+use Rattle.characters.proofs.InPlace.{ascii_block}
 use Rattle.characters.proofs.utf8.block_out_of_place.Goals as goal
-
-pub has_above_ascii-requires : goal.has_above_ascii-requires
-has_above_ascii-requires c = search passing_blocks
 
 pub returns-then-not-has_above_ascii : goal.returns-then-not-has_above_ascii
 returns-then-not-has_above_ascii c =
     let args = c.args in
     ascii_block args.s.now args.k _ c.has_above_ascii.ensures (not_from_false c.has_above_ascii.result c.if-not-has_above_ascii.true)
-
-pub has_out_of_place-requires : goal.has_out_of_place-requires
-has_out_of_place-requires c = search passing_blocks
-
-pub returns : goal.returns
-returns c = search passing_blocks

@@ -5,20 +5,11 @@ use Rattle.characters.proofs.utf8.char_of.Goals as goal
 pub returns-then-a-lt128 : goal.returns-then-a-lt128
 returns-then-a-lt128 c = search measuring_chars
 
-pub two_bytes-requires : goal.two_bytes-requires
-two_bytes-requires c = search measuring_chars
-
 pub returns-then-two_bytes : goal.returns-then-two_bytes
 returns-then-two_bytes c = search measuring_chars
 
-pub three_bytes-requires : goal.three_bytes-requires
-three_bytes-requires c = search measuring_chars
-
 pub returns-then-three_bytes : goal.returns-then-three_bytes
 returns-then-three_bytes c = search measuring_chars
-
-pub four_bytes-requires : goal.four_bytes-requires
-four_bytes-requires c = search measuring_chars
 
 pub returns-then-four_bytes : goal.returns-then-four_bytes
 returns-then-four_bytes c = search measuring_chars

@@ -2,9 +2,6 @@
 use Rattle.characters.proofs.Spaces.{measuring}
 use Rattle.characters.proofs.whitespace.wide_line_end_of.Goals as goal
 
-pub is_separator-requires : goal.is_separator-requires
-is_separator-requires c = search measuring
-
 pub returns-then-is_separator : goal.returns-then-is_separator
 returns-then-is_separator c = search measuring
 

@@ -5,9 +5,6 @@ use Rattle.characters.proofs.whitespace.wide_whitespace_of.Goals as goal
 pub returns-then-a-b : goal.returns-then-a-b
 returns-then-a-b c = search measuring
 
-pub is_separator-requires : goal.is_separator-requires
-is_separator-requires c = search measuring
-
 pub returns-then-mark-is_separator : goal.returns-then-mark-is_separator
 returns-then-mark-is_separator c = search measuring
 

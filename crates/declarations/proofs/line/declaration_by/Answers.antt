@@ -23,11 +23,11 @@ returns-then-declares_with-2 c = search deciding
 pub lookahead_is-requires : goal.lookahead_is-requires
 lookahead_is-requires c = search deciding
 
-pub is_found-requires : goal.is_found-requires
-is_found-requires c = search deciding
+pub is_some-requires : goal.is_some-requires
+is_some-requires c = search deciding
 
-pub returns-then-is_found : goal.returns-then-is_found
-returns-then-is_found c = search deciding
+pub returns-then-is_some : goal.returns-then-is_some
+returns-then-is_some c = search deciding
 
 pub returns : goal.returns
 returns c = search deciding

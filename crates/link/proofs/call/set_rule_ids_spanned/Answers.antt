@@ -16,14 +16,16 @@ returns-then-not-check_map c =
     call_map lent c.args.names.now c.args.entries.now c.args.area7.now c.args.area8.now
     _ c.check.ensures c.if-not-check.false _ c.check_map.ensures.is c.if-not-check_map.true
 
+pub invariant_of-index : goal.invariant_of-index
+invariant_of-index c = record {
+  few = call_entries c.args.names.now c.args.entries.now _ c.check_map.ensures.is c.if-not-check_map.false;
+  index = c.check_map.ensures.index c.if-not-check_map.false;
+}
+
 pub link_checked-requires : goal.link_checked-requires
 link_checked-requires c =
     let lent = sheet_bytes c.args.src.now c.args.area1.now c.args.area2.now c.args.area3.now c.args.area4.now c.args.area5.now c.args.counts.now in
-    record {
-      entry_index = c.check_map.ensures.index c.if-not-check_map.false;
-      rules_le_most_rules = call_rules lent _ c.check.ensures c.if-not-check.false;
-      entries_bound = call_entries c.args.names.now c.args.entries.now _ c.check_map.ensures.is c.if-not-check_map.false;
-    }
+    call_rules lent _ c.check.ensures c.if-not-check.false
 
 pub returns : goal.returns
 returns c =

@@ -1,11 +1,8 @@
 -- `link::matches::match_rules` meets its contract: the rules so far are matched, and each of the three ways goes on by one.
-use Prim.Native.Nat.{◌≤◌, ◌-◌}
+use Prim.Native.Nat.{◌≤◌}
 use Rattle.names.specs.Names.{name_of}
 use Rattle.link.proofs.Matching.{Matching}
 use Rattle.link.proofs.matches.match_rules.Given as goal
 
 abbrev pub invariant-loop-k : goal.invariant-loop-k
-invariant-loop-k l = (l.k ≤ l.count) × (l.n ≤ l.k) × Matching (name_of l.src) l.names l.entries l.area l.count l.k l.n l.found l.used
-
-abbrev pub decreases-loop-k : goal.decreases-loop-k
-decreases-loop-k l = l.count - l.k
+invariant-loop-k l = (l.n ≤ l.k) × Matching (name_of l.src) l.index.map.names.now l.index.map.entries.now l.area l.count l.k l.n l.found l.used

@@ -1,12 +1,9 @@
--- `link::numbers::count_unused` meets its contract: the entries so far are counted.
+-- `link::numbers::count_unused` meets its contract: the marks so far are counted.
 use mathlib.Core.Path.{◌≡◌}
-use Prim.Native.Nat.{◌≤◌, ◌-◌}
+use Prim.Native.Nat.{◌≤◌}
 use lib.ListN.{length}
 use Rattle.link.specs.Matches.{unmarked}
 use Rattle.link.proofs.numbers.count_unused.Given as goal
 
 abbrev pub invariant-loop-j : goal.invariant-loop-j
-invariant-loop-j l = (l.j ≤ l.most) × (l.n ≤ l.j) × (l.n ≡ length (unmarked l.used l.j))
-
-abbrev pub decreases-loop-j : goal.decreases-loop-j
-decreases-loop-j l = l.most - l.j
+invariant-loop-j l = (l.n ≤ l.j) × (l.n ≡ length (unmarked l.used l.j))

@@ -1,21 +1,22 @@
--- `link::rule_ids::link_rule` meets its contract: an unnamed rule is kept, a named one gets the id of entry j or none.
-use Rattle.link.proofs.LinkedRules.{linking_rule}
+-- `link::rule_ids::link_rule` meets its contract: an unnamed rule is kept, a named one gets the id of the entry that was found or none.
+use Rattle.std.specs.Prelude.{Some, None}
+use mathlib.Core.Path.{sym, ap, ◌∙◌}
+use Rattle.name_map.proofs.Maps.{id_read}
+use Rattle.name_map.specs.Phrases.{map_in}
+use Rattle.link.specs.Matches.{found_id}
+use Rattle.link.proofs.LinkedRules.{link_unnamed, link_named}
 use Rattle.link.proofs.rule_ids.link_rule.Goals as goal
 
 pub returns-then-x-ne1 : goal.returns-then-x-ne1
-returns-then-x-ne1 c = search linking_rule
+returns-then-x-ne1 c = link_unnamed _ _ _ c.if-x-ne1.true
 
-pub read_map_entry-entry-requires : goal.read_map_entry-entry-requires
-read_map_entry-entry-requires c = search linking_rule
+pub returns-in-Some : goal.returns-in-Some
+returns-in-Some c =
+    let es = map_in c.args.map.now in
+    let id = id_read _ _ c.in-Some.j (c.requires c.if-x-ne1.false c.in-Some.j c.in-Some.is) _ c.entry.ensures in
+    link_named es c.args.found _ c.if-x-ne1.false (Some c.entry.result.id) (id ∙ ap (found_id es) (sym c.in-Some.is)) _ c.with_id.ensures
 
-pub with_id-requires : goal.with_id-requires
-with_id-requires c = search linking_rule
-
-pub returns-then-at-entries : goal.returns-then-at-entries
-returns-then-at-entries c = search linking_rule
-
-pub with_id-requires-2 : goal.with_id-requires-2
-with_id-requires-2 c = search linking_rule
-
-pub returns : goal.returns
-returns c = search linking_rule
+pub returns-in-None : goal.returns-in-None
+returns-in-None c =
+    let es = map_in c.args.map.now in
+    link_named es c.args.found _ c.if-x-ne1.false None (ap (found_id es) (sym c.in-None.is)) _ c.with_id-in-None.ensures

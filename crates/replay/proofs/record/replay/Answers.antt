@@ -3,4 +3,4 @@ use Rattle.replay.proofs.Whole.{record_read}
 use Rattle.replay.proofs.record.replay.Goals as goal
 
 pub returns : goal.returns
-returns c = record_read _ _ _ _ _ _ _ c.requires c.read_source-read.auto.out c.read_source-read.ensures c.replay_rest.ensures
+returns c = record_read _ _ _ _ _ 65536 _ c.source-src.ensures c.as_slice.ensures c.replay_rest.ensures

@@ -27,8 +27,8 @@ pub heading_behind-requires : goal.heading_behind-requires
 heading_behind-requires c =
     record { r_lt_p = ((search heading, search heading), (search heading, search heading)); held = search heading; names_held = search heading }
 
-pub returns-in-Nothing : goal.returns-in-Nothing
-returns-in-Nothing c = search heading
+pub returns-in_default : goal.returns-in_default
+returns-in_default c = search heading
 
 pub returns-in-Wrong : goal.returns-in-Wrong
 returns-in-Wrong c = search heading

@@ -1,8 +1,8 @@
 -- `run::call::step_row` meets its contract: the winner is a rule, its move stays inside the entry and the stack, and each branch is one of the
 -- definition.
-use native.Mathlib.Omega.{arith}
-use Rattle.run.proofs.Fitting.{depth_inside, run_is, current_declared, row_long}
-use Rattle.run.proofs.Stepping.{row_stopped, row_won, rule_inside, bytes_low, move_inside}
+use Rattle.std.proofs.Common.{sym, ◌∙◌, arith}
+use Rattle.run.proofs.Fitting.{depth_inside, run_is, current_declared}
+use Rattle.run.proofs.Stepping.{left_with, row_stopped, row_won, rule_inside, bytes_low, move_inside}
 use Rattle.run.proofs.call.step_row.Goals as goal
 
 pub overflow_sub-r : goal.overflow_sub-r
@@ -13,31 +13,25 @@ read_entry-state-requires c =
     let g = run_is _ _ _ c.requires.stack_value in
     omega (arith, g.some_depth, depth_inside _ _ g)
 
-pub winner-b-requires : goal.winner-b-requires
-winner-b-requires c =
-    let declared = current_declared _ _ _ c.requires.stack_value in
-    let row = c.requires.row_fits in
-    record {
-      readable = c.requires.readable;
-      state_lt_states = omega (arith, declared, c.read_entry-state.ensures);
-      entry_width_in_bounds = omega (arith, row_long _ _ _ row.good);
-      top_value = row.greatest_is;
-    }
+pub winner-requires-clause-state_declared : goal.winner-requires-clause-state_declared
+winner-requires-clause-state_declared c = omega (arith, current_declared _ _ _ c.requires.stack_value, c.read_entry-state.ensures)
 
-pub returns-then-b-eq0 : goal.returns-then-b-eq0
-returns-then-b-eq0 c = row_stopped _ _ _ _ _ _ _ _ _ _ _ c.read_entry-state.ensures c.winner-b.ensures c.if-b-eq0.true
+pub returns-in_default : goal.returns-in_default
+returns-in_default c =
+    left_with _ _ _ _ _ c.after.ensures.answer c.after.ensures.run
+    (row_stopped _ c.args.r _ c.args.row _ c.read_entry-state.ensures c.requires.row_fits.rules_are (sym c.in_default.is ∙ c.winner.ensures))
 
-pub read_rule-x-requires : goal.read_rule-x-requires
-read_rule-x-requires c =
-    let winner = rule_inside _ _ _ _ _ c.winner-b.ensures c.if-b-eq0.false in
-    omega (arith, winner, c.requires.readable.long2)
+pub rule-requires : goal.rule-requires
+rule-requires c =
+    rule_inside _ c.args.r _ c.args.row _ c.read_entry-state.ensures c.requires.row_fits.rules_are _ (sym c.in-Some.is ∙ c.winner.ensures)
 
 pub won_by-requires : goal.won_by-requires
 won_by-requires c =
-    let bytes = bytes_low _ _ _ _ _ c.winner-b.ensures _ c.requires.row_fits.good in
+    let bytes = bytes_low _ c.args.r _ c.args.row _ c.read_entry-state.ensures c.requires.row_fits.rules_are _ (sym c.in-Some.is ∙ c.winner.ensures)
+    _ c.requires.row_fits.good in
     move_inside _ _ _ (run_is _ _ _ c.requires.stack_value) c.requires.position_lt_n bytes
 
 pub returns : goal.returns
 returns c =
-    row_won _ _ _ _ _ _ _ _ _ _ _ c.read_entry-state.ensures c.winner-b.ensures
-    _ _ c.if-b-eq0.false c.read_rule-x.ensures c.won_by.ensures
+    row_won _ c.args.r _ c.args.row _ c.read_entry-state.ensures c.requires.row_fits.rules_are _ (sym c.in-Some.is ∙ c.winner.ensures)
+    _ _ c.rule.ensures c.won_by.ensures

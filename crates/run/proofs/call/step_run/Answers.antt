@@ -1,31 +1,41 @@
 -- `run::call::step_run` meets its contract: each test is that of the definition, in its order.
-use mathlib.Core.Path.{sym, ◌∙◌}
-use Rattle.run.proofs.Fitting.{run_is, told_fits, told_misfit}
-use Rattle.run.proofs.Stepping.{run_refused, run_done, run_ill, run_row, short_of}
+use Rattle.std.proofs.Common.{sym, ◌∙◌}
+use Rattle.sheet_check.specs.Phrases.{lent_sheet}
+use Rattle.run.proofs.Fitting.{run_is}
+use Rattle.run.proofs.Stepping.{left_with, run_refused, run_done, run_ill, run_row, short_of, lexer_run, lexer_row, sheet_readable}
 use Rattle.run.proofs.call.step_run.Goals as goal
 
+pub returns-then-not-is_good : goal.returns-then-not-is_good
+returns-then-not-is_good c =
+    left_with _ _ _ _ _ c.after.ensures.answer c.after.ensures.run (run_refused (lent_sheet c.args.sheet) _ _ _ _ c.is_good.ensures c.if-not-is_good.true)
+
 pub returns-then-r : goal.returns-then-r
-returns-then-r c = run_done _ _ _ _ _ _ _ _ _ _ c.good_run.ensures c.if-good_run.true c.if-r.true
+returns-then-r c =
+    left_with _ _ _ _ _ c.after-then-r.ensures.answer c.after-then-r.ensures.run
+    (run_done (lent_sheet c.args.sheet) _ _ _ _ c.is_good.ensures c.if-not-is_good.false c.if-r.true)
 
 pub overflow_sub-r : goal.overflow_sub-r
-overflow_sub-r c = (run_is _ _ _ (sym c.good_run.ensures ∙ c.if-good_run.true)).inside
+overflow_sub-r c = (run_is _ _ _ (sym c.is_good.ensures ∙ c.if-not-is_good.false)).inside
 
 pub returns-in_default : goal.returns-in_default
 returns-in_default c =
-    run_ill _ _ _ _ _ _ _ _ _ _ c.good_run.ensures c.if-good_run.true c.if-r.false
-    (told_misfit _ _ _ _ c.row_top.ensures c.in_default.is)
+    left_with _ _ _ _ _ c.after-in_default.ensures.answer c.after-in_default.ensures.run
+    (run_ill (lent_sheet c.args.sheet) _ _ _ _ c.is_good.ensures c.if-not-is_good.false c.if-r.false c.in_default.ensures)
+
+pub new-lexer-requires : goal.new-lexer-requires
+new-lexer-requires c = sheet_readable (lent_sheet c.args.sheet) c.requires
 
 pub step_row-requires : goal.step_row-requires
 step_row-requires c =
-    let good = sym c.good_run.ensures ∙ c.if-good_run.true in
-    let row = told_fits _ _ _ _ c.row_top.ensures _ c.in-Fits.is in
-    record { readable = c.requires; stack_value = good; position_lt_n = short_of _ _ _ good c.if-r.false; row_fits = row }
-
-pub returns-then-good_run : goal.returns-then-good_run
-returns-then-good_run c =
-    let row = told_fits _ _ _ _ c.row_top.ensures _ c.in-Fits.is in
-    run_row _ _ _ _ _ _ _ _ _ _ c.good_run.ensures c.if-good_run.true c.if-r.false
-    _ row.good c.step_row.ensures
+    let sheet = lent_sheet c.args.sheet in
+    let made = c.new-lexer.ensures in
+    record {
+      stack_value = lexer_run sheet _ _ _ _ c.is_good.ensures c.if-not-is_good.false c.if-r.false _ c.in-Some.ensures _ made;
+      position_lt_n = short_of _ _ _ (sym c.is_good.ensures ∙ c.if-not-is_good.false) c.if-r.false;
+      row_fits = lexer_row sheet _ _ _ _ c.is_good.ensures c.if-not-is_good.false c.if-r.false _ c.in-Some.ensures _ made;
+    }
 
 pub returns : goal.returns
-returns c = run_refused _ _ _ _ _ _ _ _ _ _ c.good_run.ensures c.if-good_run.false
+returns c =
+    run_row (lent_sheet c.args.sheet) _ _ _ _ c.is_good.ensures c.if-not-is_good.false c.if-r.false _ c.in-Some.ensures _ c.new-lexer.ensures
+    _ c.step_row.ensures

@@ -1,6 +1,5 @@
 -- `section::reader::past_blanks` meets its contract: its reader goes past the blanks.
-use Rattle.std.proofs.Common.{ap, subst, sym, ◌∙◌, length}
-use mathlib.Core.Bool.{not}
+use Rattle.std.proofs.Common.{ap, subst, sym, ◌∙◌, length, not}
 use Rattle.characters.specs.Walk.{Between}
 use Rattle.characters.specs.Class.{is_blank}
 use Rattle.text.specs.Scan.{skip_blanks}
@@ -13,5 +12,5 @@ use Rattle.section.proofs.reader.past_blanks.Goals as goal
 pub returns : goal.returns
 returns c =
     let s = c.args.src.now in
-    let moved = ap (λ (r : Reader). r.offset) (c.move_past_blanks-r.ensures ∙ ap (reader_moved skip_blanks) c.reader_at.ensures) in
+    let moved = ap (λ (r : Reader). r.offset) (c.move_past_blanks.ensures ∙ ap (reader_moved skip_blanks) c.at.ensures) in
     subst (Between c.args.i (length s) (skip_blanks s c.args.i)) (sym moved) (first_between (λ k. not (is_blank (byte s k))) c.args.i (length s) c.requires)

@@ -1,17 +1,16 @@
 -- `sheet_check::check::quick_check` meets its contract: where the quick tests pass the records are good, and otherwise `check` decides.
-use mathlib.Core.Path.{sym}
-use Rattle.sheet_check.specs.SheetCheck.{sheet_bytes}
+use Rattle.std.proofs.Common.{sym}
+use Rattle.sheet_check.specs.Phrases.{lent_sheet}
 use Rattle.sheet_check.proofs.Judging.{check_long, check_some, check_good, check_short}
 use Rattle.sheet_check.proofs.check.quick_check.Goals as goal
 
 pub quick_records-requires : goal.quick_records-requires
 quick_records-requires c =
-    let lent = sheet_bytes c.args.src.now c.args.area1.now c.args.area2.now c.args.area3.now c.args.area4.now c.args.area5.now c.args.counts.now in
     let of = c.sizes_of-sizes.ensures in
     let good = c.good_sizes.ensures in
     record {
-      areas_long = check_long lent _ of _ good c.if-good_sizes.true;
-      le_states = check_some lent _ of _ good c.if-good_sizes.true;
+      areas_long = check_long (lent_sheet c.args.sheet) _ of _ good c.if-good_sizes.true;
+      le_states = check_some (lent_sheet c.args.sheet) _ of _ good c.if-good_sizes.true;
     }
 
 pub returns-then-quick_records : goal.returns-then-quick_records

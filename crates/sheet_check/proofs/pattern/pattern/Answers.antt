@@ -5,17 +5,17 @@ use Rattle.sheet_check.proofs.pattern.pattern.Goals as goal
 
 pub slice_bounds-result-end : goal.slice_bounds-result-end
 slice_bounds-result-end c =
-    let inside = part_inside _ _ _ _ _ _ c.locate.ensures c.in-Part.is in
-    omega (arith, inside.rewritten c.if-place-eq1.true, inside.long)
+    let inside = part_inside _ _ _ _ c.locate.ensures c.in-Some.is in
+    omega (arith, inside.rewritten c.if-part-eq1.true, inside.long)
 
-pub returns-then-place-eq1 : goal.returns-then-place-eq1
-returns-then-place-eq1 c = in_rewritten _ _ _ _ _ c.locate.ensures _ _ _ c.in-Part.is c.if-place-eq1.true
+pub returns-then-part-eq1 : goal.returns-then-part-eq1
+returns-then-part-eq1 c = in_rewritten _ _ _ _ _ c.locate.ensures _ c.in-Some.is c.if-part-eq1.true
 
-pub slice_bounds-result-end-in-Part : goal.slice_bounds-result-end-in-Part
-slice_bounds-result-end-in-Part c = (part_inside _ _ _ _ _ _ c.locate.ensures c.in-Part.is).source c.if-place-eq1.false
+pub slice_bounds-result-end-in-Some : goal.slice_bounds-result-end-in-Some
+slice_bounds-result-end-in-Some c = (part_inside _ _ _ _ c.locate.ensures c.in-Some.is).source c.if-part-eq1.false
 
-pub returns-else-place-eq1 : goal.returns-else-place-eq1
-returns-else-place-eq1 c = in_source _ _ _ _ _ c.locate.ensures _ _ _ c.in-Part.is c.if-place-eq1.false
+pub returns-else-part-eq1 : goal.returns-else-part-eq1
+returns-else-part-eq1 c = in_source _ _ _ _ _ c.locate.ensures _ c.in-Some.is c.if-part-eq1.false
 
-pub returns-in-BrokenSheet : goal.returns-in-BrokenSheet
-returns-in-BrokenSheet c = in_neither _ _ _ _ _ c.locate.ensures c.in-BrokenSheet.is
+pub returns-in-None : goal.returns-in-None
+returns-in-None c = in_neither _ _ _ _ _ c.locate.ensures c.in-None.is

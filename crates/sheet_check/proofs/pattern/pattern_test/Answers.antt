@@ -2,8 +2,8 @@
 use Rattle.sheet_check.proofs.Patterns.{number_part, number_broken}
 use Rattle.sheet_check.proofs.pattern.pattern_test.Goals as goal
 
-pub returns-in-Part : goal.returns-in-Part
-returns-in-Part c = number_part _ _ c.locate.ensures _ _ _ c.in-Part.is
+pub returns-in-Some : goal.returns-in-Some
+returns-in-Some c = number_part _ _ c.locate.ensures _ c.in-Some.is
 
-pub returns-in-BrokenSheet : goal.returns-in-BrokenSheet
-returns-in-BrokenSheet c = number_broken _ _ c.locate.ensures c.in-BrokenSheet.is
+pub returns-in-None : goal.returns-in-None
+returns-in-None c = number_broken _ _ c.locate.ensures c.in-None.is

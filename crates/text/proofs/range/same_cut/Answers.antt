@@ -2,20 +2,11 @@
 use Rattle.text.proofs.Ranges.{range_calls}
 use Rattle.text.proofs.range.same_cut.Goals as goal
 
-pub part_len-n-requires : goal.part_len-n-requires
-part_len-n-requires c = search range_calls
-
-pub part_len-requires : goal.part_len-requires
-part_len-requires c = search range_calls
-
 pub returns-then-n-part_len : goal.returns-then-n-part_len
 returns-then-n-part_len c = search range_calls
 
 pub returns-then-n-eq0 : goal.returns-then-n-eq0
 returns-then-n-eq0 c = search range_calls
-
-pub same_bytes-requires : goal.same_bytes-requires
-same_bytes-requires c = search range_calls
 
 pub returns : goal.returns
 returns c = search range_calls

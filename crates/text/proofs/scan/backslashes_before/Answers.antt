@@ -1,30 +1,19 @@
--- `text::scan::backslashes_before` meets its contract: from where the loop stands the last byte that is no backslash is the same.
-use Rattle.text.proofs.Trims.{counting}
+-- `text::scan::backslashes_before` meets its contract: it asks of each byte whether it is no backslash.
+use Rattle.std.proofs.Common.{rules}
+use Rattle.std.proofs.Common.{ap, not, eqb, None}
+use Rattle.characters.specs.Whitespace.{byte}
+use Rattle.text.specs.Scan.{backslashes_behind, backslashes_before}
+use Rattle.characters.proofs.Asking.{finds_last}
 use Rattle.text.proofs.scan.backslashes_before.Goals as goal
 
-pub loop-k-init : goal.loop-k-init
-loop-k-init c = search counting
+pub returns-in-Some : goal.returns-in-Some
+unfolding backslashes_before backslashes_behind
+returns-in-Some c =
+    let args = c.args in
+    ap (backslashes_behind args.i args.u) (finds_last _ (λ k. not (eqb (byte args.s.now k) 0x5c)) _ _ _ (λ k b h l a. search rules) c.in-Some.ensures)
 
-pub overflow_sub-j : goal.overflow_sub-j
-overflow_sub-j c = search counting
-
-pub bounds-s-j : goal.bounds-s-j
-bounds-s-j c = search counting
-
-pub overflow_sub-result : goal.overflow_sub-result
-overflow_sub-result c = search counting
-
-pub returns-then-s-j-ne92 : goal.returns-then-s-j-ne92
-returns-then-s-j-ne92 c = search counting
-
-pub loop-k-smaller : goal.loop-k-smaller
-loop-k-smaller c = search counting
-
-pub loop-k-preserved : goal.loop-k-preserved
-loop-k-preserved c = search counting
-
-pub overflow_sub-result-2 : goal.overflow_sub-result-2
-overflow_sub-result-2 c = search counting
-
-pub returns : goal.returns
-returns c = search counting
+pub returns-in-None : goal.returns-in-None
+unfolding backslashes_before backslashes_behind
+returns-in-None c =
+    let args = c.args in
+    ap (backslashes_behind args.i args.u) (finds_last _ (λ k. not (eqb (byte args.s.now k) 0x5c)) _ _ None (λ k b h l a. search rules) c.in-None.ensures)

@@ -1,27 +1,8 @@
--- `text::scan::block_may_end_line` meets its contract: where it has found none, no line end starts with a byte looked at so far.
-use Rattle.text.proofs.Blocks.{looking}
+-- `text::scan::block_may_end_line` meets its contract: a line end starts with a byte that may start one.
+use Rattle.std.proofs.Common.{rules}
+use Rattle.characters.proofs.Asking.{asks_rules_out}
+use Rattle.characters.proofs.Spaces.{end_may_start}
 use Rattle.text.proofs.scan.block_may_end_line.Goals as goal
 
-pub loop-j-init : goal.loop-j-init
-loop-j-init c = search looking
-
-pub overflow_add-i : goal.overflow_add-i
-overflow_add-i c = search looking
-
-pub bounds-s-i : goal.bounds-s-i
-bounds-s-i c = search looking
-
-pub may_end_line-found-requires : goal.may_end_line-found-requires
-may_end_line-found-requires c = search looking
-
-pub overflow_add-j : goal.overflow_add-j
-overflow_add-j c = search looking
-
-pub loop-j-smaller : goal.loop-j-smaller
-loop-j-smaller c = search looking
-
-pub loop-j-preserved : goal.loop-j-preserved
-loop-j-preserved c = search looking
-
 pub returns : goal.returns
-returns c = search looking
+returns c = asks_rules_out _ _ _ _ (λ j b h a. search (rules, end_may_start)) c.any_of.ensures

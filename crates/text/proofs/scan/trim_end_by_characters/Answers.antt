@@ -2,20 +2,8 @@
 use Rattle.text.proofs.Trims.{trimming}
 use Rattle.text.proofs.scan.trim_end_by_characters.Goals as goal
 
-pub loop-k-init : goal.loop-k-init
-loop-k-init c = search trimming
-
-pub parse_ws-w-requires : goal.parse_ws-w-requires
-parse_ws-w-requires c = search trimming
-
 pub returns-then-e-w : goal.returns-then-e-w
 returns-then-e-w c = search trimming
-
-pub overflow_add-k : goal.overflow_add-k
-overflow_add-k c = search trimming
-
-pub loop-k-smaller : goal.loop-k-smaller
-loop-k-smaller c = search trimming
 
 pub loop-k-preserved : goal.loop-k-preserved
 loop-k-preserved c = search trimming

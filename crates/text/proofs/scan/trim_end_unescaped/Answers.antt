@@ -2,26 +2,11 @@
 use Rattle.text.proofs.Trims.{trimming_escaped}
 use Rattle.text.proofs.scan.trim_end_unescaped.Goals as goal
 
-pub ends_plainly-requires : goal.ends_plainly-requires
-ends_plainly-requires c = search trimming_escaped
-
 pub returns-then-ends_plainly : goal.returns-then-ends_plainly
 returns-then-ends_plainly c = search trimming_escaped
 
-pub trim_end_by_characters-u-requires : goal.trim_end_by_characters-u-requires
-trim_end_by_characters-u-requires c = search trimming_escaped
-
 pub returns-then-u-e : goal.returns-then-u-e
 returns-then-u-e c = search trimming_escaped
-
-pub backslashes_before-requires : goal.backslashes_before-requires
-backslashes_before-requires c = search trimming_escaped
-
-pub whitespace_len-requires : goal.whitespace_len-requires
-whitespace_len-requires c = search trimming_escaped
-
-pub overflow_add-result : goal.overflow_add-result
-overflow_add-result c = search trimming_escaped
 
 pub returns-then-backslashes_before-eq1 : goal.returns-then-backslashes_before-eq1
 returns-then-backslashes_before-eq1 c = search trimming_escaped

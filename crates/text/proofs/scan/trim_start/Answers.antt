@@ -1,12 +1,15 @@
 -- `text::scan::trim_start` meets its contract: what is skipped ends before e or not.
-use Rattle.text.proofs.Trims.{trimming_start}
+use Rattle.std.proofs.Common.{ap, ◌∙◌, min, arith}
+use Rattle.text.specs.Scan.{trim_start}
 use Rattle.text.proofs.scan.trim_start.Goals as goal
 
-pub parse_ws-k-requires : goal.parse_ws-k-requires
-parse_ws-k-requires c = search trimming_start
-
-pub returns-then-k-e : goal.returns-then-k-e
-returns-then-k-e c = search trimming_start
-
 pub returns : goal.returns
-returns c = search trimming_start
+unfolding trim_start
+returns c =
+    let args = c.args in
+    let f = c.parse_ws.ensures in
+    record {
+      is = c.min.ensures ∙ ap (λ k. min k args.e) f.is;
+      from = omega (arith, f.from, c.min.ensures);
+      to = omega (arith, c.min.ensures);
+    }

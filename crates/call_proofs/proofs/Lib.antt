@@ -1,5 +1,0 @@
-pub mod References
-pub mod Shapes
-pub mod Tuples
-pub mod Locals
-pub mod Lending

@@ -1,9 +1,0 @@
--- `lanes::eight_within` meets its contract: where the joint of the excesses is 0, each is.
-use Rattle.std.proofs.Common.{arith, rules}
-use Rattle.lanes.proofs.LaneLaws.{entries_to, excess_next}
-use Rattle.lanes.proofs.eight_within.Goals as goal
-
-pub loop-j-preserved : goal.loop-j-preserved
-loop-j-preserved c =
-    let so_far = c.loop-j.invariant.1 in
-    (search rules, λ e. entries_to _ _ _ _ _ (omega arith) (excess_next _ _ _ _ _ _ _ so_far c.read_entry.ensures c.saturating_sub-excess.ensures e))

@@ -1,0 +1,8 @@
+-- `output::Text::push_field` meets its contract: a blank, then the digits.
+use Rattle.std.proofs.Common.{arith, ◌∙◌}
+use Rattle.output.proofs.Numbers.{field_printed}
+use Rattle.output.proofs.Text.push_field.Goals as goal
+
+pub returns : goal.returns
+returns g c =
+    field_printed g.row.N c.args.self.now c.args.x (omega arith) c.push_blank.ensures (c.as_bytes.ensures.value ∙ c.format.ensures.text) c.push_text.ensures

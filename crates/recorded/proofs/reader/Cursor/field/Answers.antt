@@ -1,0 +1,10 @@
+-- Two bytes make the number.
+use Rattle.std.proofs.Common.{◌∙◌}
+use Rattle.recorded.proofs.Reading.{field_read}
+use Rattle.recorded.proofs.reader.Cursor.field.Goals as goal
+
+pub returns : goal.returns
+returns c = record {
+  is = c.from_le_bytes.ensures ∙ field_read _ _ _ c.front.ensures.is;
+  goes = c.front.ensures.goes;
+}

@@ -1,9 +1,0 @@
--- The offset stays within the text.
-use Rattle.std.proofs.Common.{length, ◌-◌, ◌≤◌}
-use Rattle.text_cases.proofs.show.Given as goal
-
-abbrev pub invariant-loop-i : goal.invariant-loop-i
-invariant-loop-i g l = l.i ≤ length l.s
-
-abbrev pub decreases-loop-i : goal.decreases-loop-i
-decreases-loop-i g l = length l.s - l.i
