@@ -9,34 +9,36 @@ use native.Mathlib.Nat.{add-mul, sub-zero}
 use native.Mathlib.Omega.{arith}
 use lib.ListN.{length, get_or, take, drop, length-append, length-drop, take-append-drop}
 use lib.Seq.{sets, length-sets, length-take-le}
-use Rattle.area.specs.declared.Appended.{Appended}
-use Rattle.area.specs.declared.Appended.TheVariants.{Next, Full}
+use Rattle.std.specs.Prelude.{Result, Ok, Err}
+use Rattle.area.specs.declared.AreaName.{AreaName}
+use Rattle.area.specs.declared.AreaName.TheVariants.{Text}
+use Rattle.area.specs.declared.AreaFull.{AreaFull}
 use Rattle.area.specs.Bytes.{bytes, pad, zeros}
-use Rattle.area.specs.Areas.{room, Area, TextArea, one, Pushed, PushedText, insert_at, move_up, inserted}
+use Rattle.area.specs.Areas.{room, Area, TextArea, one, Pushed, PushedText, full, insert_at, move_up, inserted}
 use Rattle.area.proofs.Lists.{length_pad, sets_pad, insert_pad}
 use Rattle.area.proofs.Fields.{bytes-append, bytes_insert, bytes-length, bytes-at}
 use Rattle.area.proofs.Rooms.{room_few, room_fits}
 
 -- ---- what an answer says back
 
-module _ {w limit m : ℕ} {v l : List ℕ} {n : ℕ} {r : Appended} {e : List ℕ} (p : Pushed w limit m v l n r e) where
-  next_case : (t : Bool) (k : ℕ) → room w limit (length l) n m ≡ t → r ≡ cond t (Next (n + m)) Full → e ≡ cond t (sets l (n * w) v) l → r ≡ Next k
+module _ {name : AreaName} {w limit m : ℕ} {v l : List ℕ} {n : ℕ} {r : Result ℕ AreaFull} {e : List ℕ} (p : Pushed name w limit m v l n r e) where
+  next_case : (t : Bool) (k : ℕ) → room w limit (length l) n m ≡ t → r ≡ cond t (Ok (n + m)) (Err (full name)) → e ≡ cond t (sets l (n * w) v) l → r ≡ Ok k
       → (room w limit (length l) n m ≡ true) × (k ≡ n + m) × (e ≡ sets l (n * w) v)
   next_case true k t s h q = (t, cc, h)
   next_case false k t s h q = (cc, cc, cc)
 
-  full_case : (t : Bool) → room w limit (length l) n m ≡ t → r ≡ cond t (Next (n + m)) Full → e ≡ cond t (sets l (n * w) v) l → r ≡ Full
-      → (room w limit (length l) n m ≡ false) × (e ≡ l)
-  full_case true t s h q = (cc, cc)
-  full_case false t s h q = (t, h)
+  full_case : (t : Bool) (x : AreaFull) → room w limit (length l) n m ≡ t → r ≡ cond t (Ok (n + m)) (Err (full name)) → e ≡ cond t (sets l (n * w) v) l → r ≡ Err x
+      → (room w limit (length l) n m ≡ false) × (e ≡ l) × (x ≡ full name)
+  full_case true x t s h q = (cc, cc, cc)
+  full_case false x t s h q = (t, h, cc)
 
   -- there was room, this is the count, and the bytes are written
-  pub next_says : {k : ℕ} → r ≡ Next k → (room w limit (length l) n m ≡ true) × (k ≡ n + m) × (e ≡ sets l (n * w) v)
+  pub next_says : {k : ℕ} → r ≡ Ok k → (room w limit (length l) n m ≡ true) × (k ≡ n + m) × (e ≡ sets l (n * w) v)
   next_says {k} q = next_case (room w limit (length l) n m) k refl p.says p.leaves q
 
   -- there was no room, and nothing is changed
-  pub full_says : r ≡ Full → (room w limit (length l) n m ≡ false) × (e ≡ l)
-  full_says q = full_case (room w limit (length l) n m) refl p.says p.leaves q
+  pub full_says : {x : AreaFull} → r ≡ Err x → (room w limit (length l) n m ≡ false) × (e ≡ l) × (x ≡ full name)
+  full_says {x} q = full_case (room w limit (length l) n m) x refl p.says p.leaves q
 
   same_case : (t : Bool) → length (cond t (sets l (n * w) v) l) ≡ length l
   same_case true = length-sets l (n * w) v
@@ -65,11 +67,11 @@ module _ {A : Type 0} {f : A → List ℕ} {w : ℕ} (wide : (x : A) → length 
     tested_room m {t} {b} p q = rw (← area-length, ← a.count) (sym p ∙ q)
 
     -- an append that answers a count found room; one that answers none found none
-    pub next_room : {m : ℕ} {v : List ℕ} {r : Appended} {e : List ℕ} {k : ℕ} → Pushed w limit m v l n r e → r ≡ Next k
+    pub next_room : {name : AreaName} {m : ℕ} {v : List ℕ} {r : Result ℕ AreaFull} {e : List ℕ} {k : ℕ} → Pushed name w limit m v l n r e → r ≡ Ok k
         → room w limit cap (length xs) m ≡ true
     next_room {m} p q = tested_room m refl (next_says p q).0
 
-    pub full_room : {m : ℕ} {v : List ℕ} {r : Appended} {e : List ℕ} → Pushed w limit m v l n r e → r ≡ Full
+    pub full_room : {name : AreaName} {m : ℕ} {v : List ℕ} {r : Result ℕ AreaFull} {e : List ℕ} {x : AreaFull} → Pushed name w limit m v l n r e → r ≡ Err x
         → room w limit cap (length xs) m ≡ false
     full_room {m} p q = tested_room m refl (full_says p q).0
 
@@ -90,7 +92,7 @@ module _ {A : Type 0} {f : A → List ℕ} {w : ℕ} (wide : (x : A) → length 
         }
 
     -- what an append leaves: the list with what was appended
-    pub next_areas : {r : Appended} {e : List ℕ} {k : ℕ} (ys : List A) → Pushed w limit (length ys) (bytes f ys) l n r e → r ≡ Next k
+    pub next_areas : {name : AreaName} {r : Result ℕ AreaFull} {e : List ℕ} {k : ℕ} (ys : List A) → Pushed name w limit (length ys) (bytes f ys) l n r e → r ≡ Ok k
         → Area f w limit cap e k (xs ++ ys)
     next_areas ys p q = rw ((next_says p q).2, (next_says p q).1) (area-append ys (next_room p q))
 
@@ -151,6 +153,6 @@ unfolding bytes
 bytes_one [] = refl
 bytes_one (x ∷ xs) = ap (λ (l : List ℕ). x ∷ l) (bytes_one xs)
 
-pub next_text : {cap n k : ℕ} {l xs v : List ℕ} {r : Appended} {e : List ℕ} → TextArea cap l n xs → PushedText v l n r e → r ≡ Next k
+pub next_text : {cap n k : ℕ} {l xs v : List ℕ} {r : Result ℕ AreaFull} {e : List ℕ} → TextArea cap l n xs → PushedText v l n r e → r ≡ Ok k
     → TextArea cap e k (xs ++ v)
-next_text {v = v} a p q = next_areas one_wide a v (rw (bytes_one v) p) q
+next_text {v = v} a p q = next_areas one_wide a {name = Text} v (rw (bytes_one v) p) q

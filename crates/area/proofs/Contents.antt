@@ -9,13 +9,14 @@ use borrow.Author.Tests.{leb-true, leb-false}
 use lib.Dec.{leb}
 use lib.ListN.{length, get_or, take, length-append, get_or-append}
 use lib.Seq.{take-suc, take-length, get_or_at}
-use Rattle.area.specs.declared.Appended.{Appended}
-use Rattle.area.specs.declared.Appended.TheVariants.{Next, Full}
+use Rattle.std.specs.Prelude.{Result, Ok, Err}
+use Rattle.area.specs.declared.AreaName.{AreaName}
+use Rattle.area.specs.declared.AreaFull.{AreaFull}
 use Rattle.area.specs.Areas.{Area, Pushed, room, insert_at, inserted}
 use mathlib.Core.Option.{none, some}
 use Rattle.area.specs.Bytes.{bytes, zeros}
 use Rattle.area.specs.Contents.{Format, contents, list_of, Held, append, left_by, Grows, state_format, rule_format, entry_format, text_format, expected_format, fault_format}
-use Rattle.area.proofs.Areas.{area-at, area_empty, area_inserted, area-length, full_room, next_areas, next_room, one_wide, pushed_length}
+use Rattle.area.proofs.Areas.{full_says, area-at, area_empty, area_inserted, area-length, full_room, next_areas, next_room, one_wide, pushed_length}
 use Rattle.area.proofs.Fields.{bytes_single}
 use Rattle.area.proofs.Records.{state_wide, rule_wide, entry_wide, expected_wide, fault_wide, state_read, rule_read, entry_read, expected_read, fault_read}
 
@@ -112,26 +113,27 @@ module _ {A : Type 0} {F : Format A} (sound : Sound F) where
     contents-at k g = sym (sound.back k h.area g)
 
     -- an append does `append`
-    pub held-append : (ys : List A) {m : ℕ} {v : List ℕ} {r : Appended} {e : List ℕ} → m ≡ length ys → v ≡ bytes F.write ys
-        → Pushed F.width F.most m v l n r e → Grows F (append F (length l) ys) l n r e
+    pub held-append : (ys : List A) {m : ℕ} {v : List ℕ} {r : Result ℕ AreaFull} {e : List ℕ} → m ≡ length ys → v ≡ bytes F.write ys
+        → Pushed F.name F.width F.most m v l n r e → Grows F (append F (length l) ys) l n r e
     unfolding append
     held-append ys {m} {v} {r} {e} qm qv p = record {
       says = by r refl;
       held = λ k q. held_of (after k q);
+      names = λ x q. (full_says p q).2;
       long = pushed_length p;
     }
       where
-        p' : Pushed F.width F.most (length ys) (bytes F.write ys) l n r e
+        p' : Pushed F.name F.width F.most (length ys) (bytes F.write ys) l n r e
         p' = rw (← qm, ← qv) p
 
-        after : (k : ℕ) → r ≡ Next k → Area F.write F.width F.most (length l) e k (contents F l n ++ ys)
+        after : (k : ℕ) → r ≡ Ok k → Area F.write F.width F.most (length l) e k (contents F l n ++ ys)
         after k q = next_areas sound.wide h.area ys p' q
 
-        by : (x : Appended) → r ≡ x → cond (room F.width F.most (length l) (length (contents F l n)) (length ys)) (some (contents F l n ++ ys)) none ≡ left_by F e r
-        by (Next k) q = rw (next_room sound.wide h.area p' q, q, contents_are (after k q))
-        by Full q = rw (full_room sound.wide h.area p' q, q)
+        by : (x : Result ℕ AreaFull) → r ≡ x → cond (room F.width F.most (length l) (length (contents F l n)) (length ys)) (some (contents F l n ++ ys)) none ≡ left_by F e r
+        by (Ok k) q = rw (next_room sound.wide h.area p' q, q, contents_are (after k q))
+        by (Err x) q = rw (full_room sound.wide h.area p' q, q)
 
-    pub held_push : (x : A) {r : Appended} {e : List ℕ} → Pushed F.width F.most 1 (F.write x) l n r e → Grows F (append F (length l) (x ∷ [])) l n r e
+    pub held_push : (x : A) {r : Result ℕ AreaFull} {e : List ℕ} → Pushed F.name F.width F.most 1 (F.write x) l n r e → Grows F (append F (length l) (x ∷ [])) l n r e
     held_push x p = held-append (x ∷ []) refl (sym (bytes_single F.write x)) p
 
     -- a record in between

@@ -9,7 +9,9 @@ use native.Mathlib.Numerals.{add-one}
 use native.Mathlib.Omega.{arith}
 use lib.ListN.{length, get_or, take, drop, length-map}
 use lib.Seq.{sets, sets-eq, take_at, drop-append-add, drop-drop, get_or-append-add, get_or-drop}
-use Rattle.area.specs.declared.Appended.{Appended}
+use Rattle.std.specs.Prelude.{Result, Ok, Err}
+use Rattle.area.specs.declared.AreaName.{AreaName}
+use Rattle.area.specs.declared.AreaFull.{AreaFull}
 use Rattle.area.specs.Bytes.{bytes, pad, zeros, field_at, field_from}
 use Rattle.area.specs.Records.{rule_width, rule_of, rule_at}
 use Rattle.area.specs.Areas.{Area, Pushed, room}
@@ -120,21 +122,6 @@ module _ {A : Type 0} {F : Format A} (sound : Sound F) (near : Local F) (g : A �
 
     pub after_all : (n : ℕ) → n ≤ k → k ≤ n → a ≡ after n
     after_all n h h' = is ∙ ap after (omega arith)
-
--- ---- an append that has room writes
-
-module _ {w limit : ℕ} {v a : List ℕ} {k : ℕ} {r : Appended} {e : List ℕ} (p : Pushed w limit 1 v a k r e) (n : ℕ) (h : k < n) (few : n ≤ limit) (long : n * w ≤ length a) where
-  pub record_inside : k * w + w ≤ length a
-  record_inside =
-      let b : (k + 1) * w ≤ n * w = mul-le-mul_right w (omega arith) in
-      let c : (k + 1) * w ≡ k * w + w = ap (λ (j : ℕ). j * w) (add-one k) ∙ suc-mul k w ∙ omega arith in
-      omega (arith, b, c)
-
-  pub pushed_writes : e ≡ sets a (k * w) v
-  pushed_writes =
-      let b : (k + 1) * w ≤ n * w = mul-le-mul_right w (omega arith) in
-      let t : room w limit (length a) k 1 ≡ true = room_yes w limit (length a) k 1 (omega arith) (omega (arith, b)) in
-      p.leaves ∙ ap (λ (y : Bool). cond y (sets a (k * w) v) a) t
 
 -- ---- records laid over the front of an area are read back
 

@@ -15,8 +15,9 @@ use mir.Syntax.{w16}
 use mir.Val.{Fits}
 use lib.ListN.{length, take, drop, length-drop}
 use lib.Seq.{sets, length-take-le}
-use Rattle.area.specs.declared.Appended.TheVariants.{Next, Full}
-use Rattle.area.specs.Areas.{room, Pushed}
+use Rattle.std.specs.Prelude.{Ok, Err}
+use Rattle.area.specs.declared.AreaName.{AreaName}
+use Rattle.area.specs.Areas.{room, Pushed, full}
 use Rattle.area.specs.Contents.{Format, Sized}
 
 both : (a b : Bool) → a && b ≡ true → (a ≡ true) × (b ≡ true)
@@ -81,13 +82,13 @@ record_fits w cap n k h fits =
     let b : suc k * w ≤ n * w = mul-le-mul_right w (omega arith) in
     omega (arith, b, fits, suc-mul k w)
 
-module _ (w limit m : ℕ) (v l : List ℕ) (n : ℕ) (t : Bool) (is : t ≡ room w limit (length l) n m) where
-  pub push_next : (e : List ℕ) → t ≡ true → e ≡ sets l (n * w) v → Pushed w limit m v l n (Next (n + m)) e
+module _ (name : AreaName) (w limit m : ℕ) (v l : List ℕ) (n : ℕ) (t : Bool) (is : t ≡ room w limit (length l) n m) where
+  pub push_next : (e : List ℕ) → t ≡ true → e ≡ sets l (n * w) v → Pushed name w limit m v l n (Ok (n + m)) e
   push_next e h p =
       let y : room w limit (length l) n m ≡ true = sym is ∙ h in
       record { says = rw y; leaves = rw y p }
 
-  pub push_full : t ≡ false → Pushed w limit m v l n Full l
+  pub push_full : t ≡ false → Pushed name w limit m v l n (Err (full name)) l
   push_full h =
       let y : room w limit (length l) n m ≡ false = sym is ∙ h in
       record { says = rw y; leaves = rw y }
@@ -103,7 +104,7 @@ module _ (s : List ℕ) (from to : ℕ) (ordered : from ≤ to) (inside : to ≤
   cut_length : length (cut s from to) ≡ to - from
   cut_length = length-take-le (to - from) (drop from s) (omega (arith, length-drop from s))
 
-  module _ (limit : ℕ) (l : List ℕ) (n : ℕ) (t : Bool) (is : t ≡ room 1 limit (length l) n (to - from)) where
+  module _ (name : AreaName) (limit : ℕ) (l : List ℕ) (n : ℕ) (t : Bool) (is : t ≡ room 1 limit (length l) n (to - from)) where
     room_cut : t ≡ room 1 limit (length l) n (length (cut s from to))
     room_cut = is ∙ ap (room 1 limit (length l) n) (sym cut_length)
 
@@ -111,17 +112,17 @@ module _ (s : List ℕ) (from to : ℕ) (ordered : from ≤ to) (inside : to ≤
     text_fits e = omega (arith, cut_length, was_fit 1 limit (length l) n (to - from) t is e)
 
     pub text_next : (e : List ℕ) → t ≡ true → e ≡ sets l n (cut s from to)
-        → Pushed 1 limit (length (cut s from to)) (cut s from to) l n (Next (n + (to - from))) e
+        → Pushed name 1 limit (length (cut s from to)) (cut s from to) l n (Ok (n + (to - from))) e
     text_next e h p =
         let v : List ℕ = cut s from to in
         let q : e ≡ sets l (n * 1) v = p ∙ ap (λ (i : ℕ). sets l i v) (sym (mul-one n)) in
-        subst (λ (k : ℕ). Pushed 1 limit (length v) v l n (Next (n + k)) e) cut_length (push_next 1 limit (length v) v l n t room_cut e h q)
+        subst (λ (k : ℕ). Pushed name 1 limit (length v) v l n (Ok (n + k)) e) cut_length (push_next name 1 limit (length v) v l n t room_cut e h q)
 
-    pub text_full : t ≡ false → Pushed 1 limit (length (cut s from to)) (cut s from to) l n Full l
-    text_full h = push_full 1 limit (length (cut s from to)) (cut s from to) l n t room_cut h
+    pub text_full : t ≡ false → Pushed name 1 limit (length (cut s from to)) (cut s from to) l n (Err (full name)) l
+    text_full h = push_full name 1 limit (length (cut s from to)) (cut s from to) l n t room_cut h
 
 -- the test that the code makes by its own numbers
-pub sized_room : {A : Type 0} {F : Format A} {w most : ℕ} (s : Sized F w most) (cap n m u v : ℕ) (t : Bool) → u ≡ w → v ≡ most → t ≡ room u v cap n m
+pub sized_room : {A : Type 0} {F : Format A} {w most : ℕ} {name : AreaName} (s : Sized F name w most) (cap n m u v : ℕ) (t : Bool) → u ≡ w → v ≡ most → t ≡ room u v cap n m
     → t ≡ room F.width F.most cap n m
 sized_room s cap n m u v t p q is = is ∙ ap₂ (λ (a b : ℕ). room a b cap n m) (p ∙ s.width_is) (q ∙ s.most_is)
 

@@ -1,9 +1,10 @@
 -- A list of records in an area, and what it is to append to it and to insert into it (01, Areas).
 -- Assumes nothing.
-use Rattle.std.specs.Prelude.{◌≡◌, Bool, cond, ◌&&◌, List, [], ◌∷◌, ◌++◌, ℕ, ◌+◌, ◌*◌, ◌-◌, ◌≤◌, leb, length, take, drop}
+use Rattle.std.specs.Prelude.{Result, Ok, Err, ◌≡◌, Bool, cond, ◌&&◌, List, [], ◌∷◌, ◌++◌, ℕ, ◌+◌, ◌*◌, ◌-◌, ◌≤◌, leb, length, take, drop}
 use Rattle.std.proofs.lemmas.List.Edits.{sets}
-use Rattle.area.specs.declared.Appended.{Appended}
-use Rattle.area.specs.declared.Appended.TheVariants.{Next, Full}
+use Rattle.area.specs.declared.AreaName.{AreaName}
+use Rattle.area.specs.declared.AreaName.TheVariants.{Text}
+use Rattle.area.specs.declared.AreaFull.{AreaFull}
 use Rattle.area.specs.Bytes.{bytes, pad}
 use Rattle.area.specs.Records.{most_others}
 
@@ -28,15 +29,19 @@ TextArea cap l n xs = Area one 1 most_others cap l n xs
 
 -- ---- to append
 
--- m records, of the bytes v, are appended behind n in the area l: the answer r, and the area e afterwards. All of v is written,
+-- there is no room in the area
+abbrev pub full : AreaName → AreaFull
+full name = record { 0 = name }
+
+-- m records, of the bytes v, are appended behind n in the area l of that name: the answer r, and the area e afterwards. All of v is written,
 -- or nothing (01, Numbers given at the counter, 4)
-pub record Pushed (w limit m : ℕ) (v l : List ℕ) (n : ℕ) (r : Appended) (e : List ℕ) : Type 0 where
-  pub says : r ≡ cond (room w limit (length l) n m) (Next (n + m)) Full
+pub record Pushed (name : AreaName) (w limit m : ℕ) (v l : List ℕ) (n : ℕ) (r : Result ℕ AreaFull) (e : List ℕ) : Type 0 where
+  pub says : r ≡ cond (room w limit (length l) n m) (Ok (n + m)) (Err (full name))
   pub leaves : e ≡ cond (room w limit (length l) n m) (sets l (n * w) v) l
 
 -- the same for text, of which each byte is a record
-abbrev pub PushedText : List ℕ → List ℕ → ℕ → Appended → List ℕ → Type 0
-PushedText v l n r e = Pushed 1 most_others (length v) v l n r e
+abbrev pub PushedText : List ℕ → List ℕ → ℕ → Result ℕ AreaFull → List ℕ → Type 0
+PushedText v l n r e = Pushed Text 1 most_others (length v) v l n r e
 
 -- ---- to insert
 

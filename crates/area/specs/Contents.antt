@@ -1,14 +1,15 @@
 -- What an area holds, read back from its bytes: the list of its first n records (01, Areas).
-use Rattle.std.specs.Prelude.{ℕ, zero, suc, ◌*◌, ◌≤◌, ◌≡◌, cond, List, [], ◌∷◌, ◌++◌, length, get_or, drop}
+use Rattle.std.specs.Prelude.{Result, Ok, Err, ℕ, zero, suc, ◌*◌, ◌≤◌, ◌≡◌, cond, List, [], ◌∷◌, ◌++◌, length, get_or, drop}
 use Rattle.std.proofs.Math.Option.{Option, none, some}
 use Rattle.area.specs.declared.State.{State}
 use Rattle.area.specs.declared.Rule.{Rule}
 use Rattle.area.specs.declared.Expected.{Expected}
 use Rattle.area.specs.declared.Fault.{Fault}
-use Rattle.area.specs.declared.Appended.{Appended}
-use Rattle.area.specs.declared.Appended.TheVariants.{Next, Full}
+use Rattle.area.specs.declared.AreaName.{AreaName}
+use Rattle.area.specs.declared.AreaName.TheVariants as N
+use Rattle.area.specs.declared.AreaFull.{AreaFull}
 use Rattle.area.specs.Bytes.{bytes, pad}
-use Rattle.area.specs.Areas.{Area, one, room}
+use Rattle.area.specs.Areas.{Area, one, room, full}
 use Rattle.area.specs.Records.{state_bytes, rule_bytes, entry_bytes, expected_bytes, fault_bytes, state_at, rule_at, entry_at, expected_at, fault_at, state_of, rule_of, expected_of, fault_of, state_width, rule_width, entry_width, expected_width, fault_width, most_states, most_rules, most_others}
 
 -- f 0 up to f (n - 1)
@@ -16,9 +17,10 @@ unfoldable pub list_of : {A : Type 0} → (ℕ → A) → ℕ → List A
 list_of f zero = []
 list_of f (suc n) = list_of f n ++ (f n ∷ [])
 
--- how the records of an area are written and read: a record's bytes and their number, how many there may be, record k of an area's bytes,
+-- which area it is, and how its records are written and read: a record's bytes and their number, how many there may be, record k of an area's bytes,
 -- and the record whose fields are all 0
 pub record Format (A : Type 0) : Type 0 where
+  pub name : AreaName
   pub write : A → List ℕ
   pub width : ℕ
   pub most : ℕ
@@ -27,25 +29,26 @@ pub record Format (A : Type 0) : Type 0 where
 
 -- the six areas (01, Areas)
 abbrev pub state_format : Format State
-state_format = record { write = state_bytes; width = state_width; most = most_states; read = state_at; blank = state_of (λ _. 0) }
+state_format = record { name = N.States; write = state_bytes; width = state_width; most = most_states; read = state_at; blank = state_of (λ _. 0) }
 
 abbrev pub rule_format : Format Rule
-rule_format = record { write = rule_bytes; width = rule_width; most = most_rules; read = rule_at; blank = rule_of (λ _. 0) }
+rule_format = record { name = N.Rules; write = rule_bytes; width = rule_width; most = most_rules; read = rule_at; blank = rule_of (λ _. 0) }
 
 abbrev pub entry_format : Format ℕ
-entry_format = record { write = entry_bytes; width = entry_width; most = most_others; read = entry_at; blank = 0 }
+entry_format = record { name = N.Entries; write = entry_bytes; width = entry_width; most = most_others; read = entry_at; blank = 0 }
 
 abbrev pub text_format : Format ℕ
-text_format = record { write = one; width = 1; most = most_others; read = λ l k. get_or l k 0; blank = 0 }
+text_format = record { name = N.Text; write = one; width = 1; most = most_others; read = λ l k. get_or l k 0; blank = 0 }
 
 abbrev pub expected_format : Format Expected
-expected_format = record { write = expected_bytes; width = expected_width; most = most_others; read = expected_at; blank = expected_of (λ _. 0) }
+expected_format = record { name = N.Expected; write = expected_bytes; width = expected_width; most = most_others; read = expected_at; blank = expected_of (λ _. 0) }
 
 abbrev pub fault_format : Format Fault
-fault_format = record { write = fault_bytes; width = fault_width; most = most_others; read = fault_at; blank = fault_of (λ _. 0) }
+fault_format = record { name = N.Faults; write = fault_bytes; width = fault_width; most = most_others; read = fault_at; blank = fault_of (λ _. 0) }
 
--- a format whose records all have that many bytes, and of which an area may have so many. Both are small, so that their product cannot wrap
-pub record Sized {A : Type 0} (F : Format A) (width most : ℕ) : Type 0 where
+-- a format of the area of that name, whose records all have that many bytes, and of which an area may have so many. Both are small, so that their product cannot wrap
+pub record Sized {A : Type 0} (F : Format A) (name : AreaName) (width most : ℕ) : Type 0 where
+  pub name_is : name ≡ F.name
   pub width_is : width ≡ F.width
   pub most_is : most ≡ F.most
   pub narrow : F.width ≤ 28
@@ -73,12 +76,13 @@ unfoldable pub append : {A : Type 0} → Format A → ℕ → List A → List A 
 append F cap ys xs = cond (room F.width F.most cap (length xs) (length ys)) (some (xs ++ ys)) none
 
 -- the records that an answer leaves in the area e
-abbrev pub left_by : {A : Type 0} → Format A → List ℕ → Appended → Option (List A)
-left_by F e (Next m) = some (contents F e m)
-left_by F e Full = none
+abbrev pub left_by : {A : Type 0} → Format A → List ℕ → Result ℕ AreaFull → Option (List A)
+left_by F e (Ok m) = some (contents F e m)
+left_by F e (Err x) = none
 
--- f of the n records of the area l stands in the area e, which has as many bytes: r is their number, or Full where f gives none
-pub record Grows {A : Type 0} (F : Format A) (f : List A → Option (List A)) (l : List ℕ) (n : ℕ) (r : Appended) (e : List ℕ) : Type 0 where
+-- f of the n records of the area l stands in the area e, which has as many bytes: r is their number, or that the area is full where f gives none
+pub record Grows {A : Type 0} (F : Format A) (f : List A → Option (List A)) (l : List ℕ) (n : ℕ) (r : Result ℕ AreaFull) (e : List ℕ) : Type 0 where
   pub says : f (contents F l n) ≡ left_by F e r
-  pub held : (m : ℕ) → r ≡ Next m → Held F e m
+  pub held : (m : ℕ) → r ≡ Ok m → Held F e m
+  pub names : (x : AreaFull) → r ≡ Err x → x ≡ full F.name
   pub long : length e ≡ length l

@@ -3,14 +3,18 @@ use Rattle.std.specs.Prelude.{ℕ, List}
 use denote.MutBor.{MutBor}
 use denote.Triple.Both.{Both}
 
--- a parameter that lends a slice of bytes, or an array of numbers, for writing
+-- a parameter that lends a value for writing
+abbrev pub Lent : Type 0 → Type 0
+Lent A = Both (MutBor A) (MutBor A)
+
+-- a slice of bytes, or an array of numbers, that is lent so
 abbrev pub Bytes : Type 0
-Bytes = Both (MutBor (List ℕ)) (MutBor (List ℕ))
+Bytes = Lent (List ℕ)
 
 -- what it refers to before the call
-abbrev pub before : Bytes → List ℕ
+abbrev pub before : {A : Type 0} → Lent A → A
 before p = p.entry.now
 
 -- what it refers to after the call
-abbrev pub after : Bytes → List ℕ
+abbrev pub after : {A : Type 0} → Lent A → A
 after p = p.exit.now

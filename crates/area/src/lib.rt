@@ -1,7 +1,7 @@
 // The areas that a caller lends: records of two-byte fields, one after the other, and zeros behind them.
 #![tactic(auto)]
 
-pub mod list; // a list of records in an area that is lent for reading
+pub mod list; // a list of records that is lent for reading
 
 ghost use Rattle.std.specs.Prelude.{ℕ, ◌≡◌, ◌++◌, ◌∷◌, [], ◌+◌, ◌*◌, ◌-◌, ◌≤◌, length, take, drop};
 ghost use Rattle.std.proofs.lemmas.List.Edits.{sets};
@@ -36,21 +36,8 @@ impl AreaName {
 }
 
 // There was no room in the area.
-#[derive(Clone, Copy, Debug)]
+#[derive(Clone, Copy, PartialEq, Eq, Debug)]
 pub struct AreaFull(pub AreaName);
-
-// The areas by their numbers.
-pub const STATE_AREA: u16 = 1;
-
-pub const RULE_AREA: u16 = 2;
-
-pub const ENTRY_AREA: u16 = 3;
-
-pub const TEXT_AREA: u16 = 4;
-
-pub const EXPECTED_AREA: u16 = 5;
-
-pub const FAULT_AREA: u16 = 6;
 
 // How many bytes a record has.
 pub const STATE_WIDTH: usize = 6;
@@ -107,13 +94,6 @@ pub struct Fault {
     pub kind: u16,
     pub start: u16,
     pub end: u16,
-}
-
-// How many records there are afterwards, or that there was no room.
-#[derive(Clone, Copy)]
-pub enum Appended {
-    Next(u16),
-    Full,
 }
 
 // ---- fields: two bytes, the low one first
@@ -175,7 +155,7 @@ pub trait Record: Copy {
         requires { at + format.width ≤ length area.old }
         ensures { area.new ≡ sets area.old at (format.write self) };
 
-    ghost sized: { Sized format WIDTH MOST };
+    ghost sized: { Sized format NAME WIDTH MOST };
 }
 
 impl Record for State {
@@ -369,41 +349,6 @@ pub fn read<R: Record>(area: &[u8], k: usize) -> R
     R::read(area, k)
 }
 
-pub fn read_state(area: &[u8], k: usize) -> State
-    requires { k * state_width + state_width ≤ length area.now }
-    ensures { result ≡ state_at area.now k }
-{
-    read(area, k)
-}
-
-pub fn read_rule(area: &[u8], k: usize) -> Rule
-    requires { k * rule_width + rule_width ≤ length area.now }
-    ensures { result ≡ rule_at area.now k }
-{
-    read(area, k)
-}
-
-pub fn read_entry(area: &[u8], k: usize) -> u16
-    requires { k * entry_width + entry_width ≤ length area.now }
-    ensures { result ≡ entry_at area.now k }
-{
-    read(area, k)
-}
-
-pub fn read_expected(area: &[u8], k: usize) -> Expected
-    requires { k * expected_width + expected_width ≤ length area.now }
-    ensures { result ≡ expected_at area.now k }
-{
-    read(area, k)
-}
-
-pub fn read_fault(area: &[u8], k: usize) -> Fault
-    requires { k * fault_width + fault_width ≤ length area.now }
-    ensures { result ≡ fault_at area.now k }
-{
-    read(area, k)
-}
-
 // ---- records, appended
 
 // Whether m records more, behind n, fit the length and do not pass the limit. The limit comes first, so that the product
@@ -422,52 +367,28 @@ pub fn has_room(length: usize, width: usize, limit: usize, n: usize, m: usize) -
 }
 
 // A record behind n others.
-pub fn push<R: Record>(area: &mut [u8], n: u16, x: R) -> Appended
-    ensures { Pushed R.format.width R.format.most 1 (R.format.write x) area.old n result area.new }
+pub fn push<R: Record>(area: &mut [u8], n: u16, x: R) -> Result<u16, AreaFull>
+    ensures { Pushed R.format.name R.format.width R.format.most 1 (R.format.write x) area.old n result area.new }
 {
     let count = n as usize;
     let width = R::WIDTH;
     if has_room(area.len(), width, R::MOST, count, 1) {
         x.write(area, count * width);
-        return Appended::Next(n + 1);
+        return Ok(n + 1);
     }
-    Appended::Full
-}
-
-pub fn push_state(area: &mut [u8], n: u16, x: State) -> Appended
-    ensures { Pushed state_width most_states 1 (state_bytes x) area.old n result area.new }
-{
-    push(area, n, x)
-}
-
-pub fn push_rule(area: &mut [u8], n: u16, x: Rule) -> Appended
-    ensures { Pushed rule_width most_rules 1 (rule_bytes x) area.old n result area.new }
-{
-    push(area, n, x)
-}
-
-pub fn push_entry(area: &mut [u8], n: u16, id: u16) -> Appended
-    ensures { Pushed entry_width most_others 1 (entry_bytes id) area.old n result area.new }
-{
-    push(area, n, id)
-}
-
-pub fn push_expected(area: &mut [u8], n: u16, x: Expected) -> Appended
-    ensures { Pushed expected_width most_others 1 (expected_bytes x) area.old n result area.new }
-{
-    push(area, n, x)
-}
-
-pub fn push_fault(area: &mut [u8], n: u16, x: Fault) -> Appended
-    ensures { Pushed fault_width most_others 1 (fault_bytes x) area.old n result area.new }
-{
-    push(area, n, x)
+    Err(AreaFull(R::NAME))
 }
 
 // ---- text, appended
 
 // The bytes of the source from a place up to another, behind n bytes: all of them or none.
-pub fn push_text(area: &mut [u8], n: u16, source: &[u8], from: usize, to: usize) -> Appended
+pub fn push_text(
+    area: &mut [u8],
+    n: u16,
+    source: &[u8],
+    from: usize,
+    to: usize,
+) -> Result<u16, AreaFull>
     requires { (from ≤ to) × (to ≤ length source.now) }
     ensures { PushedText (take (to - from) (drop from source.now)) area.old n result area.new }
 {
@@ -475,9 +396,9 @@ pub fn push_text(area: &mut [u8], n: u16, source: &[u8], from: usize, to: usize)
     let more = to - from;
     if has_room(area.len(), 1, MOST_OTHERS, count, more) {
         area[count..count + more].copy_from_slice(&source[from..to]);
-        return Appended::Next((count + more) as u16);
+        return Ok((count + more) as u16);
     }
-    Appended::Full
+    Err(AreaFull(AreaName::Text))
 }
 
 // ---- zeros
@@ -514,11 +435,4 @@ pub fn insert<R: Record>(area: &mut [u8], p: usize, n: usize, x: R)
 {
     let width = R::WIDTH;
     insert_front(&mut area[p * width..], (n - p) * width, x);
-}
-
-pub fn insert_fault(area: &mut [u8], p: usize, n: usize, x: Fault)
-    requires { (p ≤ n) × (n * fault_width + fault_width ≤ length area.old) }
-    ensures { area.new ≡ inserted fault_width p n (fault_bytes x) area.old }
-{
-    insert(area, p, n, x);
 }

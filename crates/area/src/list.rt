@@ -25,6 +25,14 @@ impl<'a, R: Record> Model for Records<'a, R> {
     ghost invariant = { λ s. s.count * R.format.width ≤ length s.bytes.now };
 }
 
+// A number below a count, as a field has it.
+fn below(count: u16, k: usize) -> u16
+    requires { k < count }
+    ensures { result ≡ k }
+{
+    k as u16
+}
+
 impl<'a, R: Record> Records<'a, R> {
     pub fn new(bytes: &'a [u8], count: u16) -> Records<'a, R>
         requires { count * R.format.width ≤ length bytes.now }
@@ -50,6 +58,14 @@ impl<'a, R: Record> Records<'a, R> {
         R::read(self.bytes, k)
     }
 
+    // The number of record k, as a field has it: a list has no more records than a field can count.
+    pub fn number(&self, k: usize) -> u16
+        requires { k < length self.now }
+        ensures { result ≡ k }
+    {
+        below(self.count, k)
+    }
+
     // Whether the test passes every record. Each is asked, with no branch, for mostly all of them pass.
     pub fn all<F: Fn(R) -> bool>(&self, test: F) -> bool
         requires { (k : ℕ) → k < length self.now → F.pre test (get_or self.now k R.format.blank) }
@@ -62,22 +78,27 @@ impl<'a, R: Record> Records<'a, R> {
         passed
     }
 
-    // The first number from one to before another whose record passes the test, or the end.
-    pub fn position_in<F: Fn(usize, R) -> bool>(&self, from: usize, end: usize, test: F) -> usize
+    // The first number from one to before another whose record passes the test.
+    pub fn position_in<F: Fn(usize, R) -> bool>(
+        &self,
+        from: usize,
+        end: usize,
+        test: F,
+    ) -> Option<usize>
         requires range { (from ≤ end) × (end ≤ length self.now) }
         requires callable { (k : ℕ) → from ≤ k → k < end → F.pre test k (get_or self.now k R.format.blank) }
         ensures { FirstFound (F.post test) R.format.blank self.now from end result }
     {
         for k in from..end {
             if test(k, self.get(k)) {
-                return k;
+                return Some(k);
             }
         }
-        end
+        None
     }
 
-    // The first number whose record passes the test, or the count.
-    pub fn position<F: Fn(usize, R) -> bool>(&self, test: F) -> usize
+    // The first number whose record passes the test.
+    pub fn position<F: Fn(usize, R) -> bool>(&self, test: F) -> Option<usize>
         requires { (k : ℕ) → k < length self.now → F.pre test k (get_or self.now k R.format.blank) }
         ensures { FirstFound (F.post test) R.format.blank self.now 0 (length self.now) result }
     {

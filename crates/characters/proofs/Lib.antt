@@ -1,3 +1,4 @@
+pub mod Below
 pub mod Tests
 pub mod Walks
 pub mod Asking

@@ -55,6 +55,11 @@ pub record Between (i e n r : ℕ) : Type 0 where
   pub from : i ≤ r
   pub to : r ≤ e
 
+-- r is the position n, where it is below e; none where n is e
+abbrev pub Below : ℕ → ℕ → Option ℕ → Type 0
+Below e n (Some k) = (k < e) × (k ≡ n)
+Below e n None = e ≡ n
+
 -- ---- what code that walks promises, of a test that may give the answers at a position
 
 -- r is the first position from i to before e where the answer is true, or e

@@ -8,6 +8,7 @@ use borrow.Author.Rules.{rules}
 use borrow.Author.Tests.{le-leb, lt-leb, lt-ltb, le-ltb, leb-true}
 use lib.Dec.{eqb, leb, ltb}
 use lib.ListN.{length}
+use Rattle.std.specs.Prelude.{Result, Ok, Err}
 use Rattle.characters.specs.Walk.{Between}
 use Rattle.characters.specs.Class.{is_ascii_whitespace}
 use Rattle.characters.specs.Whitespace.{byte}
@@ -15,17 +16,18 @@ use Rattle.characters.proofs.Walks.{first_from}
 use Rattle.text.specs.Scan.{find_ascii_whitespace, skip_ascii_whitespace}
 use Rattle.characters.proofs.Tests.{and_left}
 use Rattle.area.specs.declared.Expected.{Expected}
-use Rattle.area.specs.declared.Appended.{Appended}
-use Rattle.area.specs.declared.Appended.TheVariants.{Next, Full}
+use Rattle.area.specs.declared.AreaFull.{AreaFull}
+use Rattle.area.specs.declared.AreaName.TheVariants as N
 use Rattle.area.specs.Areas.{Pushed}
 use Rattle.area.specs.Records.{expected_bytes, expected_width, most_others}
 use Rattle.area.specs.Contents.{append, contents, expected_format, Grows, Held}
 use Rattle.area.proofs.Contents.{expected_sound, held_push}
-use Rattle.fault.specs.declared.Progress.{Progress}
-use Rattle.fault.specs.declared.Progress.TheVariants.{Go, Bad}
-use Rattle.fault.specs.Step.{Out, go, bad, full, Does, progress, written}
-use Rattle.fault.specs.Faults.{InvalidName}
-use Rattle.fault.proofs.Steps.{Loops, loops_stop, loops_next, loops_bad, loops_full, going_start, does_go, does_bad, does_full, was_go, written_next}
+use Rattle.fault.specs.declared.Stop.{Stop}
+use Rattle.fault.specs.declared.Stop.TheVariants.{Fault, Full}
+use Rattle.fault.specs.declared.kinds.LexErrorKind.TheVariants.{InvalidName}
+use Rattle.fault.specs.Kinds.{kind_number}
+use Rattle.fault.specs.Step.{Out, go, bad, full, Does, outcome, written}
+use Rattle.fault.proofs.Steps.{Loops, loops_stop, loops_ok, loops_err, going_start, does_go, does_bad, does_full, does_err, was_ok, holds_ok, holds_err, written_next}
 use Rattle.fault.proofs.Steps.{written_full, written_place, bad_goes}
 use Rattle.declarations.specs.Declarations.{range, expected, is_quoted, declare_expected, expected_names}
 
@@ -50,27 +52,28 @@ pub ruleset quoting = (rules, quotes_short, quotes_by)
 
 module _ (s : List ℕ) (i e a n : ℕ) (l : List ℕ) (h : Held expected_format l n) (end : ℕ) (b : Between a e (find_ascii_whitespace s a e) end) (r : Bool)
     (q : r ≡ is_quoted s (range a end)) where
-  abbrev Done : List ℕ → Out ℕ → Type 0
-  Done x o =
+  abbrev Done : List ℕ → Result ℕ Stop → ℕ → Type 0
+  Done x o m =
       Does (Held expected_format x) (declare_expected s (length l) (range i e) (range a (find_ascii_whitespace s a e))) (contents expected_format l n)
-      (contents expected_format x) o
+      (contents expected_format x) (outcome o m)
 
-  pub expected_bad : r ≡ false → Done l (bad InvalidName i n)
+  pub expected_bad : r ≡ false → Done l (Err (Fault InvalidName i)) n
   unfolding declare_expected
   expected_bad t = does_bad (rw (← b.is, ← q, t)) h
 
-  module _ (t : r ≡ true) (p : Appended) (x : List ℕ) (pushed : Pushed expected_width most_others 1 (expected_bytes (expected (a + 1) (end - 1))) l n p x) where
+  module _ (t : r ≡ true) (p : Result ℕ AreaFull) (x : List ℕ) (pushed : Pushed N.Expected expected_width most_others 1 (expected_bytes (expected (a + 1) (end - 1))) l n p x) where
     grown : Grows expected_format (append expected_format (length l) (expected (a + 1) (end - 1) ∷ [])) l n p x
     grown = held_push expected_sound h (expected (a + 1) (end - 1)) pushed
 
-    pub expected_next : (m j : ℕ) → p ≡ Next m → Between end e (skip_ascii_whitespace s end e) j → Done x (go j m)
+    pub expected_next : {m j : ℕ} → p ≡ Ok m → Between end e (skip_ascii_whitespace s end e) j → Done x (Ok j) m
     unfolding declare_expected
-    expected_next m j z c =
+    expected_next {m} {j} z c =
         does_go (rw (← b.is, ← q, t, ← c.is) (written_next expected_format 5 j _ x p grown.says z)) (grown.held m z)
 
-    pub expected_full : p ≡ Full → Done x (full 5)
+    pub expected_full : {full : AreaFull} (m : ℕ) → p ≡ Err full → Done x (Err (Full full.0)) m
     unfolding declare_expected
-    expected_full z = does_full (rw (← b.is, ← q, t) (written_full expected_format 5 (skip_ascii_whitespace s end e) _ x p grown.says z))
+    expected_full {full} m z =
+        rw (grown.names full z) (does_full (rw (← b.is, ← q, t) (written_full expected_format 5 (skip_ascii_whitespace s end e) _ x p grown.says z)))
 
 pub quotes_one : (s : List ℕ) (a e : ℕ) (r : Bool) → r ≡ is_quoted s (range a e) → r ≡ true → 1 ≤ e
 quotes_one s a e r q t = omega (arith, quotes_long s a e r q t)
@@ -89,7 +92,7 @@ expected_forward s c5 i e a xs {j} {ys} q = by (is_quoted s (range a end)) refl 
     end = find_ascii_whitespace s a e
 
     by : (t : Bool) → is_quoted s (range a end) ≡ t
-        → cond t (written 5 (skip_ascii_whitespace s end e) (append expected_format c5 (expected (a + 1) (end - 1) ∷ []) xs)) (bad InvalidName i xs) ≡ go j ys
+        → cond t (written 5 (skip_ascii_whitespace s end e) (append expected_format c5 (expected (a + 1) (end - 1) ∷ []) xs)) (bad (kind_number InvalidName) i xs) ≡ go j ys
         → a < j
     by true z w =
         omega (
@@ -120,33 +123,24 @@ expects_start s i e w n a l h f b = record {
 }
 
 module _ {whole : Out (List Expected)} {s : List ℕ} {c5 i e a : ℕ} {l : List ℕ} {n : ℕ} (x : Expects whole s c5 i e a l n) (h : a < e)
-    {v : List ℕ} (r : Progress) (d : Does (Held expected_format v) (declare_expected s (length l) (range i e) (range a (find_ascii_whitespace s a e)))
-    (contents expected_format l n) (contents expected_format v) (progress r)) (j m : ℕ) (q : r ≡ Go j m) where
-  forward : a < j
-  forward = expected_forward s (length l) i e a (contents expected_format l n) (was_go d (ap progress q))
+    {v : List ℕ} (r : Result ℕ Stop) (m : ℕ) (d : Does (Held expected_format v) (declare_expected s (length l) (range i e) (range a (find_ascii_whitespace s a e)))
+    (contents expected_format l n) (contents expected_format v) (outcome r m)) where
+  module _ {j : ℕ} (q : r ≡ Ok j) where
+    forward : a < j
+    forward = expected_forward s (length l) i e a (contents expected_format l n) (was_ok r m d q)
 
-  pub expects_less : e - j < e - a
-  expects_less = omega (arith, forward)
+    pub expects_less : e - j < e - a
+    expects_less = omega (arith, forward)
 
-  pub expects_next : length v ≡ length l → Expects whole s c5 i e j v m
-  expects_next k = record {
-    held = d.goes j m (ap progress q);
-    loops = loops_next x.loops (lt-ltb a e h) h d (length v) (ap progress q) forward k;
-  }
+    pub expects_next : length v ≡ length l → Expects whole s c5 i e j v m
+    expects_next k = record { held = holds_ok r m d q; loops = loops_ok x.loops (lt-ltb a e h) h r m d (length v) q forward k }
 
--- f is the whole loop, which began with the names xs
-module _ (f : List Expected → Out (List Expected)) (xs : List Expected) {s : List ℕ} {c5 i e a : ℕ} {l : List ℕ} {n : ℕ}
-    (x : Expects (f xs) s c5 i e a l n) where
-  pub expects_done : e ≤ a → Does (Held expected_format l) f xs (contents expected_format l) (go a n)
-  expects_done h = does_go (loops_stop x.loops (le-ltb a e h)) x.held
+  pub expects_err : (f : List Expected → Out (List Expected)) (xs : List Expected) → whole ≡ f xs → (y : Stop) → r ≡ Err y
+      → Does (Held expected_format v) f xs (contents expected_format v) (outcome (Err y) m)
+  expects_err f xs w y q = does_err y _ (sym w ∙ loops_err x.loops (lt-ltb a e h) h r m d y q) (holds_err r m d y q)
 
-  module _ (h : a < e) {v : List ℕ} (r : Progress)
-      (d : Does (Held expected_format v) (declare_expected s (length l) (range i e) (range a (find_ascii_whitespace s a e))) (contents expected_format l n)
-      (contents expected_format v) (progress r)) where
-    pub expects_bad : (kind at m : ℕ) → r ≡ Bad kind at m → Does (Held expected_format v) f xs (contents expected_format v) (bad kind at m)
-    expects_bad kind at m q = does_bad (loops_bad x.loops (lt-ltb a e h) h d (ap progress q)) (d.ends kind at m (ap progress q))
+pub expects_done : (f : List Expected → Out (List Expected)) (xs : List Expected) {s : List ℕ} {c5 i e a : ℕ} {l : List ℕ} {n : ℕ}
+    → Expects (f xs) s c5 i e a l n → e ≤ a → Does (Held expected_format l) f xs (contents expected_format l) (go a n)
+expects_done f xs {e = e} {a = a} x h = does_go (loops_stop x.loops (le-ltb a e h)) x.held
 
-    pub expects_full : (k : ℕ) → r ≡ Progress.Full k → Does (Held expected_format v) f xs (contents expected_format v) (full k)
-    expects_full k q = does_full (loops_full x.loops (lt-ltb a e h) h d (ap progress q))
-
-pub ruleset expecting_all = (rules, expects_start, expects_done, expects_less, expects_next, expects_bad, expects_full)
+pub ruleset expecting_all = (rules, expects_start, expects_done, expects_less, expects_next)

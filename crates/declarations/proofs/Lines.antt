@@ -9,38 +9,35 @@ use native.Mathlib.Omega.{arith}
 use borrow.Author.Rules.{rules}
 use lib.Dec.{eqb}
 use lib.ListN.{length}
+use Rattle.std.specs.Prelude.{Option, Some, None, Result, Ok, Err}
 use Rattle.characters.specs.Walk.{Between}
 use Rattle.characters.specs.Whitespace.{whitespace_len, at_whitespace}
 use Rattle.text.specs.Range.{lookahead_is}
 use Rattle.text.specs.Scan.{line_end, skip_blanks, find_whitespace, trim_end, trim_start}
-use Rattle.std.specs.Prelude.{Option, Some, None}
 use Rattle.characters.proofs.Tests.{by_test}
 use Rattle.characters.proofs.Walks.{first_to}
 use Rattle.characters.proofs.Spaces.{end_none_of_white}
 use Rattle.area.specs.declared.Expected.{Expected}
 use Rattle.area.specs.Contents.{contents, expected_format, Held}
-use Rattle.fault.specs.declared.Progress.{Progress}
-use Rattle.fault.specs.Step.{Out, go, bad, full, next, onto, loop, Does, progress}
-use Rattle.fault.specs.Faults.{UnknownDeclaration, PrematureEnd}
-use Rattle.fault.proofs.Steps.{Loops, loops_stop, loops_next, loops_bad, loops_full, going_start, does_go, does_bad, does_full, was_go, was_bad}
-use Rattle.fault.proofs.Steps.{was_full, bad_goes, full_goes, then_go, then_bad, then_full}
+use Rattle.fault.specs.declared.Stop.{Stop}
+use Rattle.fault.specs.declared.Stop.TheVariants.{Fault}
+use Rattle.fault.specs.declared.kinds.LexErrorKind.TheVariants.{UnknownDeclaration, PrematureEnd}
+use Rattle.fault.specs.Step.{Out, go, bad, full, next, onto, loop, outcome, Does}
+use Rattle.fault.proofs.Steps.{Loops, loops_stop, loops_next, loops_err, going_start, does_go, does_bad, does_err, was_ok, was_err, holds_ok, holds_err}
+use Rattle.fault.proofs.Steps.{bad_goes, full_goes, then_ok, then_err, next_err, onto_err}
 use Rattle.section.specs.Request.{Options}
 use Rattle.section.specs.Section.{percents, to_declaration, in_section}
 use Rattle.section.specs.Reader.{NextLine}
 use Rattle.section.specs.declared.reader.Line.{Line}
-use Rattle.section.proofs.Lines.{ahead_within, percents_end, in_section_inside, declaration_starts, line_has_byte}
+use Rattle.section.proofs.Lines.{ahead_within, in_section_inside, declaration_starts, line_has_byte}
 use Rattle.declarations.specs.declared.Declaration.{Declaration}
 use Rattle.declarations.specs.declared.Declaration.TheVariants.{States, Expecting, Unknown}
 use Rattle.declarations.specs.declared.NameCounts.{NameCounts}
-use Rattle.declarations.specs.declared.NameProgress.{NameProgress}
-use Rattle.declarations.specs.declared.NameProgress.TheVariants as Name
 use Rattle.declarations.specs.declared.DeclarationCounts.{DeclarationCounts}
-use Rattle.declarations.specs.declared.DeclarationProgress.{DeclarationProgress}
-use Rattle.declarations.specs.declared.DeclarationProgress.TheVariants.{Go, Bad, Full}
 use Rattle.declarations.specs.Declarations.{range, trimmed, word_end, first_word, rest_of, is_inclusive, is_exclusive, is_expecting, states_of, declaration_of}
 use Rattle.declarations.specs.Declarations.{Names, names, name_caps, Declared, Caps, with_names, with_expected, then_at, state_names, expected_names}
 use Rattle.declarations.specs.Declarations.{declare_as, declaration, next_declaration, end_declarations, declarations}
-use Rattle.declarations.specs.Answers.{HeldNames, names_in, name_progress, HeldDeclared, declared_in, declaration_progress, caps_of}
+use Rattle.declarations.specs.Answers.{HeldNames, names_in, HeldDeclared, declared_in, caps_of}
 
 -- ---- what a line says ends within the line
 
@@ -90,80 +87,64 @@ module _ (s : List ℕ) (i e : ℕ) (l1 l5 l6 : List ℕ) (q : DeclarationCounts
   abbrev before : Declared
   before = declared_in l1 l5 l6 q
 
-  abbrev Done : List ℕ → List ℕ → List ℕ → Out DeclarationCounts → Type 0
-  Done v1 v5 v6 o = Does (HeldDeclared v1 v5 v6) (declaration s caps i e) before (declared_in v1 v5 v6) o
+  abbrev Done : List ℕ → List ℕ → List ℕ → Result ℕ Stop → DeclarationCounts → Type 0
+  Done v1 v5 v6 r p = Does (HeldDeclared v1 v5 v6) (declaration s caps i e) before (declared_in v1 v5 v6) (outcome r p)
 
   step : (y : Declaration) → d ≡ y → declaration s caps i e before ≡ declare_as s caps (range i e) y before
   unfolding declaration
   step y z = ap (λ (x : Declaration). declare_as s caps (range i e) x before) (sym is ∙ z)
 
-  pub line_unknown : d ≡ Unknown → Done l1 l5 l6 (bad UnknownDeclaration i q)
+  pub line_unknown : d ≡ Unknown → Done l1 l5 l6 (Err (Fault UnknownDeclaration i)) q
   unfolding declare_as
   line_unknown z = does_bad (step Unknown z) h
 
-  module _ (x a t : ℕ) (z : d ≡ States x a t) {v1 v6 : List ℕ} (r : NameProgress)
-      (n : Does (HeldNames v1 v6) (state_names s (name_caps (length l1) (length l6)) x (range a t))
-      (names_in l1 l6 (record { states = q.states; faults = q.faults })) (names_in v1 v6) (name_progress r)) where
-    of_names : Out Names → Out Declared
-    of_names o = then_at e (onto (with_names before) o)
+  -- a part of the areas, of which g makes the whole, comes to what r tells
+  module _ {S : Type 0} (lift : S → Declared) (g : Out S) (s' : S) (part : declaration s caps i e before ≡ then_at e (onto lift g)) where
+    part_ok : {j : ℕ} → g ≡ go j s' → declaration s caps i e before ≡ go e (lift s')
+    part_ok w = part ∙ ap (λ (o : Out S). then_at e (onto lift o)) w
 
-    held_names : (p : NameCounts) → HeldNames v1 v6 p → HeldDeclared v1 l5 v6 (record { states = p.states; expected = q.expected; faults = p.faults })
-    held_names p g = record { states = g.states; expected = h.expected; faults = g.faults }
+    part_err : (y : Stop) → g ≡ outcome (Err y) s' → declaration s caps i e before ≡ outcome (Err y) (lift s')
+    part_err y w =
+        part ∙ ap (λ (o : Out S). then_at e (onto lift o)) w ∙ ap (then_at e) (onto_err lift y s') ∙ next_err y (lift s') (λ j t. go e t)
 
-    pub line_states : (j : ℕ) (p : NameCounts) → r ≡ Name.Go j p
-        → Done v1 l5 v6 (go e (record { states = p.states; expected = q.expected; faults = p.faults }))
-    unfolding declare_as of_names
-    line_states j p y = does_go (step (States x a t) z ∙ ap of_names (was_go n (ap name_progress y))) (held_names p (n.goes j p (ap name_progress y)))
+  module _ (x a t : ℕ) (z : d ≡ States x a t) {v1 v6 : List ℕ} (r : Result ℕ Stop) (p : NameCounts)
+      (n : Does (HeldNames v1 v6) (state_names s (name_caps (length l1) (length l6)) x (range a t)) (names_in l1 l6 q.names) (names_in v1 v6) (outcome r p)) where
+    by_names : declaration s caps i e before
+        ≡ then_at e (onto (with_names before) (state_names s (name_caps (length l1) (length l6)) x (range a t) (names_in l1 l6 q.names)))
+    unfolding declare_as
+    by_names = step (States x a t) z
 
-    pub line_states_bad : (kind at : ℕ) (p : NameCounts) → r ≡ Name.Bad kind at p
-        → Done v1 l5 v6 (bad kind at (record { states = p.states; expected = q.expected; faults = p.faults }))
-    unfolding declare_as of_names
-    line_states_bad kind at p y =
-        does_bad (step (States x a t) z ∙ ap of_names (was_bad n (ap name_progress y))) (held_names p (n.ends kind at p (ap name_progress y)))
+    held_names : HeldNames v1 v6 p → HeldDeclared v1 l5 v6 (record { names = p; expected = q.expected })
+    held_names g = record { names = g; expected = h.expected }
 
-    pub line_states_full : (k : ℕ) → r ≡ Name.Full k → Done v1 l5 v6 (full k)
-    unfolding declare_as of_names
-    line_states_full k y = does_full (step (States x a t) z ∙ ap of_names (was_full n (ap name_progress y)))
+    pub line_states : {j : ℕ} → r ≡ Ok j → Done v1 l5 v6 (Ok e) (record { names = p; expected = q.expected })
+    line_states y = does_go (part_ok (with_names before) _ _ by_names (was_ok r p n y)) (held_names (holds_ok r p n y))
 
-  module _ (w : ℕ) (z : d ≡ Expecting w) {v5 : List ℕ} (r : Progress)
+    pub line_states_err : (w : Stop) → r ≡ Err w → Done v1 l5 v6 (Err w) (record { names = p; expected = q.expected })
+    line_states_err w y = does_err w _ (part_err (with_names before) _ _ by_names w (was_err r p n w y)) (λ f. held_names (holds_err r p n w y f))
+
+  module _ (w : ℕ) (z : d ≡ Expecting w) {v5 : List ℕ} (r : Result ℕ Stop) (m : ℕ)
       (n : Does (Held expected_format v5) (expected_names s (length l5) (range i e) w) (contents expected_format l5 q.expected)
-      (contents expected_format v5) (progress r)) where
-    of_expected : Out (List Expected) → Out Declared
-    of_expected o = then_at e (onto (with_expected before) o)
+      (contents expected_format v5) (outcome r m)) where
+    by_expected : declaration s caps i e before
+        ≡ then_at e (onto (with_expected before) (expected_names s (length l5) (range i e) w (contents expected_format l5 q.expected)))
+    unfolding declare_as
+    by_expected = step (Expecting w) z
 
-    held_expected : (m : ℕ) → Held expected_format v5 m → HeldDeclared l1 v5 l6 (record { states = q.states; expected = m; faults = q.faults })
-    held_expected m g = record { states = h.states; expected = g; faults = h.faults }
+    held_expected : Held expected_format v5 m → HeldDeclared l1 v5 l6 (record { names = q.names; expected = m })
+    held_expected g = record { names = h.names; expected = g }
 
-    pub line_expected : (j m : ℕ) → r ≡ Progress.Go j m → Done l1 v5 l6 (go e (record { states = q.states; expected = m; faults = q.faults }))
-    unfolding declare_as of_expected
-    line_expected j m y = does_go (step (Expecting w) z ∙ ap of_expected (was_go n (ap progress y))) (held_expected m (n.goes j m (ap progress y)))
+    pub line_expected : {j : ℕ} → r ≡ Ok j → Done l1 v5 l6 (Ok e) (record { names = q.names; expected = m })
+    line_expected y = does_go (part_ok (with_expected before) _ _ by_expected (was_ok r m n y)) (held_expected (holds_ok r m n y))
 
-    pub line_expected_bad : (kind at m : ℕ) → r ≡ Progress.Bad kind at m
-        → Done l1 v5 l6 (bad kind at (record { states = q.states; expected = m; faults = q.faults }))
-    unfolding declare_as of_expected
-    line_expected_bad kind at m y =
-        does_bad (step (Expecting w) z ∙ ap of_expected (was_bad n (ap progress y))) (held_expected m (n.ends kind at m (ap progress y)))
-
-    pub line_expected_full : (k : ℕ) → r ≡ Progress.Full k → Done l1 v5 l6 (full k)
-    unfolding declare_as of_expected
-    line_expected_full k y = does_full (step (Expecting w) z ∙ ap of_expected (was_full n (ap progress y)))
+    pub line_expected_err : (x : Stop) → r ≡ Err x → Done l1 v5 l6 (Err x) (record { names = q.names; expected = m })
+    line_expected_err x y = does_err x _ (part_err (with_expected before) _ _ by_expected x (was_err r m n x y)) (λ f. held_expected (holds_err r m n x y f))
 
 pub names_in_source : (s : List ℕ) (i e : ℕ) (d : Declaration) → d ≡ declaration_of s (range i e) → i ≤ e → e ≤ length s → (x a t : ℕ) → d ≡ States x a t
     → t ≤ length s
 names_in_source s i e d is h l x a t q = omega (arith, names_within s i e d is h x a t q)
 
-pub ruleset lining_up = (
-  rules,
-  names_in_source,
-  expected_within,
-  line_unknown,
-  line_states,
-  line_states_bad,
-  line_states_full,
-  line_expected,
-  line_expected_bad,
-  line_expected_full,
-)
+pub ruleset lining_up = (rules, names_in_source, expected_within, line_unknown, line_states, line_expected)
 
 -- ---- the loop over the declarations
 
@@ -222,9 +203,9 @@ sections_start s options i x l1 l5 l6 q h b = record {
 module _ {whole : Out Declared} {s : List ℕ} {options : Options} {k1 k5 k6 : List ℕ} {here : Line} {l1 l5 l6 : List ℕ} {q : DeclarationCounts}
     (x : Sections whole s options k1 k5 k6 here l1 l5 l6 q)
     (t : Bool) (tested : t ≡ in_section s here.start) (pass : t ≡ true)
-    {v1 v5 v6 : List ℕ} (r : DeclarationProgress)
+    {v1 v5 v6 : List ℕ} (r : Result ℕ Stop) (p : DeclarationCounts)
     (d : Does (HeldDeclared v1 v5 v6) (declaration s (sizes l1 l5 l6) here.start here.end) (declared_in l1 l5 l6 q) (declared_in v1 v5 v6)
-    (declaration_progress r)) where
+    (outcome r p)) where
   abbrev i : ℕ
   i = here.start
 
@@ -242,12 +223,12 @@ module _ {whole : Out Declared} {s : List ℕ} {options : Options} {k1 k5 k6 : L
   unfolding next_declaration
   is_next = rw (← x.ends.is)
 
-  module _ (j : ℕ) (p : DeclarationCounts) (z : r ≡ Go j p) (y : Line) (c : NextLine s (to_declaration s options.flags) e y) where
+  module _ {j : ℕ} (z : r ≡ Ok j) (y : Line) (c : NextLine s (to_declaration s options.flags) e y) where
     went : Moved (go y.start p)
     went =
-        let at : e ≡ j = declared-at s (sizes l1 l5 l6) i e (declared_in l1 l5 l6 q) (was_go d (ap declaration_progress z)) in
+        let at : e ≡ j = declared-at s (sizes l1 l5 l6) i e (declared_in l1 l5 l6 q) (was_ok r p d z) in
         subst (λ (k : ℕ). Moved (go k p)) (ap (to_declaration s options.flags) (sym at) ∙ sym c.starts.is)
-        (then_go (to_declaration s options.flags) is_next d (ap declaration_progress z))
+        (then_ok (to_declaration s options.flags) is_next r p d z)
 
     forward : i < y.start
     forward = omega (arith, line_has_byte s i inside (end_none_of_white s i x.starts), x.ends.is, c.starts.from)
@@ -257,7 +238,7 @@ module _ {whole : Out Declared} {s : List ℕ} {options : Options} {k1 k5 k6 : L
 
     pub sections_next : length v1 ≡ length l1 → length v5 ≡ length l5 → length v6 ≡ length l6 → Sections whole s options k1 k5 k6 y v1 v5 v6 p
     sections_next e1 e5 e6 = record {
-      held = d.goes j p (ap declaration_progress z);
+      held = holds_ok r p d z;
       within = c.starts.to;
       ends = c.ends;
       starts = rw c.starts.is (declaration_starts s options.flags e);
@@ -267,12 +248,8 @@ module _ {whole : Out Declared} {s : List ℕ} {options : Options} {k1 k5 k6 : L
       loops = loops_next x.loops (sym tested ∙ pass) inside went (sizes v1 v5 v6) refl forward (λ i. record { c1 = e1 i; c5 = e5 i; c6 = e6 i });
     }
 
-  whole_bad : (kind at : ℕ) (p : DeclarationCounts) → r ≡ Bad kind at p → whole ≡ bad kind at (declared_in v1 v5 v6 p)
-  whole_bad kind at p z =
-      loops_bad x.loops (sym tested ∙ pass) inside (then_bad (to_declaration s options.flags) is_next d (ap declaration_progress z)) refl
-
-  whole_full : (n : ℕ) → r ≡ Full n → whole ≡ full n
-  whole_full n z = loops_full x.loops (sym tested ∙ pass) inside (then_full (to_declaration s options.flags) is_next d (ap declaration_progress z)) refl
+  whole_err : (y : Stop) → r ≡ Err y → whole ≡ outcome (Err y) (declared_in v1 v5 v6 p)
+  whole_err y z = loops_err x.loops (sym tested ∙ pass) inside (Err y) p (then_err (to_declaration s options.flags) is_next r p d y z) y refl
 
 -- the section as a whole began at i₀ with the state d₀
 module _ (s : List ℕ) (options : Options) (k : Caps) (i₀ : ℕ) (d₀ : Declared) {k1 k5 k6 : List ℕ} {here : Line} {l1 l5 l6 : List ℕ} {q : DeclarationCounts}
@@ -285,27 +262,26 @@ module _ (s : List ℕ) (options : Options) (k : Caps) (i₀ : ℕ) (d₀ : Decl
     unfolding declarations
     at_end = ap (λ (o : Out Declared). next o (end_declarations s)) (loops_stop x.loops (sym tested ∙ stop))
 
-    pub section_ends : (j m : ℕ) → f ≡ Some j → Between j (length s) (skip_blanks s j) m → Ended l1 l5 l6 (go m q)
+    pub section_ends : (j m : ℕ) → f ≡ Some j → Between j (length s) (skip_blanks s j) m → Ended l1 l5 l6 (outcome (Ok m) q)
     unfolding end_declarations
     section_ends j m z b =
         let w = ahead_within s percents here.start j (sym ahead ∙ z) in
         does_go (at_end ∙ rw (← ahead, z, w.0, ← b.is)) x.held
 
-    pub section_cut : f ≡ None → Ended l1 l5 l6 (bad PrematureEnd here.start q)
+    pub section_cut : f ≡ None → Ended l1 l5 l6 (outcome (Err (Fault PrematureEnd here.start)) q)
     unfolding end_declarations
     section_cut z = does_bad (at_end ∙ rw (← ahead, z)) x.held
 
-  module _ (pass : t ≡ true) {v1 v5 v6 : List ℕ} (r : DeclarationProgress)
-      (d : Does (HeldDeclared v1 v5 v6) (declaration s (sizes l1 l5 l6) here.start here.end) (declared_in l1 l5 l6 q) (declared_in v1 v5 v6)
-      (declaration_progress r)) where
-    pub section_bad : (kind at : ℕ) (p : DeclarationCounts) → r ≡ Bad kind at p → Ended v1 v5 v6 (bad kind at p)
-    unfolding declarations
-    section_bad kind at p z =
-        does_bad (ap (λ (o : Out Declared). next o (end_declarations s)) (whole_bad x t tested pass r d kind at p z))
-        (d.ends kind at p (ap declaration_progress z))
+  pub section_err : (pass : t ≡ true) {v1 v5 v6 : List ℕ} (r : Result ℕ Stop) (p : DeclarationCounts)
+      (d : Does (HeldDeclared v1 v5 v6) (declaration s (sizes l1 l5 l6) here.start here.end) (declared_in l1 l5 l6 q) (declared_in v1 v5 v6) (outcome r p))
+      (y : Stop) → r ≡ Err y → Ended v1 v5 v6 (outcome (Err y) p)
+  unfolding declarations
+  section_err pass {v1} {v5} {v6} r p d y z =
+      does_err y _
+      (ap (λ (o : Out Declared). next o (end_declarations s)) (whole_err x t tested pass r p d y z) ∙ next_err y (declared_in v1 v5 v6 p) (end_declarations s))
+      (holds_err r p d y z)
 
-    pub section_full : (n : ℕ) → r ≡ Full n → Ended v1 v5 v6 (full n)
-    unfolding declarations
-    section_full n z = does_full (ap (λ (o : Out Declared). next o (end_declarations s)) (whole_full x t tested pass r d n z))
+pub percents_inside : (s : List ℕ) (i : ℕ) (f : Option ℕ) → f ≡ lookahead_is s percents i → i ≤ length s → {j : ℕ} → f ≡ Some j → j ≤ length s
+percents_inside s i f ahead l {j} z = omega (arith, ahead_within s percents i j (sym ahead ∙ z))
 
-pub ruleset sectioning = (rules, sections_start, sections_less, sections_next, section_ends, section_cut, percents_end, section_bad, section_full)
+pub ruleset sectioning = (rules, sections_start, sections_less, sections_next, section_ends, section_cut, percents_inside)

@@ -12,11 +12,10 @@ use Rattle.characters.specs.Walk.{Between}
 use Rattle.characters.specs.Whitespace.{byte}
 use Rattle.text.specs.Range.{lookahead_is}
 use Rattle.text.specs.Scan.{find_whitespace, trim_end, trim_start}
+use Rattle.characters.proofs.Tests.{and_false}
+use Rattle.characters.proofs.Walks.{first_none}
 use Rattle.std.specs.Prelude.{Option, is_some}
-use Rattle.characters.proofs.Tests.{answer_not, and_false}
-use Rattle.characters.proofs.Walks.{first_again, first_none}
 use Rattle.names.specs.Names.{all_bytes}
-use Rattle.names.proofs.Forms.{bytes_fail, bytes_pass}
 use Rattle.declarations.specs.declared.Declaration.{Declaration}
 use Rattle.declarations.specs.declared.Declaration.TheVariants.{States, Expecting, Unknown}
 use Rattle.declarations.specs.Declarations.{Range, range, trimmed, word_end, first_word, rest_of, is_alphanumeric, declares, is_inclusive}
@@ -26,8 +25,6 @@ use Rattle.declarations.specs.Stages.{declaration_by}
 pub alphanumeric_byte : (b : ℕ) (l d : Bool) → l ≡ is_letter b → d ≡ is_digit b → l || d ≡ is_alphanumeric b
 unfolding is_alphanumeric
 alphanumeric_byte b l d e f = rw (e, f)
-
-pub ruleset bytes = (rules, alphanumeric_byte, answer_not, first_again, bytes_fail, bytes_pass)
 
 -- ---- the first word
 

@@ -7,9 +7,11 @@ ghost use Rattle.declarations.specs.Stages.{declaration_by};
 
 use crate::Declaration;
 use characters::class::{is_digit, is_letter};
+use characters::walk::find;
 use text::range::lookahead_is;
 use text::scan::{find_whitespace, trim_end, trim_start};
 
+#[tactic(auto, using(crate::proofs::Words::alphanumeric_byte))]
 fn is_alphanumeric(b: u8) -> bool
     ensures { result ≡ is_alphanumeric b }
 {
@@ -21,17 +23,11 @@ fn all_alphanumeric(src: &[u8], a: usize, e: usize) -> bool
     requires { (a ≤ e) × (e ≤ length src.now) }
     ensures { result ≡ all_bytes is_alphanumeric src.now a e }
 {
-    let mut k = a;
-    while k < e {
-        if !is_alphanumeric(src[k]) {
-            return false;
-        }
-        k += 1;
-    }
-    true
+    find(a, e, |k| !is_alphanumeric(src[k])) == e
 }
 
 // Whether the word from i to w is `%`, one of two letters, and letters or digits.
+#[tactic(auto, using(crate::proofs::Words::words))]
 fn declares_with(src: &[u8], x: u8, y: u8, i: usize, w: usize) -> bool
     requires { (i ≤ w) × (w ≤ length src.now) }
     ensures { result ≡ declares x y src.now (range i w) }
@@ -47,6 +43,7 @@ fn declares_with(src: &[u8], x: u8, y: u8, i: usize, w: usize) -> bool
 }
 
 // The names from r to e, trimmed. Without names it is no declaration of states.
+#[tactic(auto, using(crate::proofs::Words::stating))]
 fn states_from(src: &[u8], exclusive: u16, r: usize, e: usize) -> Declaration
     requires { (r ≤ e) × (e ≤ length src.now) }
     ensures { result ≡ states_of exclusive (trimmed src.now (range r e)) }
@@ -60,6 +57,7 @@ fn states_from(src: &[u8], exclusive: u16, r: usize, e: usize) -> Declaration
 }
 
 // The line whose first word stands from i to w, and whose rest from r to e.
+#[tactic(auto, using(crate::proofs::Words::deciding))]
 fn declaration_by(src: &[u8], i: usize, e: usize, w: usize, r: usize) -> Declaration
     requires { ((i ≤ w) × (w ≤ e)) × ((r ≤ e) × (e ≤ length src.now)) }
     ensures { result ≡ declaration_by src.now (range i w) (range r e) }
@@ -77,6 +75,7 @@ fn declaration_by(src: &[u8], i: usize, e: usize, w: usize, r: usize) -> Declara
 }
 
 // The line from i to e. One that is only the word once trimmed has no rest.
+#[tactic(auto, using(crate::proofs::Words::lining))]
 pub fn declaration_of(src: &[u8], i: usize, e: usize) -> Declaration
     requires { (i ≤ e) × (e ≤ length src.now) }
     ensures { result ≡ declaration_of src.now (range i e) }

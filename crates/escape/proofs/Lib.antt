@@ -1,7 +1,7 @@
 pub mod Kept
 pub mod Backslashes
-pub mod Escapes
+pub mod Steps
 pub mod Passed
-pub mod Ends
-pub mod Pieces
+pub mod Pushing
+pub mod Writing
 pub mod Characters

@@ -1,100 +1,165 @@
--- Escapes passed one after the other by loops: what is asked from where a loop stands is what was asked from its start, since the list of
--- escapes goes on from the end of the next one.
-use mathlib.Core.Path.{◌≡◌, refl, sym, ap, ◌∙◌}
-use mathlib.Core.Bool.{Bool, true, false, not, ◌||◌}
-use mathlib.Core.List.{List}
-use Prim.Native.Nat.{ℕ, ◌+◌, ◌≤◌, ◌<◌}
+-- The next escape, and the whole escapes from a position on: the first of them is the next one, and the others are those from its end on.
+use mathlib.Core.Path.{◌≡◌, refl, sym, ap, subst, ◌∙◌}
+use mathlib.Core.Bool.{Bool, true, false, cond, not, ◌||◌}
+use mathlib.Core.List.{List, [], ◌∷◌}
+use mathlib.Core.Logic.{◌⊎◌, inl, inr}
+use Prim.Native.Nat.{ℕ, zero, suc, ◌+◌, ◌-◌, ◌≤◌, ◌<◌}
 use native.Mathlib.Omega.{arith}
 use borrow.Author.Rules.{rules}
-use borrow.Author.Tests.{lt-ltb, le-ltb, not-true, not-false}
+use borrow.Author.Tests.{eq-eqb, lt-ltb, le-ltb, ltb-false}
+use lib.ListN.{length, get_or}
+use Rattle.std.specs.Prelude.{Option, Some, None}
+use Rattle.std.specs.List.{list_any}
 use Rattle.characters.specs.Walk.{Between}
-use Rattle.characters.proofs.Tests.{answer_not, by_test}
-use Rattle.escape.specs.Escape.{next_backslash, char_end, next_escape, is_whole, is_kept, any_escape, is_rewritten, last_whole}
-use Rattle.escape.specs.Pieces.{past_escape}
-use Rattle.escape.proofs.Escapes.{next_from, next_start, next_end, escapes_none, escapes_next, escapes_again, whole_stays, whole_over}
+use Rattle.characters.specs.Whitespace.{byte}
+use Rattle.characters.proofs.Firsts.{first_low}
+use Rattle.characters.proofs.Tests.{le_or_lt}
+use Rattle.characters.proofs.Walks.{first_from}
+use Rattle.escape.specs.Escape.{Escape, next_backslash, char_end, next_escape, is_whole, escapes_from, escapes, is_kept, any_escape, is_rewritten, drop_lone}
+use Rattle.escape.specs.Phrases.{next_whole}
+use Rattle.escape.proofs.Backslashes.{is_backslash, next_is}
+use Rattle.escape.proofs.Steps.{next_from, next_start, next_end, whole_inside, whole_to, escapes_none, escapes_next, escapes_again}
 
--- ---- one escape passed: q is the next backslash, r behind the escape
-
-module _ (s : List ℕ) (c p q r : ℕ) (f : Between p c (next_backslash s c p) q) where
-  pub escape_none : c ≤ q + 1 → p ≤ c → Between p c (past_escape s c p) p
-  unfolding past_escape next_escape
-  escape_none h l = record { is = rw (← f.is, le-ltb (q + 1) c h); from = omega arith; to = l }
-
-  pub escape_passed : Between (q + 1 + 1) c (char_end s c (q + 1)) r → q + 1 < c → Between p c (past_escape s c p) r
-  unfolding past_escape next_escape
-  escape_passed d h = record { is = rw (← f.is, lt-ltb (q + 1) c h) d.is; from = omega (arith, f.from, d.from); to = d.to }
-
-pub ruleset passing = (rules, escape_none, escape_passed)
-
--- ---- behind the last one
-
-module _ (s : List ℕ) (c p : ℕ) where
-  whole_past : last_whole s p c ≡ last_whole s (past_escape s c p) c
-  unfolding past_escape
-  whole_past =
-      by_test (λ (x : ℕ). last_whole s p c ≡ last_whole s x c) (is_whole c (next_escape s c p)) (next_escape s c p).end p
-      (λ w. whole_over s c p w)
-      (λ _. refl)
-
-  whole_there : past_escape s c p ≡ p → last_whole s p c ≡ p
-  unfolding past_escape
-  whole_there =
-      by_test (λ (x : ℕ). x ≡ p → last_whole s p c ≡ p) (is_whole c (next_escape s c p)) (next_escape s c p).end p
-      (λ _ e. absurd (omega (arith, next_from s c p, next_start s c p, next_end s c p)))
-      (λ w _. whole_stays s c p w)
-
--- the loop began at i and stands at p; e is behind the next escape
-module _ (s : List ℕ) (i c p e : ℕ) (before : last_whole s i c ≡ last_whole s p c) (f : Between p c (past_escape s c p) e) where
-  pub whole_ended : e ≡ p → i ≤ p → p ≤ c → Between i c (last_whole s i c) p
-  whole_ended q h l = record { is = sym (before ∙ whole_there s c p (sym f.is ∙ q)); from = h; to = l }
-
-  pub whole_again : last_whole s i c ≡ last_whole s e c
-  whole_again = rw f.is (before ∙ whole_past s c p)
-
-pub ruleset wholes = (rules, whole_ended, whole_again)
-
--- ---- whether an escape follows that does not stay: q is the next backslash from p on
+-- ---- the next escape: q is the next backslash from p on
 
 module _ (s : List ℕ) (c p q : ℕ) (f : Between p c (next_backslash s c p) q) where
-  -- no whole escape
-  none_from : c ≤ q + 1 → is_rewritten s p c ≡ false
+  pub none_whole : c ≤ q + 1 → None ≡ next_whole s c p
+  unfolding next_whole next_escape
+  none_whole h = rw (← f.is, le-ltb (q + 1) c h) refl
+
+  pub next_is_whole : (e : ℕ) → q + 1 < c → Between (q + 1 + 1) c (char_end s c (q + 1)) e
+      → ◌≡◌ {A = Option Escape} (Some (record { backslash = q; start = q + 1; end = e })) (next_whole s c p)
+  unfolding next_whole next_escape
+  next_is_whole e h d = rw (← f.is, lt-ltb (q + 1) c h, d.is) refl
+
+pub ruleset finding_next = (rules, none_whole, next_is_whole)
+
+-- ---- the escapes that are left from p on, by what the next one is
+
+-- x is the next escape from p on, and it is whole
+pub record Next (s : List ℕ) (c p : ℕ) (x : Escape) : Type 0 where
+  pub left : escapes s p c ≡ x ∷ escapes s x.end c
+  pub from : p ≤ x.backslash
+  pub start : x.start ≡ x.backslash + 1
+  pub inside : x.start < x.end
+  pub to : x.end ≤ c
+
+module _ (s : List ℕ) (c p : ℕ) where
+  whole_next : is_whole c (next_escape s c p) ≡ true → Next s c p (next_escape s c p)
+  whole_next w = record {
+    left = escapes_next s c p w;
+    from = next_from s c p;
+    start = next_start s c p;
+    inside = omega (arith, next_end s c p);
+    to = whole_to s c p w;
+  }
+
+  module _ {o : Option Escape} (is : o ≡ next_whole s c p) where
+    pub left_none : o ≡ None → escapes s p c ≡ []
+    unfolding next_whole
+    left_none q = go (is_whole c (next_escape s c p)) refl (sym is ∙ q)
+      where
+        go : (t : Bool) → is_whole c (next_escape s c p) ≡ t → ◌≡◌ {A = Option Escape} (cond t (Some (next_escape s c p)) None) None → escapes s p c ≡ []
+        go true w e = cc
+        go false w e = escapes_none s c p w
+
+    pub next_found : {x : Escape} → o ≡ Some x → Next s c p x
+    unfolding next_whole
+    next_found {x} q = go (is_whole c (next_escape s c p)) refl (sym is ∙ q)
+      where
+        go : (t : Bool) → is_whole c (next_escape s c p) ≡ t → ◌≡◌ {A = Option Escape} (cond t (Some (next_escape s c p)) None) (Some x) → Next s c p x
+        go true w e =
+            let same : next_escape s c p ≡ x = cc in
+            subst (Next s c p) same (whole_next w)
+        go false w e = cc
+
+  -- the first of the escapes that are left is the next one
+  pub first_left : (x : Escape) (xs : List Escape) → escapes s p c ≡ x ∷ xs → Next s c p x
+  first_left x xs q = go (is_whole c (next_escape s c p)) refl
+    where
+      go : (t : Bool) → is_whole c (next_escape s c p) ≡ t → Next s c p x
+      go true w =
+          let n = escapes_next s c p w in
+          let same : next_escape s c p ≡ x = cc in
+          subst (Next s c p) same (whole_next w)
+      go false w =
+          let n = escapes_none s c p w in
+          cc
+
+-- and the others are those from its end on
+pub rest_left : {s : List ℕ} {c p : ℕ} {x : Escape} {xs : List Escape} → escapes s p c ≡ x ∷ xs → Next s c p x → xs ≡ escapes s x.end c
+rest_left q n =
+    let left = n.left in
+    cc
+
+-- where none is left, a backslash that follows is the last byte, and alone
+module _ (s : List ℕ) (c p : ℕ) (none : escapes s p c ≡ []) where
+  lone_is_last : next_backslash s c p < c → next_backslash s c p ≡ c - 1
+  unfolding next_escape
+  lone_is_last h = omega (arith, ltb-false (next_backslash s c p + 1) c (go (is_whole c (next_escape s c p)) refl))
+    where
+      go : (t : Bool) → is_whole c (next_escape s c p) ≡ t → is_whole c (next_escape s c p) ≡ false
+      go true w =
+          let n = escapes_next s c p w in
+          cc
+      go false w = w
+
+  pub lone_dropped : p < c → byte s (c - 1) ≡ 0x5c → Between p c (drop_lone s c p) p
+  unfolding drop_lone
+  lone_dropped l b =
+      let low : next_backslash s c p ≤ c - 1 = first_low (is_backslash s) p c (omega arith) (c - 1) (omega arith) (eq-eqb (byte s (c - 1)) 0x5c b) in
+      record { is = rw (lt-ltb (next_backslash s c p) c (omega arith)) refl; from = omega arith; to = omega arith }
+
+  pub none_dropped : p ≤ c → (p < c → byte s (c - 1) ≡ 0x5c → ⊥) → Between p c (drop_lone s c p) c
+  unfolding drop_lone
+  none_dropped l d = record { is = rw (le-ltb (next_backslash s c p) c (go (le_or_lt c (next_backslash s c p)))) refl; from = l; to = omega arith }
+    where
+      go : (c ≤ next_backslash s c p) ⊎ (next_backslash s c p < c) → c ≤ next_backslash s c p
+      go (inl h) = h
+      go (inr h) = absurd (d (omega (arith, h, first_from (is_backslash s) p c)) (ap (byte s) (sym (lone_is_last h)) ∙ next_is s c p h))
+
+-- each of them starts its character before c
+module _ (s : List ℕ) (c : ℕ) where
+  starts : (n p k : ℕ) (x : Escape) → k < length (escapes_from n s c p) → x ≡ get_or (escapes_from n s c p) k x → x.start < c
+  unfolding escapes_from
+  starts zero p k x h q = absurd (omega (arith, h))
+  starts (suc n) p k x h q = go (is_whole c (next_escape s c p)) refl k h q (λ j. starts n (next_escape s c p).end j x)
+    where
+      rest : List Escape
+      rest = escapes_from n s c (next_escape s c p).end
+
+      go :
+          (t : Bool) → is_whole c (next_escape s c p) ≡ t
+          → (k : ℕ) → k < length (cond t (next_escape s c p ∷ rest) []) → x ≡ get_or (cond t (next_escape s c p ∷ rest) []) k x
+          → ((j : ℕ) → j < length rest → x ≡ get_or rest j x → x.start < c) → x.start < c
+      go true w zero h q others = rw q (whole_inside s c p w)
+      go true w (suc k) h q others = others k (omega (arith, h)) q
+      go false w k h q others = absurd (omega (arith, h))
+
+  pub start_inside : (p k : ℕ) (x : Escape) → k < length (escapes s p c) → x ≡ get_or (escapes s p c) k x → x.start < c
+  unfolding escapes
+  start_inside p k x h q = starts (c - p) p k x h q
+
+-- ---- whether one of them does not stay
+
+any_listed : (test : Escape → Bool) (es : List Escape) → list_any test es ≡ any_escape test es
+unfolding any_escape
+any_listed test [] = refl
+any_listed test (e ∷ es) = ap (λ (t : Bool). test e || t) (any_listed test es)
+
+pub any_rewritten : (s : List ℕ) (i c : ℕ) (r : Bool) → r ≡ list_any (λ e. not (is_kept s c e.start)) (escapes s i c) → r ≡ is_rewritten s i c
+unfolding is_rewritten
+any_rewritten s i c r e = e ∙ any_listed (λ e. not (is_kept s c e.start)) (escapes s i c)
+
+module _ (s : List ℕ) (c p q : ℕ) (f : Between p c (next_backslash s c p) q) where
+  pub none_rewritten : c ≤ q + 1 → false ≡ is_rewritten s p c
   unfolding is_rewritten any_escape next_escape
-  none_from h = rw (escapes_none s c p (rw (← f.is) (le-ltb (q + 1) c h)))
+  none_rewritten h = rw (escapes_none s c p (rw (← f.is) (le-ltb (q + 1) c h))) refl
 
-  module _ (h : q + 1 < c) where
-    whole_next : is_whole c (next_escape s c p) ≡ true
-    unfolding next_escape
-    whole_next = rw (← f.is) (lt-ltb (q + 1) c h)
+  -- from the first backslash on the same escapes follow
+  pub rewritten_from : (r : Bool) → q + 1 < c → r ≡ is_rewritten s q c → r ≡ is_rewritten s p c
+  unfolding is_rewritten next_escape
+  rewritten_from r h e =
+      e ∙ rw f.is (ap (any_escape (λ e. not (is_kept s c e.start))) (escapes_again s c p (rw (← f.is) (lt-ltb (q + 1) c h))))
 
-    rewritten_by : is_rewritten s p c ≡ not (is_kept s c (q + 1)) || is_rewritten s (char_end s c (q + 1)) c
-    unfolding is_rewritten any_escape next_escape
-    rewritten_by = rw f.is (ap (any_escape (λ e. not (is_kept s c e.start))) (escapes_next s c p whole_next))
-
-    -- one that does not stay
-    other_next : is_kept s c (q + 1) ≡ false → is_rewritten s p c ≡ true
-    other_next k = rewritten_by ∙ ap (λ (t : Bool). not t || is_rewritten s (char_end s c (q + 1)) c) k
-
-    -- one that stays
-    kept_over : is_kept s c (q + 1) ≡ true → is_rewritten s p c ≡ is_rewritten s (char_end s c (q + 1)) c
-    kept_over k = rewritten_by ∙ ap (λ (t : Bool). not t || is_rewritten s (char_end s c (q + 1)) c) k
-
-    -- from the first backslash on the same escapes follow
-    rewritten_next : is_rewritten s q c ≡ is_rewritten s p c
-    unfolding is_rewritten
-    rewritten_next = rw f.is (ap (any_escape (λ e. not (is_kept s c e.start))) (escapes_again s c p whole_next))
-
-    pub rewritten_from : (r : Bool) → r ≡ is_rewritten s q c → r ≡ is_rewritten s p c
-    rewritten_from r e = e ∙ rewritten_next
-
--- the loop began at i and stands at p; the next escape's character goes from q + 1 to e
-module _ (s : List ℕ) (i c p q : ℕ) (before : is_rewritten s i c ≡ is_rewritten s p c) (f : Between p c (next_backslash s c p) q) where
-  pub none_rewritten : c ≤ q + 1 → false ≡ is_rewritten s i c
-  none_rewritten h = sym (before ∙ none_from s c p q f h)
-
-  pub one_rewritten : q + 1 < c → not (is_kept s c (q + 1)) ≡ true → true ≡ is_rewritten s i c
-  one_rewritten h k = sym (before ∙ other_next s c p q f h (not-true _ k))
-
-  pub rewritten_again : (e : ℕ) → q + 1 < c → not (is_kept s c (q + 1)) ≡ false → Between (q + 1 + 1) c (char_end s c (q + 1)) e → is_rewritten s i c ≡ is_rewritten s e c
-  rewritten_again e h k d = rw d.is (before ∙ kept_over s c p q f h (not-false _ k))
-
-pub ruleset asking = (rules, answer_not, rewritten_from, none_rewritten, one_rewritten, rewritten_again)
+pub ruleset asking = (rules, none_rewritten, rewritten_from)

@@ -6,14 +6,10 @@ use Rattle.characters.specs.Whitespace.{byte}
 use Rattle.text.specs.Range.{part}
 use Rattle.text.specs.Scan.{find_byte}
 use Rattle.characters.specs.Utf8.{at_edge}
+-- an escape: where its backslash stands, and where its character starts and ends (01, Rules)
+pub use Rattle.escape.specs.declared.Escape.{Escape}
 
 -- ---- the escapes of a pattern
-
--- an escape: where its backslash stands, and where its character starts and ends (01, Rules)
-pub record Escape : Type 0 where
-  pub backslash : ℕ
-  pub start : ℕ
-  pub end : ℕ
 
 -- the first backslash from p to before e, or e (01, Rules)
 abbrev pub next_backslash : List ℕ → ℕ → ℕ → ℕ

@@ -1,3 +1,3 @@
 pub mod Escape
-pub mod Pieces
+pub mod Phrases
 pub mod Computing

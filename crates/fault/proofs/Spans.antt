@@ -4,7 +4,8 @@ use mathlib.Core.Path.{◌≡◌, refl, sym, ap, subst, ◌∙◌}
 use mathlib.Core.Bool.{Bool, true, false, cond, not, ◌&&◌, true≢false}
 use mathlib.Core.List.{List, [], ◌∷◌, ◌++◌, append_assoc}
 use mathlib.Core.Logic.{⊎_elim}
-use mathlib.Core.Option.{Option, none, some}
+use mathlib.Core.Option.{none, some}
+use mathlib.Core.Option as Math
 use Prim.Native.Nat.{ℕ, zero, suc, ◌+◌, ◌*◌, ◌-◌, ◌≤◌, ◌<◌}
 use native.Mathlib.Omega.{arith}
 use borrow.Author.Rules.{rules}
@@ -14,14 +15,15 @@ use mir.Syntax.{w16}
 use mir.Val.{Fits}
 use lib.ListN.{length, take, drop, length-append, length-drop, get_or-append}
 use lib.Seq.{get_or-append-add, get_or-take, get_or-drop, length-take-le}
-use Rattle.characters.specs.Walk.{first, last, Between}
-use Rattle.std.specs.Prelude.{Option as CodeOption, Some, None}
+use Rattle.std.specs.Prelude.{Option, Some, None, Result, Ok, Err}
+use Rattle.characters.specs.Walk.{first, last, Between, Below, FindsLast}
+use Rattle.characters.proofs.Asking.{Answers, finds_last}
 use Rattle.characters.proofs.Walks.{first_found, first_again, first_ended, last_found, last_again, last_ended, last_passed}
 use Rattle.characters.proofs.Tests.{answer, le_or_lt}
 use Rattle.area.specs.declared.Fault.{Fault}
-use Rattle.area.specs.declared.Appended.{Appended}
-use Rattle.area.specs.declared.Appended.TheVariants.{Next, Full}
-use Rattle.area.specs.Areas.{Pushed, room, insert_at, inserted}
+use Rattle.area.specs.declared.AreaFull.{AreaFull}
+use Rattle.area.specs.declared.AreaName.TheVariants.{Faults}
+use Rattle.area.specs.Areas.{Pushed, room, insert_at, inserted, full}
 use Rattle.area.specs.Records.{fault_at, fault_bytes, fault_width, most_others, nth_fault}
 use Rattle.area.specs.Contents.{append, contents, fault_format, Grows, left_by}
 use Rattle.area.proofs.Rooms.{room_few, room_fits, room_fewer, room_later}
@@ -123,21 +125,22 @@ was_appended cap fs gs ys = go (room fault_width most_others cap (length fs) (le
     go false e = cc
 
 -- a step that does the same to the spans held
-grows_as : {f g : List Fault → Option (List Fault)} {l : List ℕ} {n : ℕ} {r : Appended} {e : List ℕ} → f (spans l n) ≡ g (spans l n)
+grows_as : {f g : List Fault → Math.Option (List Fault)} {l : List ℕ} {n : ℕ} {r : Result ℕ AreaFull} {e : List ℕ} → f (spans l n) ≡ g (spans l n)
     → GrowsFaults g l n r e → GrowsFaults f l n r e
-grows_as q d = record { says = q ∙ d.says; held = d.held; long = d.long }
+grows_as q d = record { says = q ∙ d.says; held = d.held; names = d.names; long = d.long }
 
 module _ {l : List ℕ} {n : ℕ} (h : HeldFaults l n) where
   -- records with low numbers
-  low_appended : (gs : List Fault) {r : Appended} {e : List ℕ} → LowFrom n gs → Grows fault_format (append fault_format (length l) gs) l n r e
+  low_appended : (gs : List Fault) {r : Result ℕ AreaFull} {e : List ℕ} → LowFrom n gs → Grows fault_format (append fault_format (length l) gs) l n r e
       → GrowsFaults (append fault_format (length l) gs) l n r e
   low_appended gs {r} {e} low g = record {
     says = g.says;
     held = λ m q. record { held = g.held m q; numbered = numbers m q };
+    names = g.names;
     long = g.long;
   }
     where
-      numbers : (m : ℕ) → r ≡ Next m → Numbered (spans e m)
+      numbers : (m : ℕ) → r ≡ Ok m → Numbered (spans e m)
       numbers m q =
           subst Numbered (was_appended (length l) (spans l n) gs (spans e m) (g.says ∙ ap (left_by fault_format e) q))
           (numbered_join (spans l n) gs h.numbered (rw (span_count h) low))
@@ -146,7 +149,7 @@ module _ {l : List ℕ} {n : ℕ} (h : HeldFaults l n) where
     number_low : number ≤ n
     number_low = omega (arith, is, span_count h, next_low (spans l n) h.numbered)
 
-    pub fault_added : (a e : ℕ) (r : Appended) (x : List ℕ) → Pushed fault_width most_others 1 (fault_bytes (fault number kind a e)) l n r x
+    pub fault_added : (a e : ℕ) (r : Result ℕ AreaFull) (x : List ℕ) → Pushed Faults fault_width most_others 1 (fault_bytes (fault number kind a e)) l n r x
         → GrowsFaults (add_fault (length l) kind a e) l n r x
     unfolding add_fault
     fault_added a e r x p =
@@ -179,45 +182,36 @@ module _ {l : List ℕ} {n : ℕ} (h : HeldFaults l n) (j : ℕ) (g : j < n) whe
 
 pub ruleset looking = (rules, starts_first, starts_other, is_the_fault)
 
-module _ {l : List ℕ} {n : ℕ} (h : HeldFaults l n) (kind a e j : ℕ) (before : first (is_fault (spans l n) kind a e) 0 n ≡ first (is_fault (spans l n) kind a e) j n) where
-  whole : first (is_fault (spans l n) kind a e) 0 n ≡ find_fault (spans l n) kind a e
+module _ {l : List ℕ} {n : ℕ} (h : HeldFaults l n) (kind a e : ℕ) where
+  pub fault_below : (r : Option ℕ) → Below n (first (is_fault (spans l n) kind a e) 0 n) r → Below n (find_fault (spans l n) kind a e) r
   unfolding find_fault
-  whole = ap (first (is_fault (spans l n) kind a e) 0) (sym (span_count h))
+  fault_below r b = rw (span_count h) b
 
-  pub fault_found : j < n → is_fault (spans l n) kind a e j ≡ true → j ≡ find_fault (spans l n) kind a e
-  fault_found g t = first_found (is_fault (spans l n) kind a e) 0 j n before g t ∙ whole
+-- ---- the end of a fault
 
-  pub fault_missing : n ≤ j → j ≡ find_fault (spans l n) kind a e
-  fault_missing g = first_ended (is_fault (spans l n) kind a e) 0 j n before g ∙ whole
-
-pub ruleset finding = (rules, answer, first_again, fault_found, fault_missing)
-
--- ---- the end of a fault; the loop came down to k
-
-abbrev numbers : List Fault → ℕ → ℕ → Bool
+abbrev pub numbers : List Fault → ℕ → ℕ → Bool
 numbers fs number j = eqb (nth_fault fs j).number number
 
-module _ {l : List ℕ} {n : ℕ} (h : HeldFaults l n) (number k : ℕ) (before : last (numbers (spans l n) number) 0 n ≡ last (numbers (spans l n) number) 0 k) where
-  ends_at : (f : CodeOption ℕ) → f ≡ last (numbers (spans l n) number) 0 n → behind f ≡ fault_end (spans l n) number
+module _ {l : List ℕ} {n : ℕ} (h : HeldFaults l n) (number : ℕ) where
+  ends_behind_last : (f : Option ℕ) → f ≡ last (numbers (spans l n) number) 0 n → behind f ≡ fault_end (spans l n) number
   unfolding fault_end
-  ends_at f q = ap behind (q ∙ ap (last (numbers (spans l n) number) 0) (sym (span_count h)))
+  ends_behind_last f q = ap behind (q ∙ ap (last (numbers (spans l n) number) 0) (sym (span_count h)))
 
-  module _ (x : Fault) (is : x ≡ fault_at l (k - 1)) (g : k ≤ n) (p : 0 < k) where
-    has_number : nth_fault (spans l n) (k - 1) ≡ x
-    has_number = span_read h (k - 1) (omega arith) ∙ sym is
+  -- the last span that a search from the end finds, by a closure that answers whether a span has the number
+  pub end_as : {answers : ℕ → Bool → Type 0} {o : Option ℕ} (f : Option ℕ) → o ≡ f → FindsLast answers 0 n o → Answers answers (numbers (spans l n) number) 0 n
+      → Between 0 n (fault_end (spans l n) number) (behind f)
+  end_as {answers} None q d is =
+      record { is = ends_behind_last None (sym q ∙ finds_last answers (numbers (spans l n) number) 0 n _ is d); from = omega arith; to = omega arith }
+  end_as {answers} (Some k) q d is =
+      record {
+        is = ends_behind_last (Some k) (sym q ∙ finds_last answers (numbers (spans l n) number) 0 n _ is d);
+        from = omega arith;
+        to = omega (arith, (subst (FindsLast answers 0 n) q d).is.to);
+      }
 
-    pub end_found : x.number ≡ number → k ≡ fault_end (spans l n) number
-    end_found q =
-        let z : k ≡ k - 1 + 1 = omega arith in
-        z ∙ ends_at (Some (k - 1)) (last_found (numbers (spans l n) number) 0 k n before p (rw has_number (eq-eqb x.number number q)))
-
-    pub end_again : (x.number ≡ number → ⊥) → last (numbers (spans l n) number) 0 n ≡ last (numbers (spans l n) number) 0 (k - 1)
-    end_again d = last_again (numbers (spans l n) number) 0 k n before p (rw has_number (ne_eqb x.number number d))
-
-  pub end_missing : k ≤ 0 → 0 ≡ fault_end (spans l n) number
-  end_missing z = ends_at None (last_ended (numbers (spans l n) number) 0 k n before z)
-
-pub ruleset ending = (rules, end_found, end_again, end_missing)
+  -- the closure's answer for a span
+  pub has_number : (j : ℕ) (x : Fault) → j < n → x ≡ fault_at l j → eqb x.number number ≡ numbers (spans l n) number j
+  has_number j x g is = ap (λ (y : Fault). eqb y.number number) (is ∙ sym (span_read h j g))
 
 -- ---- a span more
 
@@ -226,19 +220,24 @@ module _ {l : List ℕ} {n : ℕ} (h : HeldFaults l n) (t : Bool) (m : ℕ) (tes
   room_of : {b : Bool} → t ≡ b → room fault_width most_others (length l) (length (spans l n)) m ≡ b
   room_of q = ap (λ (k : ℕ). room fault_width most_others (length l) k m) (span_count h) ∙ sym tested ∙ q
 
-unchanged : {f : List Fault → Option (List Fault)} {l : List ℕ} {n : ℕ} → f (spans l n) ≡ none → GrowsFaults f l n Full l
-unchanged q = record { says = q; held = λ m z. absurd (never z); long = refl }
+unchanged : {f : List Fault → Math.Option (List Fault)} {l : List ℕ} {n : ℕ} → f (spans l n) ≡ none → GrowsFaults f l n (Err (full Faults)) l
+unchanged q = record { says = q; held = λ m z. absurd (never z); names = λ x z. cc; long = refl }
   where
-    never : {m : ℕ} → Full ≡ Next m → ⊥
+    never : {m : ℕ} → Err (full Faults) ≡ Ok m → ⊥
     never z =
         let q : ◌≡◌ {A = ℕ} 0 1 = cc in
         omega arith
 
-same_count : {k m : ℕ} → Next k ≡ Next m → k ≡ m
+never_full : {m : ℕ} {x : AreaFull} → ◌≡◌ {A = Result ℕ AreaFull} (Ok m) (Err x) → ⊥
+never_full z =
+    let q : ◌≡◌ {A = ℕ} 0 1 = cc in
+    omega arith
+
+same_count : {k m : ℕ} → ◌≡◌ {A = Result ℕ AreaFull} (Ok k) (Ok m) → k ≡ m
 same_count z = cc
 
 module _ {l : List ℕ} {n : ℕ} (h : HeldFaults l n) (t : Bool) (tested : t ≡ room fault_width most_others (length l) n 1) (j a e : ℕ) (g : j < n) where
-  pub span_refused : t ≡ false → GrowsFaults (add_span (length l) j a e) l n Full l
+  pub span_refused : t ≡ false → GrowsFaults (add_span (length l) j a e) l n (Err (full Faults)) l
   unfolding add_span
   span_refused q = unchanged (rw (room_of h t 1 tested q))
 
@@ -255,7 +254,7 @@ module _ {l : List ℕ} {n : ℕ} (h : HeldFaults l n) (t : Bool) (tested : t �
         rw found.is (omega (arith, found.from, low, ap (λ (y : Fault). y.number) the_fault))
 
     pub span_inserted : (p : ℕ) (v : List ℕ) → t ≡ true → Between 0 n (fault_end (spans l n) x.number) p
-        → v ≡ inserted fault_width p n (fault_bytes (fault x.number x.kind a e)) l → GrowsFaults (add_span (length l) j a e) l n (Next (n + 1)) v
+        → v ≡ inserted fault_width p n (fault_bytes (fault x.number x.kind a e)) l → GrowsFaults (add_span (length l) j a e) l n (Ok (n + 1)) v
     unfolding add_span
     span_inserted p v q b is-v =
         let r = room_of h t 1 tested q in
@@ -268,6 +267,7 @@ module _ {l : List ℕ} {n : ℕ} (h : HeldFaults l n) (t : Bool) (tested : t �
             held = made.1;
             numbered = subst Numbered (sym made.0) (numbered_insert p more (spans l n) (rw (span_count h) b.to) low h.numbered);
           });
+          names = λ x z. absurd (never_full z);
           long = made.2;
         }
 
@@ -291,17 +291,17 @@ append_two cap x y fs t =
     rw (t, later, append_assoc fs (x ∷ []) (y ∷ []))
 
 module _ {l : List ℕ} {n : ℕ} (h : HeldFaults l n) (t : Bool) (tested : t ≡ room fault_width most_others (length l) n 2) (kind c d a e : ℕ) where
-  pub pair_refused : t ≡ false → GrowsFaults (add_pair (length l) kind c d a e) l n Full l
+  pub pair_refused : t ≡ false → GrowsFaults (add_pair (length l) kind c d a e) l n (Err (full Faults)) l
   unfolding add_pair append
   pair_refused q = unchanged (rw (room_of h t 2 tested q))
 
-  module _ (q : t ≡ true) (number : ℕ) (is : number ≡ next_number (spans l n)) (r : Appended) (v : List ℕ) (pushed : Pushed fault_width most_others 1 (fault_bytes (fault number kind c d)) l n r v) where
+  module _ (q : t ≡ true) (number : ℕ) (is : number ≡ next_number (spans l n)) (r : Result ℕ AreaFull) (v : List ℕ) (pushed : Pushed Faults fault_width most_others 1 (fault_bytes (fault number kind c d)) l n r v) where
     -- there was room for both, so the first fits
-    pub pair_fits : r ≡ Full → GrowsFaults (add_pair (length l) kind c d a e) l n Full v
+    pub pair_fits : {x : AreaFull} → r ≡ Err x → GrowsFaults (add_pair (length l) kind c d a e) l n (Err x) v
     pair_fits z =
         absurd (true≢false (sym (room_fewer fault_width most_others (length l) n 2 1 (omega arith) (sym tested ∙ q)) ∙ (full_says pushed z).0))
 
-    module _ (m : ℕ) (z : r ≡ Next m) where
+    module _ (m : ℕ) (z : r ≡ Ok m) where
       first_pushed : GrowsFaults (append fault_format (length l) (fault number kind c d ∷ [])) l n r v
       first_pushed = low_appended h (fault number kind c d ∷ []) low (held_push fault_sound h.held (fault number kind c d) pushed)
         where
@@ -315,7 +315,7 @@ module _ {l : List ℕ} {n : ℕ} (h : HeldFaults l n) (t : Bool) (tested : t �
       spans_first : spans l n ++ (fault number kind c d ∷ []) ≡ spans v m
       spans_first = was_appended (length l) (spans l n) (fault number kind c d ∷ []) (spans v m) (first_pushed.says ∙ ap (left_by fault_format v) z)
 
-      pub pair_added : (s : Appended) (w : List ℕ) → Pushed fault_width most_others 1 (fault_bytes (fault number kind a e)) v m s w
+      pub pair_added : (s : Result ℕ AreaFull) (w : List ℕ) → Pushed Faults fault_width most_others 1 (fault_bytes (fault number kind a e)) v m s w
           → GrowsFaults (add_pair (length l) kind c d a e) l n s w
       unfolding add_pair
       pair_added s w p =
@@ -323,6 +323,7 @@ module _ {l : List ℕ} {n : ℕ} (h : HeldFaults l n) (t : Bool) (tested : t �
           record {
             says = rw (← is, append_two (length l) (fault number kind c d) (fault number kind a e) (spans l n) (room_of h t 2 tested q), spans_first, ← first_pushed.long) second.says;
             held = second.held;
+            names = second.names;
             long = second.long ∙ first_pushed.long;
           }
         where
@@ -337,13 +338,20 @@ pub ruleset pairing = (rules, pair_refused, pair_fits, pair_added)
 
 -- ---- a name repeated
 
-module _ {l : List ℕ} {n : ℕ} (h : HeldFaults l n) (kind c d a e j : ℕ) (found : Between 0 n (find_fault (spans l n) kind c d) j) where
-  pub repeat_again : {r : Appended} {v : List ℕ} → j < n → GrowsFaults (add_span (length l) j a e) l n r v → GrowsFaults (add_repeat (length l) kind c d a e) l n r v
-  unfolding add_repeat repeat_at
-  repeat_again g p = grows_as (rw (← found.is, lt-ltb j (length (spans l n)) (rw (span_count h) g))) p
+module _ {l : List ℕ} {n : ℕ} (h : HeldFaults l n) (kind c d a e : ℕ) {o : Option ℕ} (found : Below n (find_fault (spans l n) kind c d) o) where
+  pub repeat_within : {j : ℕ} → o ≡ Some j → j < n
+  repeat_within q = (subst (Below n (find_fault (spans l n) kind c d)) q found).0
 
-  pub repeat_first : {r : Appended} {v : List ℕ} → n ≤ j → GrowsFaults (add_pair (length l) kind c d a e) l n r v → GrowsFaults (add_repeat (length l) kind c d a e) l n r v
+  pub repeat_again : {j : ℕ} {r : Result ℕ AreaFull} {v : List ℕ} → o ≡ Some j → GrowsFaults (add_span (length l) j a e) l n r v → GrowsFaults (add_repeat (length l) kind c d a e) l n r v
   unfolding add_repeat repeat_at
-  repeat_first g p = grows_as (rw (← found.is, le-ltb j (length (spans l n)) (rw (span_count h) g))) p
+  repeat_again {j} q p =
+      let b = subst (Below n (find_fault (spans l n) kind c d)) q found in
+      grows_as (rw (← b.1, lt-ltb j (length (spans l n)) (rw (span_count h) b.0))) p
 
-pub ruleset repeating = (rules, repeat_again, repeat_first)
+  pub repeat_first : {r : Result ℕ AreaFull} {v : List ℕ} → o ≡ None → GrowsFaults (add_pair (length l) kind c d a e) l n r v → GrowsFaults (add_repeat (length l) kind c d a e) l n r v
+  unfolding add_repeat repeat_at
+  repeat_first q p =
+      let b = subst (Below n (find_fault (spans l n) kind c d)) q found in
+      grows_as (rw (← b, le-ltb n (length (spans l n)) (rw (span_count h) (omega arith)))) p
+
+pub ruleset repeating = (rules, repeat_within, repeat_again, repeat_first)

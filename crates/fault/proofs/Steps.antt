@@ -6,10 +6,14 @@ use Prim.Native.Nat.{ℕ, zero, suc, ◌+◌, ◌≤◌, ◌<◌}
 use native.Mathlib.Omega.{arith}
 use mathlib.Core.Option.{Option, none, some}
 use mathlib.Core.List.{List}
-use Rattle.area.specs.declared.Appended.{Appended}
-use Rattle.area.specs.declared.Appended.TheVariants.{Next, Full}
+use Rattle.std.specs.Prelude.{Result, Ok, Err}
+use Rattle.area.specs.declared.AreaFull.{AreaFull}
 use Rattle.area.specs.Contents.{Format, contents, left_by}
-use Rattle.fault.specs.Step.{Out, go, bad, full, next, onto, written, loop, Does}
+use Rattle.area.specs.Areas.{full as full-area}
+use Rattle.fault.specs.declared.Stop.{Stop}
+use Rattle.fault.specs.declared.Stop.TheVariants.{Fault, Full}
+use Rattle.fault.specs.Kinds.{kind_number}
+use Rattle.fault.specs.Step.{Out, go, bad, full, next, onto, written, loop, outcome, Does}
 
 -- the whole loop, which ends by the bound, has come to the place i and the state s
 pub record Going {S : Type 0} (whole : Out S) (test : ℕ → Bool) (body : ℕ → S → Out S) (bound i : ℕ) (s : S) : Type 0 where
@@ -109,13 +113,57 @@ module _ {S Q : Type 0} {H : Q → Type 0} {f : S → Out S} {s : S} {view : Q �
     pub was_full : {n : ℕ} → o ≡ full n → f s ≡ full n
     was_full e = d.says ∙ ap (onto view) e
 
+-- ---- an answer that ends the parse, whichever it is
+
+-- a fault, and not a full area
+abbrev pub IsFault : Stop → Type 0
+IsFault (Fault kind at) = Unit {0}
+IsFault (Full name) = ⊥
+
+-- it is passed on by what follows, and by a larger state
+pub next_err : {S : Type 0} (x : Stop) (s : S) (g : ℕ → S → Out S) → next (outcome (Err x) s) g ≡ outcome (Err x) s
+next_err (Fault kind at) s g = refl
+next_err (Full name) s g = refl
+
+pub onto_err : {S T : Type 0} (f : S → T) (x : Stop) (s : S) → onto f (outcome (Err x) s) ≡ outcome (Err x) (f s)
+onto_err f (Fault kind at) s = refl
+onto_err f (Full name) s = refl
+
+pub onto_outcome : {S T : Type 0} (f : S → T) (r : Result ℕ Stop) (s : S) → onto f (outcome r s) ≡ outcome r (f s)
+onto_outcome f (Ok i) s = refl
+onto_outcome f (Err x) s = onto_err f x s
+
+module _ {S Q : Type 0} {H : Q → Type 0} {f : S → Out S} {s : S} {view : Q → S} where
+  -- what the areas hold is known unless one of them is full
+  pub does_err : (x : Stop) (q : Q) → f s ≡ outcome (Err x) (view q) → (IsFault x → H q) → Does H f s view (outcome (Err x) q)
+  does_err (Fault kind at) q e h = does_bad e (h tt)
+  does_err (Full name) q e h = does_full e
+
+  module _ (r : Result ℕ Stop) (q : Q) (d : Does H f s view (outcome r q)) where
+    pub was_ok : {i : ℕ} → r ≡ Ok i → f s ≡ go i (view q)
+    was_ok e = was_go d (ap (λ (x : Result ℕ Stop). outcome x q) e)
+
+    pub holds_ok : {i : ℕ} → r ≡ Ok i → H q
+    holds_ok {i} e = d.goes i q (ap (λ (x : Result ℕ Stop). outcome x q) e)
+
+    pub was_err : (x : Stop) → r ≡ Err x → f s ≡ outcome (Err x) (view q)
+    was_err x e = d.says ∙ ap (λ (y : Result ℕ Stop). onto view (outcome y q)) e ∙ onto_err view x q
+
+    pub holds_err : (x : Stop) → r ≡ Err x → IsFault x → H q
+    holds_err (Fault kind at) e z = d.ends (kind_number kind) at q (ap (λ (y : Result ℕ Stop). outcome y q) e)
+    holds_err (Full name) e z = absurd z
+
 -- what an append to an area writes, or that it is full
-module _ {A : Type 0} (F : Format A) (n i : ℕ) (f : Option (List A)) (e : List ℕ) (r : Appended) (is : f ≡ left_by F e r) where
-  pub written_next : {m : ℕ} → r ≡ Next m → written n i f ≡ go i (contents F e m)
+module _ {A : Type 0} (F : Format A) (n i : ℕ) (f : Option (List A)) (e : List ℕ) (r : Result ℕ AreaFull) (is : f ≡ left_by F e r) where
+  pub written_next : {m : ℕ} → r ≡ Ok m → written n i f ≡ go i (contents F e m)
   written_next q = ap (written n i) (is ∙ ap (left_by F e) q)
 
-  pub written_full : r ≡ Full → written n i f ≡ full n
+  pub written_full : {x : AreaFull} → r ≡ Err x → written n i f ≡ full n
   written_full q = ap (written n i) (is ∙ ap (left_by F e) q)
+
+-- the area that is full, as what ends the parse
+pub stop_full : {A : Type 0} (F : Format A) {x : AreaFull} → x ≡ full-area F.name → Full x.0 ≡ Full F.name
+stop_full F q = ap (λ (y : AreaFull). Full y.0) q
 
 -- ---- where a step that goes on goes
 
@@ -166,6 +214,16 @@ module _ {S C : Type 0} {whole : Out S} {test : ℕ → Bool} {body : C → ℕ 
     pub loops_full : {n : ℕ} → o ≡ full n → whole ≡ full n
     loops_full e = sym (going_full test (body c) bound i s x.going pass inside (here ∙ was_full d e))
 
+-- the body answers a Result
+module _ {S C : Type 0} {whole : Out S} {test : ℕ → Bool} {body : C → ℕ → S → Out S} {bound : ℕ} {c now : C} {i : ℕ} {s : S} (x : Loops whole test body bound c now i s)
+    (pass : test i ≡ true) (inside : i < bound) {Q : Type 0} {H : Q → Type 0} {view : Q → S} (r : Result ℕ Stop) (q : Q) (d : Does {S = S} {Q = Q} H (body now i) s view (outcome r q)) where
+  pub loops_ok : {j : ℕ} (then : C) → r ≡ Ok j → i < j → then ≡ now → Loops whole test body bound c then j (view q)
+  loops_ok then e h k = loops_next x pass inside d then (ap (λ (y : Result ℕ Stop). outcome y q) e) h k
+
+  pub loops_err : (e : Stop) → r ≡ Err e → whole ≡ outcome (Err e) (view q)
+  loops_err (Fault kind at) e = loops_bad x pass inside d (ap (λ (y : Result ℕ Stop). outcome y q) e)
+  loops_err (Full name) e = loops_full x pass inside d (ap (λ (y : Result ℕ Stop). outcome y q) e)
+
 -- ---- a step that does g, and goes on from where g leaves off to the place that h gives
 
 module _ {S : Type 0} {f g : S → Out S} {s : S} (h : ℕ → ℕ) (is : f s ≡ next (g s) (λ j t. go (h j) t)) {Q : Type 0} {H : Q → Type 0} {view : Q → S} {o : Out Q} (d : Does H g s view o) where
@@ -177,6 +235,15 @@ module _ {S : Type 0} {f g : S → Out S} {s : S} (h : ℕ → ℕ) (is : f s �
 
   pub then_full : {n : ℕ} → o ≡ full n → Does H f s view (full n)
   then_full e = does_full (is ∙ ap (λ (x : Out S). next x (λ j t. go (h j) t)) (was_full d e))
+
+-- the step answers a Result
+module _ {S : Type 0} {f g : S → Out S} {s : S} (h : ℕ → ℕ) (is : f s ≡ next (g s) (λ j t. go (h j) t)) {Q : Type 0} {H : Q → Type 0} {view : Q → S} (r : Result ℕ Stop) (q : Q) (d : Does {S = S} {Q = Q} H g s view (outcome r q)) where
+  pub then_ok : {j : ℕ} → r ≡ Ok j → Does H f s view (go (h j) q)
+  then_ok e = then_go h is d (ap (λ (y : Result ℕ Stop). outcome y q) e)
+
+  pub then_err : (x : Stop) → r ≡ Err x → Does H f s view (outcome (Err x) q)
+  then_err (Fault kind at) e = then_bad h is d (ap (λ (y : Result ℕ Stop). outcome y q) e)
+  then_err (Full name) e = then_full h is d (ap (λ (y : Result ℕ Stop). outcome y q) e)
 
 -- ---- a step on a part of a larger state
 

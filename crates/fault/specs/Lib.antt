@@ -1,3 +1,4 @@
+pub mod Kinds
 pub mod Step
 pub mod Faults
 pub mod Phrases

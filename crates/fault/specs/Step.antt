@@ -1,8 +1,10 @@
 -- What a step of the parse comes to, and how steps follow one another. What the step writes is its state, a variable here.
-use Rattle.std.specs.Prelude.{ℕ, zero, suc, Bool, cond, ◌≡◌}
+use Rattle.std.specs.Prelude.{Result, Ok, Err, ℕ, zero, suc, Bool, cond, ◌≡◌}
 use Rattle.std.proofs.Math.Option.{Option, none, some}
-use Rattle.fault.specs.declared.Progress.{Progress}
-use Rattle.fault.specs.declared.Progress.TheVariants.{Go, Bad, Full}
+use Rattle.area.specs.Names.{area_number}
+use Rattle.fault.specs.declared.Stop.{Stop}
+use Rattle.fault.specs.declared.Stop.TheVariants.{Fault, Full}
+use Rattle.fault.specs.Kinds.{kind_number}
 
 -- parsing goes on at a place; a fault of a kind at a place ends it; or the next record or text does not fit into the area of a number
 -- (01, Numbers given at the counter: 4 or 5, whichever comes first)
@@ -35,11 +37,11 @@ loop (suc n) test body i s = let r = next (body i s) (λ j t. loop n test body j
 
 -- ---- an outcome with counts of records in place of the records
 
--- the outcome of a step over one area
-abbrev pub progress : Progress → Out ℕ
-progress (Go i n) = go i n
-progress (Bad kind at n) = bad kind at n
-progress (Full n) = full n
+-- the outcome of a step that answers r and leaves the counts q
+abbrev pub outcome : {Q : Type 0} → Result ℕ Stop → Q → Out Q
+outcome (Ok i) q = go i q
+outcome (Err (Fault kind at)) q = bad (kind_number kind) at q
+outcome (Err (Full name)) q = full (area_number name)
 
 -- the step f from the state s comes to o, where `view` is the state that the counts stand for in the areas afterwards; and unless an area is
 -- full, H holds of the counts

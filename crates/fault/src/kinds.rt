@@ -1,25 +1,28 @@
-// The kinds of faults, in the order of `LexErrorKind` (01, Areas, 6).
+// The kinds of faults (01, Areas, 6).
+ghost use Rattle.std.specs.Prelude.{◌≡◌};
+ghost use Rattle.fault.specs.Kinds.{kind_number};
 
-pub const PREMATURE_END: u16 = 0;
+// In the order of their numbers, from 0 on.
+#[derive(Clone, Copy, PartialEq, Eq, Debug)]
+pub enum LexErrorKind {
+    PrematureEnd,
+    RoutinesNotSupported,
+    UnknownDeclaration,
+    MissingSpace,
+    InvalidName,
+    UnknownStartState,
+    DuplicateStartState,
+    InvalidStartState,
+    InvalidStartStateName,
+    DuplicateName,
+    RegexError,
+    VerbatimNotSupported,
+}
 
-pub const ROUTINES_NOT_SUPPORTED: u16 = 1;
+impl From<LexErrorKind> for u16 {
+    ghost from_gives = { λ kind number. number ≡ kind_number kind };
 
-pub const UNKNOWN_DECLARATION: u16 = 2;
-
-pub const MISSING_SPACE: u16 = 3;
-
-pub const INVALID_NAME: u16 = 4;
-
-pub const UNKNOWN_START_STATE: u16 = 5;
-
-pub const DUPLICATE_START_STATE: u16 = 6;
-
-pub const INVALID_START_STATE: u16 = 7;
-
-pub const INVALID_START_STATE_NAME: u16 = 8;
-
-pub const DUPLICATE_NAME: u16 = 9;
-
-pub const REGEX_ERROR: u16 = 10;
-
-pub const VERBATIM_NOT_SUPPORTED: u16 = 11;
+    fn from(kind: LexErrorKind) -> u16 {
+        kind as u16
+    }
+}

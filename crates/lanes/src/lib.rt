@@ -9,7 +9,7 @@ ghost use Rattle.area.specs.Records.{rule_width, entry_width};
 ghost use Rattle.area.specs.Phrases.{before, after};
 ghost use Rattle.lanes.specs.Lanes.{lane_count, lane_at, FieldsWithin, SumWithin, Joined, AllZero, RulesWithin, EntriesWithin};
 
-use area::{RULE_WIDTH, read_entry, read_field};
+use area::{RULE_WIDTH, read, read_field};
 
 // No limit: no field is above it.
 const ANY: u16 = u16::MAX;
@@ -143,7 +143,7 @@ fn each_within(area: &[u8], from: usize, n: usize, highest: u16) -> bool
 {
     let mut excess = 0;
     for j in 0..n {
-        excess |= read_entry(area, from + j).saturating_sub(highest);
+        excess |= read::<u16>(area, from + j).saturating_sub(highest);
     }
     excess == 0
 }

@@ -9,12 +9,12 @@ use borrow.Author.Tests.{eqb-true, eq-eqb, ne_eqb}
 use lib.Dec.{ltb}
 use lib.ListN.{length, get_or}
 use Rattle.area.specs.declared.Rule.{Rule}
-use Rattle.area.specs.declared.Appended.{Appended}
-use Rattle.area.specs.Records.{rule_width, most_rules, rule_at, rule_bytes}
-use Rattle.area.specs.Areas.{Pushed}
+use Rattle.area.specs.Records.{rule_width, rule_at, rule_bytes}
 use Rattle.area.specs.Contents.{contents, rule_format, relaid}
 use Rattle.area.proofs.Contents.{rule_sound}
-use Rattle.area.proofs.Relaid.{rule_local, after_none, after_read, after_next, record_inside, pushed_writes}
+use Rattle.area.proofs.Relaid.{rule_local, after_none, after_read, after_next}
+use Rattle.area.proofs.Rooms.{record_fits}
+use lib.Seq.{sets}
 use Rattle.name_map.proofs.Maps.{some_found}
 use Rattle.name_map.specs.Map.{Entry, nth, find_entry, found_entry, option_of, id_at, id_of}
 use mathlib.Core.Option as M
@@ -75,9 +75,9 @@ module _ (name : Rule → List ℕ) (es : List Entry) (l : List ℕ) where
     pub found_inside : x.named ≡ 1 → (j : ℕ) → get_or found k None ≡ Some j → j < length es
     found_inside named j e = (some_found es (name x) j (sym e ∙ by_name named)).0
 
-    pub rules_next : count ≤ most_rules → count * rule_width ≤ length a → (y : Rule) (r : Appended) (e : List ℕ)
-        → y ≡ link_to es (get_or found k None) x → Pushed rule_width most_rules 1 (rule_bytes y) a k r e → e ≡ linked_to (k + 1)
+    pub rules_next : count * rule_width ≤ length a → (y : Rule) (e : List ℕ)
+        → y ≡ link_to es (get_or found k None) x → e ≡ sets a (k * rule_width) (rule_bytes y) → e ≡ linked_to (k + 1)
     unfolding link_rules
-    rules_next few long y r e z p =
-        after_next rule_sound rule_local (link_rule name es) l k a is x y e (record_inside p count h few long) read
-        (z ∙ linked_by name es (get_or found k None) x by_name) (pushed_writes p count h few long)
+    rules_next long y e z p =
+        after_next rule_sound rule_local (link_rule name es) l k a is x y e (record_fits rule_width (length a) count k h long) read
+        (z ∙ linked_by name es (get_or found k None) x by_name) p

@@ -7,7 +7,7 @@ ghost use Rattle.area.specs.Phrases.{before, after};
 ghost use Rattle.name_map.specs.Phrases.{map_in};
 ghost use Rattle.link.specs.Phrases.{rule_names_in};
 
-use area::{Rule, read_rule};
+use area::{Rule, read};
 use name_map::index::NameIndex;
 
 // The entry with a rule's name.
@@ -34,7 +34,7 @@ pub fn match_rules(
 {
     let mut n = 0;
     for k in 0..count as usize {
-        let x = read_rule(area, k);
+        let x: Rule = read(area, k);
         if x.named != 1 {
             continue;
         }

@@ -10,7 +10,7 @@ ghost use Rattle.link.specs.Matches.{unmarked, Tests};
 ghost use Rattle.area.specs.Phrases.{before, after};
 ghost use Rattle.link.specs.Phrases.{rules_in};
 
-use area::{Rule, read_rule, write_field};
+use area::{Rule, read, write_field};
 
 // How many bytes a number has.
 pub const NUMBER_WIDTH: usize = 2;
@@ -53,7 +53,7 @@ pub fn write_unlinked(area: &[u8], count: u16, into: &mut [u8])
     requires into_value_2 { fits (unlinked (contents rule_format area.now count)) into.old ≡ true }
     ensures { into.new ≡ laid entry_format (length into.old) (unlinked (rules_in area.now count)) }
 {
-    write_numbers(count, |k| is_unlinked(read_rule(area, k as usize)), into);
+    write_numbers(count, |k| is_unlinked(read(area, k as usize)), into);
 }
 
 // How many of so many entries have no mark. Each mark is added, with no branch, so that the compiler takes many at once; a filter and its count

@@ -10,7 +10,7 @@ ghost use Rattle.area.specs.Phrases.{before, after};
 ghost use Rattle.name_map.specs.Phrases.{map_in};
 ghost use Rattle.link.specs.Phrases.{rules_in, rule_names_in};
 
-use area::{Rule, push_rule, read_rule};
+use area::{RULE_WIDTH, Record, Rule, read};
 use name_map::map::NameMap;
 
 fn with_id(x: Rule, id: Option<u16>) -> Rule
@@ -48,7 +48,8 @@ pub fn link_rules(src: &[u8], area: &mut [u8], count: u16, map: &NameMap, found:
     ensures { area.new ≡ relaid rule_format area.old (link_rules (rule_names_in src.now) (map_in map.now) (rules_in area.old count)) }
 {
     for k in 0..count {
-        let x = read_rule(area, k as usize);
-        push_rule(area, k, link_rule(map, found[k as usize], x));
+        let at = k as usize;
+        let x = read(area, at);
+        link_rule(map, found[at], x).write(area, at * RULE_WIDTH);
     }
 }

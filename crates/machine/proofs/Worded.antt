@@ -11,9 +11,8 @@ use Rattle.answers.specs.Numbers.{row_mismatch_number, done_number, stopped_numb
 use Rattle.answers.specs.Words.{TwoBytes}
 use Rattle.area.specs.Bytes.{AllBytes}
 use Rattle.answers.proofs.Words.{two_bytes, no_values}
-use Rattle.parse.specs.declared.Answer.{Answer}
-use Rattle.parse.specs.declared.Answer.TheVariants as P
-use Rattle.parse.specs.Parse.{parse_fields, parse_word}
+use Rattle.parse.specs.declared.ParseError.TheVariants as P
+use Rattle.parse.specs.Parse.{ParseAnswer, parse_accepted, parse_fields, parse_word}
 use Rattle.sheet_check.specs.SheetCheck.{SheetBytes}
 use Rattle.link.specs.declared.LinkError.TheVariants as L
 use Rattle.name_map.specs.Map.{Entry}
@@ -35,14 +34,14 @@ use Rattle.machine.proofs.Theorem.{demand}
 
 -- ---- the words of accepted calls
 
-parse_zero : (x : Answer) → parse_word x ≡ 0 → x ≡ P.Accepted
+parse_zero : (x : ParseAnswer) → parse_word x ≡ 0 → x ≡ parse_accepted
 unfolding parse_fields
-parse_zero P.Accepted e = refl
-parse_zero P.LongFile e = absurd (omega (arith, e))
-parse_zero P.UnknownFlag e = absurd (omega (arith, e))
-parse_zero P.InvalidUtf8 e = absurd (omega (arith, e))
-parse_zero (P.AreaFull n) e = absurd (omega (arith, e))
-parse_zero (P.FaultyFile n) e = absurd (omega (arith, e))
+parse_zero (Ok tt) e = refl
+parse_zero (Err P.LongFile) e = absurd (omega (arith, e))
+parse_zero (Err P.UnknownFlag) e = absurd (omega (arith, e))
+parse_zero (Err P.InvalidUtf8) e = absurd (omega (arith, e))
+parse_zero (Err (P.AreaFull n)) e = absurd (omega (arith, e))
+parse_zero (Err (P.FaultyFile n)) e = absurd (omega (arith, e))
 
 link_zero : (x : LinkAnswer) → link_word x % 65536 ≡ 0 → (a : ℕ) × (b : ℕ) × (x ≡ linked_answer a b)
 unfolding link_fields

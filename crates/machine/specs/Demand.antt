@@ -4,8 +4,7 @@ use Rattle.std.specs.Prelude.{ℕ, ◌+◌, ◌*◌, ◌/◌, ◌%◌, ◌≤◌
 use Rattle.std.proofs.Math.Option.{Option, none, some}
 use Rattle.std.proofs.Math.ListN.{get_elem?}
 use Rattle.section.specs.Request.{Request}
-use Rattle.parse.specs.declared.Answer.TheVariants.{Accepted}
-use Rattle.parse.specs.Parse.{Caps, parse_call}
+use Rattle.parse.specs.Parse.{Caps, parse_accepted, parse_call}
 use Rattle.sheet_check.specs.SheetCheck.{SheetBytes, sheet_bytes}
 use Rattle.parsed_sheet.specs.Accepted.{sheet_left_by}
 use Rattle.name_map.specs.Map.{Entry}
@@ -133,7 +132,7 @@ given q = record { file = session_file q; map = session_map q; limit = most_byte
 
 -- the file, the link and the start are accepted
 pub record Accepts (q : Session) : Type 0 where
-  pub parsed : (parse_call q.request q.capacities).answer ≡ Accepted
+  pub parsed : (parse_call q.request q.capacities).answer ≡ parse_accepted
   pub unmapped : ℕ
   pub unused : ℕ
   pub linked : (link_left_of q).answer ≡ linked_answer unmapped unused

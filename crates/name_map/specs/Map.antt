@@ -5,6 +5,7 @@ use Rattle.std.proofs.Math.Option.{Option, none, some}
 use Rattle.text.specs.Range.{part, same_bytes}
 use Rattle.characters.specs.Walk.{first}
 use Rattle.area.specs.Bytes.{two, bytes, field_from}
+use Rattle.area.specs.declared.AreaName.TheVariants.{Entries}
 use Rattle.area.specs.Contents.{Format, contents}
 use Rattle.area.specs.Lists.{all, all_below}
 use Rattle.sheet_check.specs.SheetCheck.{within}
@@ -30,8 +31,9 @@ map_entry_of f = record { name_from = f 0; name_length = f 1; id = f 2 }
 unfoldable pub map_entry_at : List ℕ → ℕ → MapEntry
 map_entry_at l k = map_entry_of (field_from l (k * map_width))
 
+-- a map is no area of a parse: its entries are never appended, so that no one asks which area is full
 abbrev pub map_format : Format MapEntry
-map_format = record { write = λ x. bytes two (map_entry_fields x); width = map_width; most = most_entries; read = map_entry_at; blank = map_entry_of (λ _. 0) }
+map_format = record { name = Entries; write = λ x. bytes two (map_entry_fields x); width = map_width; most = most_entries; read = map_entry_at; blank = map_entry_of (λ _. 0) }
 
 -- how many whole entries there are
 abbrev pub entry_count : List ℕ → ℕ

@@ -1,5 +1,5 @@
--- The form of a name: a law for each way through. The loop keeps that the first byte that no name may have is the same from where it stands.
-use mathlib.Core.Path.{◌≡◌, sym}
+-- The form of a name: a law for each way through.
+use mathlib.Core.Path.{◌≡◌, ap}
 use mathlib.Core.Bool.{Bool, true, false, not, ◌||◌, or-false}
 use mathlib.Core.List.{List}
 use Prim.Native.Nat.{ℕ, ◌+◌, ◌≤◌, ◌<◌}
@@ -8,27 +8,18 @@ use borrow.Author.Rules.{rules}
 use borrow.Author.Tests.{eq-eqb, ne_eqb, lt-ltb, le-ltb}
 use lib.Dec.{eqb}
 use Rattle.characters.specs.Class.{is_letter, is_digit}
-use Rattle.characters.specs.Walk.{first}
+use Rattle.characters.specs.Walk.{first, Between}
 use Rattle.characters.specs.Whitespace.{byte}
-use Rattle.characters.proofs.Tests.{answer_not}
-use Rattle.characters.proofs.Walks.{first_found, first_again, first_ended}
 use Rattle.names.specs.Names.{all_bytes, is_name_byte, is_state_name}
 
 pub name_byte : (b : ℕ) (l d : Bool) → l ≡ is_letter b → d ≡ is_digit b → l || (d || (eqb b 0x5f || eqb b 0x2e)) ≡ is_name_byte b
 unfolding is_name_byte
 name_byte b l d el ed = rw (el, ed, or-false (eqb b 0x2e))
 
--- the loop began at a and stands at k
-module _ (test : ℕ → Bool) (s : List ℕ) (a k e : ℕ) (before : first (λ j. not (test (byte s j))) a e ≡ first (λ j. not (test (byte s j))) k e) where
-  pub bytes_fail : k < e → not (test (byte s k)) ≡ true → false ≡ all_bytes test s a e
-  unfolding all_bytes
-  bytes_fail h t = rw (← first_found (λ j. not (test (byte s j))) a k e before h t) (sym (ne_eqb k e (omega arith)))
-
-  pub bytes_pass : k ≤ e → e ≤ k → true ≡ all_bytes test s a e
-  unfolding all_bytes
-  bytes_pass g h = rw (← first_ended (λ j. not (test (byte s j))) a k e before h) (sym (eq-eqb k e (omega arith)))
-
-pub ruleset passing = (rules, answer_not, name_byte, first_again, bytes_fail, bytes_pass)
+-- all bytes pass where the walk to the first that fails comes to the end
+pub all_by_walk : (test : ℕ → Bool) (s : List ℕ) (a e r : ℕ) → Between a e (first (λ j. not (test (byte s j))) a e) r → eqb r e ≡ all_bytes test s a e
+unfolding all_bytes
+all_by_walk test s a e r b = ap (λ (k : ℕ). eqb k e) b.is
 
 module _ (s : List ℕ) (a e : ℕ) where
   pub form_empty : e ≤ a → false ≡ is_state_name s a e

@@ -17,8 +17,7 @@ use Rattle.characters.proofs.Tests.{le_or_lt}
 use Rattle.characters.proofs.Walks.{first_over, first_none}
 use Rattle.area.specs.declared.Rule.{Rule}
 use Rattle.area.specs.Records.{rule_at, nth_rule}
-use Rattle.area.specs.Contents.{rule_format, contents, Held}
-use Rattle.area.proofs.Contents.{rule_sound, contents-at, contents-length}
+use Rattle.area.specs.Contents.{rule_format}
 use Rattle.names.specs.Names.{name_of, has_name, find_rule}
 use Rattle.names.specs.Marks.{mark_count, mark_of, Mark, Marked}
 use Rattle.names.proofs.Finds.{named_same}
@@ -71,25 +70,24 @@ pub ruleset marking = (rules, first_byte, place_empty, place_cut, place_inside)
 
 -- ---- a name whose mark is 0
 
-module _ (s : List ℕ) {l : List ℕ} {n : ℕ} (h : Held rule_format l n) (marks : List ℕ) (M : Marked s (contents rule_format l n) marks) (a e r : ℕ) (q : Mark (part s a e) r) (z : get_or marks r 0 ≡ 0) where
+module _ (s : List ℕ) (xs : List Rule) (marks : List ℕ) (M : Marked s xs marks) (a e r : ℕ) (q : Mark (part s a e) r) (z : get_or marks r 0 ≡ 0) where
   abbrev test : ℕ → Bool
-  test j = has_name s a e (nth_rule (contents rule_format l n) j)
+  test j = has_name s a e (nth_rule xs j)
 
-  none_named : (j : ℕ) → j < length (contents rule_format l n) → test j ≡ false
+  none_named : (j : ℕ) → j < length xs → test j ≡ false
   none_named j g = by (test j) refl
     where
       by : (t : Bool) → test j ≡ t → t ≡ false
       by true t =
-          let (named, same) = named_same s a e (nth_rule (contents rule_format l n) j) t in
+          let (named, same) = named_same s a e (nth_rule xs j) t in
           absurd (omega (arith, M.each j g named, z, ap (λ (k : ℕ). get_or marks k 0) (q.is ∙ ap mark_of same)))
       by false t = refl
 
-  pub unmarked_missing : n ≡ find_rule s a e (contents rule_format l n)
+  pub unmarked_missing : length xs ≡ find_rule s a e xs
   unfolding find_rule
   unmarked_missing =
-      let m = length (contents rule_format l n) in
-      sym (contents-length rule_sound h)
-      ∙ first_none test m m (omega arith)
+      let m = length xs in
+      first_none test m m (omega arith)
       ∙ sym (first_over test 0 m m (omega arith) (omega arith) (λ j u v. none_named j v))
 
 pub ruleset finding_marked = (rules, unmarked_missing)
@@ -100,23 +98,17 @@ pub ruleset finding_marked = (rules, unmarked_missing)
 pub marked_none : (s marks : List ℕ) → marks ≡ replicate mark_count 0 → Marked s [] marks
 marked_none s marks q = record { long = ap length q ∙ length-replicate {A = ℕ} mark_count 0; each = λ j h. absurd (omega (arith, h)) }
 
-module _ (s : List ℕ) {l : List ℕ} {m : ℕ} (h : Held rule_format l m) (marks : List ℕ) (k : ℕ) (M : Marked s (take k (contents rule_format l m)) marks) where
-  abbrev xs : List Rule
-  xs = contents rule_format l m
+module _ (s : List ℕ) (xs : List Rule) (marks : List ℕ) (k : ℕ) (M : Marked s (take k xs) marks) where
+  pub marked_all : length xs ≤ k → Marked s xs marks
+  marked_all g = subst (λ (ys : List Rule). Marked s ys marks) (take_all k xs (omega arith)) M
 
-  pub marked_all : m ≤ k → Marked s (contents rule_format l m) marks
-  marked_all g = subst (λ (ys : List Rule). Marked s ys marks) (take_all k xs (omega (arith, contents-length rule_sound h))) M
-
-  module _ (g : k < m) (x : Rule) (is : x ≡ rule_at l k) where
+  module _ (g : k < length xs) (x : Rule) (is : x ≡ nth_rule xs k) where
     -- the mark of a rule's name is not 0 in other marks
     abbrev MarkedIn : List ℕ → Rule → Type 0
     MarkedIn others y = y.named ≡ 1 → 0 < get_or others (mark_of (name_of s y)) 0
 
     among : (n j : ℕ) → j < n → nth_rule (take n xs) j ≡ nth_rule xs j
     among n j u = get_or-take n xs j rule_format.blank u
-
-    here : x ≡ nth_rule xs k
-    here = is ∙ sym (contents-at rule_sound h k g)
 
     -- marks that keep those before and have the mark of rule k
     marked_next : (others : List ℕ) → length others ≡ mark_count → ((i : ℕ) → 0 < get_or marks i 0 → 0 < get_or others i 0) → MarkedIn others x
@@ -126,14 +118,14 @@ module _ (s : List ℕ) {l : List ℕ} {m : ℕ} (h : Held rule_format l m) (mar
       each = λ j u. ⊎_elim
           (λ v.
           let z : k ≡ j = omega (arith, u, v, length-take (k + 1) xs) in
-          subst (MarkedIn others) (here ∙ ap (nth_rule xs) z ∙ sym (among (k + 1) j (omega (arith, z)))) new)
+          subst (MarkedIn others) (is ∙ ap (nth_rule xs) z ∙ sym (among (k + 1) j (omega (arith, z)))) new)
           (λ v.
-          let earlier = M.each j (omega (arith, v, g, length-take k xs, contents-length rule_sound h)) in
+          let earlier = M.each j (omega (arith, v, g, length-take k xs)) in
           subst (MarkedIn others) (among k j v ∙ sym (among (k + 1) j (omega (arith, v)))) (λ t. keeps (mark_of (name_of s (nth_rule (take k xs) j))) (earlier t)))
           (le_or_lt k j);
     }
 
-    pub marked_passed : (x.named ≡ 1 → ⊥) → Marked s (take (k + 1) (contents rule_format l m)) marks
+    pub marked_passed : (x.named ≡ 1 → ⊥) → Marked s (take (k + 1) xs) marks
     marked_passed d = marked_next marks M.long (λ i u. u) (λ t. absurd (d t))
 
     module _ (r : ℕ) (q : Mark (part s x.name_from (x.name_from + x.name_length)) r) where
@@ -147,7 +139,7 @@ module _ (s : List ℕ) {l : List ℕ} {m : ℕ} (h : Held rule_format l m) (mar
           by true t = omega (arith, ap (λ (j : ℕ). get_or (set marks r 1) j 0) (eqb-true i r t), at_mark)
           by false t = omega (arith, u, get_or-set_other marks r i 1 0 (eqb-false i r t))
 
-      pub marked-set : Marked s (take (k + 1) (contents rule_format l m)) (set marks r 1)
+      pub marked-set : Marked s (take (k + 1) xs) (set marks r 1)
       unfolding name_of
       marked-set =
           marked_next (set marks r 1) (length-set marks r 1 ∙ M.long) keeps_marks (λ t. omega (arith, at_mark, ap (λ (j : ℕ). get_or (set marks r 1) j 0) q.is))

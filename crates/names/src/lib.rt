@@ -3,18 +3,21 @@
 
 pub mod marks; // marks of the names of rules
 
-ghost use Rattle.std.specs.Prelude.{◌≡◌, ◌≤◌, ◌<◌, length};
-ghost use Rattle.characters.specs.Walk.{Between};
-ghost use Rattle.area.specs.Contents.{state_format, rule_format, contents, Held};
-ghost use Rattle.area.specs.Records.{nth_rule};
+ghost use Rattle.std.specs.Prelude.{List, ◌≡◌, ◌≤◌, ◌<◌, length};
+ghost use Rattle.characters.specs.Walk.{Below};
+ghost use Rattle.area.specs.declared.State.{State};
+ghost use Rattle.area.specs.Records.{nth_state, nth_rule};
 ghost use Rattle.names.specs.Names.{all_bytes, is_name_byte, is_state_name, is_state, find_state, has_name, find_rule};
 ghost use Rattle.names.specs.Marks.{NamesHeld};
 
 use crate::marks::mark_of;
-use area::{read_rule, read_state};
+use area::list::Records;
+use area::{Rule, State};
 use characters::class::{is_digit, is_letter};
+use characters::walk::find;
 use text::range::same_range;
 
+#[tactic(auto, using(crate::proofs::Forms::name_byte))]
 fn is_name_byte(b: u8) -> bool
     ensures { result ≡ is_name_byte b }
 {
@@ -26,17 +29,11 @@ fn all_name_bytes(src: &[u8], a: usize, e: usize) -> bool
     requires { (a ≤ e) × (e ≤ length src.now) }
     ensures { result ≡ all_bytes is_name_byte src.now a e }
 {
-    let mut k = a;
-    while k < e {
-        if !is_name_byte(src[k]) {
-            return false;
-        }
-        k += 1;
-    }
-    true
+    find(a, e, |k| !is_name_byte(src[k])) == e
 }
 
 // Whether the bytes from a to e have the form of a state's name.
+#[tactic(auto, using(crate::proofs::Forms::forming))]
 pub fn validate_start_state_name(src: &[u8], a: usize, e: usize) -> bool
     requires { e ≤ length src.now }
     ensures { result ≡ is_state_name src.now a e }
@@ -50,42 +47,34 @@ pub fn validate_start_state_name(src: &[u8], a: usize, e: usize) -> bool
     false
 }
 
-// Whether the state j has the name from a to e. The span of state 0 is empty, so its name is no part of the source.
-fn is_state(src: &[u8], a: usize, e: usize, area: &[u8], n: u16, j: usize) -> bool
-    requires held { Held state_format area.now n }
-    requires j_lt_n { j < n }
-    ensures { result ≡ is_state src.now a e (contents state_format area.now n) j }
+// Whether the state j, whose record is x, has the name from a to e. The span of state 0 is empty, so its name is no part of the source.
+#[tactic(auto, using(crate::proofs::Finds::comparing_names))]
+fn is_state(src: &[u8], a: usize, e: usize, j: usize, x: State) -> bool
+    ensures { (xs : List State) → nth_state xs j ≡ x → result ≡ is_state src.now a e xs j }
 {
     if j == 0 {
         return same_range(src, a, e, b"INITIAL", 0, 7);
     }
-    let x = read_state(area, j);
     same_range(src, a, e, src, x.start as usize, x.end as usize)
 }
 
-// The state whose name stands from a to e, or n.
-pub fn get_start_state_by_name(src: &[u8], a: usize, e: usize, area: &[u8], n: u16) -> usize
-    requires { Held state_format area.now n }
-    ensures { Between 0 n (find_state src.now a e (contents state_format area.now n)) result }
+// The state whose name stands from a to e.
+pub fn get_start_state_by_name(
+    src: &[u8],
+    a: usize,
+    e: usize,
+    states: &Records<State>,
+) -> Option<usize>
+    ensures { Below (length states.now) (find_state src.now a e states.now) result }
 {
-    let count = n as usize;
-    let mut j = 0;
-    while j < count {
-        if is_state(src, a, e, area, n, j) {
-            return j;
-        }
-        j += 1;
-    }
-    j
+    states.position(|j, x| is_state(src, a, e, j, x))
 }
 
-// Whether the rule j has the name from a to e. Bytes are compared only if the rule is named and its name is as long.
-fn has_name(src: &[u8], a: usize, e: usize, area: &[u8], n: u16, j: usize) -> bool
-    requires held { Held rule_format area.now n }
-    requires j_lt_n { j < n }
-    ensures { result ≡ has_name src.now a e (nth_rule (contents rule_format area.now n) j) }
+// Whether the rule has the name from a to e. Bytes are compared only if the rule is named and its name is as long.
+#[tactic(auto, using(crate::proofs::Finds::comparing_names))]
+fn has_name(src: &[u8], a: usize, e: usize, x: Rule) -> bool
+    ensures { result ≡ has_name src.now a e x }
 {
-    let x = read_rule(area, j);
     if x.named != 1 {
         return false;
     }
@@ -93,31 +82,51 @@ fn has_name(src: &[u8], a: usize, e: usize, area: &[u8], n: u16, j: usize) -> bo
     same_range(src, a, e, src, from, from + x.name_length as usize)
 }
 
-// The rule whose name stands from a to e, or n, by a look at every rule.
-fn search_rules(src: &[u8], a: usize, e: usize, area: &[u8], n: u16) -> usize
-    requires { Held rule_format area.now n }
-    ensures { Between 0 n (find_rule src.now a e (contents rule_format area.now n)) result }
-{
-    let count = n as usize;
-    let mut j = 0;
-    while j < count {
-        if has_name(src, a, e, area, n, j) {
-            return j;
-        }
-        j += 1;
-    }
-    j
+// The rules of a source so far, and the marks of their names. No two of them have the same name.
+#[derive(Drop)]
+pub struct NamedRules<'a> {
+    source: &'a [u8],
+    rules: Records<'a, Rule>,
+    marks: &'a [u8],
+    ghost names: { NamesHeld source.now rules marks.now },
 }
 
-// The rule whose name stands from a to e, or n. Where the mark of the name is 0 no rule has it, and none is looked at.
-pub fn find_rule(src: &[u8], a: usize, e: usize, area: &[u8], n: u16, marks: &[u8]) -> usize
-    requires held { Held rule_format area.now n }
-    requires names_held { NamesHeld src.now (contents rule_format area.now n) marks.now }
-    ensures { Between 0 n (find_rule src.now a e (contents rule_format area.now n)) result }
-{
-    let at = mark_of(src, a, e);
-    if marks[at] == 0 {
-        return n as usize;
+impl<'a> NamedRules<'a> {
+    pub fn new(source: &'a [u8], rules: Records<'a, Rule>, marks: &'a [u8]) -> NamedRules<'a>
+        requires { NamesHeld source.now rules marks.now }
+        ensures source { result.source.now ≡ source.now }
+        ensures rules { result.rules ≡ rules.entry }
+    {
+        NamedRules {
+            source,
+            rules,
+            marks,
+        }
     }
-    search_rules(src, a, e, area, n)
+
+    pub fn get(&self, k: usize) -> Rule
+        requires { k < length self.now.rules }
+        ensures { result ≡ nth_rule self.now.rules k }
+    {
+        self.rules.get(k)
+    }
+
+    // The rule whose name stands from a to e, by a look at every rule.
+    fn search(&self, a: usize, e: usize) -> Option<usize>
+        ensures { Below (length self.now.rules) (find_rule self.now.source.now a e self.now.rules) result }
+    {
+        let source = self.source;
+        self.rules.position(|_, x| has_name(source, a, e, x))
+    }
+
+    // The rule whose name stands from a to e. Where the mark of the name is 0 no rule has it, and none is looked at.
+    pub fn find(&self, a: usize, e: usize) -> Option<usize>
+        ensures { Below (length self.now.rules) (find_rule self.now.source.now a e self.now.rules) result }
+    {
+        let at = mark_of(self.source, a, e);
+        if self.marks[at] == 0 {
+            return None;
+        }
+        self.search(a, e)
+    }
 }

@@ -2,16 +2,17 @@
 ghost use Rattle.std.specs.Prelude.{◌≡◌, ◌+◌, ◌*◌, ◌-◌, ◌%◌, ◌≤◌, ◌<◌, length, take};
 ghost use Rattle.characters.specs.Whitespace.{byte};
 ghost use Rattle.text.specs.Range.{part};
-ghost use Rattle.area.specs.Contents.{rule_format, contents, Held};
 ghost use Rattle.names.specs.Marks.{mark_count, Mark, Marked};
 
-use area::read_rule;
+use area::Rule;
+use area::list::Records;
 use text::range::part_len;
 
 // How many marks there are.
 pub const MARKS: usize = 4096;
 
 // Of the n bytes from a on, the one that is the k-th from their end; of fewer the first.
+#[tactic(auto, using(crate::proofs::Marking::marking))]
 fn from_end(src: &[u8], a: usize, n: usize, k: usize) -> u8
     requires { ((0 < n) × (0 < k)) × (a + n ≤ length src.now) }
     ensures { result ≡ byte src.now (a + (n - k)) }
@@ -31,6 +32,7 @@ fn place_by(b: u8, c: u8, d: u8, f: u8, n: usize) -> usize
 }
 
 // The place of the mark of any range, cut where the text ends. A name of less than four bytes has its first byte for those that it lacks.
+#[tactic(auto, using(crate::proofs::Marking::marking))]
 fn mark_cut(src: &[u8], a: usize, e: usize) -> usize
     ensures { Mark (part src.now a e) result }
 {
@@ -48,6 +50,7 @@ fn mark_cut(src: &[u8], a: usize, e: usize) -> usize
 }
 
 // The place of the mark of the bytes from a to e.
+#[tactic(auto, using(crate::proofs::Marking::marking))]
 pub fn mark_of(src: &[u8], a: usize, e: usize) -> usize
     ensures { Mark (part src.now a e) result }
 {
@@ -61,16 +64,14 @@ pub fn mark_of(src: &[u8], a: usize, e: usize) -> usize
     mark_cut(src, a, e)
 }
 
-// The marks of the names of the rules from n to before m.
-pub fn mark_rules(src: &[u8], area: &[u8], n: u16, m: u16, marks: &mut [u8])
-    requires held { Held rule_format area.now m }
-    requires marked { Marked src.now (take n (contents rule_format area.now m)) marks.old }
-    ensures { Marked src.now (contents rule_format area.now m) marks.new }
+// The marks of the names of the rules from k on.
+#[tactic(auto, using(crate::proofs::Marking::marking_rules))]
+pub fn mark_rules(src: &[u8], rules: &Records<Rule>, k: usize, marks: &mut [u8])
+    requires { Marked src.now (take k rules.now) marks.old }
+    ensures { Marked src.now rules.now marks.new }
 {
-    let mut k = n;
-    while k < m {
-        let x = read_rule(area, k as usize);
-        k += 1;
+    for j in k..rules.count() {
+        let x = rules.get(j);
         if x.named != 1 {
             continue;
         }

@@ -1,6 +1,6 @@
 -- What the parse call leaves: every area is its records and zeros behind them, and so it is what the definition lays down, field by field.
-use mathlib.Core.Path.{◌≡◌, sym, ap, ◌∙◌}
-use mathlib.Core.Bool.{Bool, true, false}
+use mathlib.Core.Path.{◌≡◌, refl, sym, ap, ◌∙◌}
+use mathlib.Core.Bool.{Bool, true, false, true≢false}
 use mathlib.Core.List.{List, [], ◌∷◌}
 use Prim.Native.Nat.{ℕ, ◌≤◌, ◌<◌}
 use borrow.Author.Tests.{lt-ltb, le-ltb}
@@ -11,12 +11,11 @@ use Rattle.area.specs.Contents.{Format, list_of, contents, Held, laid}
 use Rattle.area.proofs.Contents.{state_sound, rule_sound, entry_sound, text_sound, expected_sound, fault_sound, contents-length}
 use Rattle.section.specs.Request.{Request}
 use Rattle.parse.specs.declared.FileCounts.{FileCounts}
-use Rattle.parse.specs.declared.Parsed.{Parsed}
-use Rattle.parse.specs.declared.Parsed.TheVariants.{Clean, Faulty, Short}
-use Rattle.parse.specs.declared.Answer.{Answer}
-use Rattle.parse.specs.declared.Answer.TheVariants.{Accepted, LongFile, UnknownFlag, InvalidUtf8, AreaFull, FaultyFile}
-use Rattle.parse.specs.Parse.{Caps, Outcome, caps, file, outcome, Left, left, leaves, parse_call}
-use Rattle.parse.specs.Answers.{outcome_of, Parses, Zeroed, Cleared}
+use Rattle.std.specs.Prelude.{Result, Ok, Err}
+use Rattle.parse.specs.declared.ParseError.{ParseError}
+use Rattle.parse.specs.declared.ParseError.TheVariants.{LongFile, UnknownFlag, InvalidUtf8, AreaFull, FaultyFile}
+use Rattle.parse.specs.Parse.{Caps, Outcome, caps, file, outcome, ParseAnswer, parse_accepted, Left, left, leaves, parse_call}
+use Rattle.parse.specs.Answers.{outcome_of, refused, has_faults, Parses, Zeroed, Cleared}
 
 -- an area of c bytes that holds n records is those records and zeros
 laid_is : {A : Type 0} {F : Format A} {v : List ℕ} {n c : ℕ} → Held F v n → length v ≡ c → v ≡ laid F c (contents F v n)
@@ -35,42 +34,57 @@ module _ (c1 c2 c3 c4 c5 c6 : ℕ) (o : Outcome) (v1 v2 v3 v4 v5 v6 : List ℕ) 
   abbrev sizes : Caps
   sizes = caps c1 c2 c3 c4 c5 c6
 
-  module _ (p : Parsed) (d : Parses o v1 v2 v3 v4 v5 v6 p) where
-    pub text_clean : (q : FileCounts) → p ≡ Clean q
-        → left Accepted (q.states ∷ q.rules ∷ q.entries ∷ q.text ∷ q.expected ∷ 0 ∷ []) v1 v2 v3 v4 v5 v6 ≡ leaves sizes o
+  module _ (p : Result FileCounts ParseError) (d : Parses o v1 v2 v3 v4 v5 v6 p) where
+    pub text_clean : (q : FileCounts) → p ≡ Ok q
+        → left parse_accepted (q.states ∷ q.rules ∷ q.entries ∷ q.text ∷ q.expected ∷ 0 ∷ []) v1 v2 v3 v4 v5 v6 ≡ leaves sizes o
     unfolding leaves contents list_of
     text_clean q z =
         let h = d.clean q z in
-        (λ i. left Accepted
+        (λ i. left parse_accepted
         (sym (contents-length state_sound h.states) i ∷ sym (contents-length rule_sound h.rules) i ∷ sym (contents-length entry_sound h.entries) i
         ∷ sym (contents-length text_sound h.text) i ∷ sym (contents-length expected_sound h.expected) i ∷ 0 ∷ [])
         (laid_is h.states e.long1 i) (laid_is h.rules e.long2 i) (laid_is h.entries e.long3 i) (laid_is h.text e.long4 i)
         (laid_is h.expected e.long5 i) (laid_is h.faults e.long6 i))
         ∙ ap (leaves sizes) (sym (d.says ∙ ap (outcome_of v1 v2 v3 v4 v5 v6) z))
 
-    pub text_faulty : (n : ℕ) → p ≡ Faulty n → {y1 y2 y3 y4 y5 : List ℕ} → y1 ≡ zeros (length v1) → y2 ≡ zeros (length v2) → y3 ≡ zeros (length v3)
-        → y4 ≡ zeros (length v4) → y5 ≡ zeros (length v5)
-        → {n6 : List ℕ} → n6 ≡ zeros 6 → left (FaultyFile n) n6 y1 y2 y3 y4 y5 v6 ≡ leaves sizes o
+    pub text_faulty : (x : ParseError) → p ≡ Err x → has_faults x ≡ true → {y1 y2 y3 y4 y5 : List ℕ} → y1 ≡ zeros (length v1) → y2 ≡ zeros (length v2)
+        → y3 ≡ zeros (length v3) → y4 ≡ zeros (length v4) → y5 ≡ zeros (length v5) → {n6 : List ℕ} → n6 ≡ zeros 6
+        → left (Err x) n6 y1 y2 y3 y4 y5 v6 ≡ leaves sizes o
     unfolding leaves
-    text_faulty n z z1 z2 z3 z4 z5 zn =
+    text_faulty (FaultyFile n) z kept z1 z2 z3 z4 z5 zn =
         let h = d.faults n z in
-        (λ i. left (FaultyFile (sym (contents-length fault_sound h) i)) (zn i)
+        (λ i. left (Err (FaultyFile (sym (contents-length fault_sound h) i))) (zn i)
         ((z1 ∙ ap zeros e.long1) i) ((z2 ∙ ap zeros e.long2) i) ((z3 ∙ ap zeros e.long3) i)
         ((z4 ∙ ap zeros e.long4) i) ((z5 ∙ ap zeros e.long5) i) (laid_is h e.long6 i))
         ∙ ap (leaves sizes) (sym (d.says ∙ ap (outcome_of v1 v2 v3 v4 v5 v6) z))
+    text_faulty LongFile z kept z1 z2 z3 z4 z5 zn = absurd (true≢false (sym kept))
+    text_faulty UnknownFlag z kept z1 z2 z3 z4 z5 zn = absurd (true≢false (sym kept))
+    text_faulty InvalidUtf8 z kept z1 z2 z3 z4 z5 zn = absurd (true≢false (sym kept))
+    text_faulty (AreaFull n) z kept z1 z2 z3 z4 z5 zn = absurd (true≢false (sym kept))
 
 -- refused by 1 to 4: the areas are zero
-zeros_left : {c1 c2 c3 c4 c5 c6 : ℕ} {v1 v2 v3 v4 v5 v6 : List ℕ} (r : Answer) {n6 : List ℕ} → Cleared c1 c2 c3 c4 c5 c6 v1 v2 v3 v4 v5 v6 → n6 ≡ zeros 6
+zeros_left : {c1 c2 c3 c4 c5 c6 : ℕ} {v1 v2 v3 v4 v5 v6 : List ℕ} (r : ParseAnswer) {n6 : List ℕ} → Cleared c1 c2 c3 c4 c5 c6 v1 v2 v3 v4 v5 v6 → n6 ≡ zeros 6
     → left r n6 v1 v2 v3 v4 v5 v6 ≡ left r (zeros 6) (zeros c1) (zeros c2) (zeros c3) (zeros c4) (zeros c5) (zeros c6)
 zeros_left r z zn = λ i. left r (zn i) (z.is1 i) (z.is2 i) (z.is3 i) (z.is4 i) (z.is5 i) (z.is6 i)
 
-pub text_short : {c1 c2 c3 c4 c5 c6 : ℕ} {o : Outcome} {w1 w2 w3 w4 w5 w6 v1 v2 v3 v4 v5 v6 : List ℕ} → Long c1 c2 c3 c4 c5 c6 w1 w2 w3 w4 w5 w6
-    → (p : Parsed) → Parses o w1 w2 w3 w4 w5 w6 p
-    → (n : ℕ) → p ≡ Short n → Cleared (length w1) (length w2) (length w3) (length w4) (length w5) (length w6) v1 v2 v3 v4 v5 v6 → {n6 : List ℕ} → n6 ≡ zeros 6
-    → left (AreaFull n) n6 v1 v2 v3 v4 v5 v6 ≡ leaves (caps c1 c2 c3 c4 c5 c6) o
+-- a refusal whose faults are not kept leaves nothing
+refused_leaves : (k : Caps) (l6 : List ℕ) (x : ParseError) → has_faults x ≡ false
+    → left (Err x) (zeros 6) (zeros k.c1) (zeros k.c2) (zeros k.c3) (zeros k.c4) (zeros k.c5) (zeros k.c6) ≡ leaves k (refused l6 x)
 unfolding leaves
-text_short {c1} {c2} {c3} {c4} {c5} {c6} {o} {w1} {w2} {w3} {w4} {w5} {w6} {v1} {v2} {v3} {v4} {v5} {v6} e p d n q z zn =
-    zeros_left (AreaFull n) cleared zn ∙ ap (leaves (caps c1 c2 c3 c4 c5 c6)) (sym (d.says ∙ ap (outcome_of w1 w2 w3 w4 w5 w6) q))
+refused_leaves k l6 LongFile other = refl
+refused_leaves k l6 UnknownFlag other = refl
+refused_leaves k l6 InvalidUtf8 other = refl
+refused_leaves k l6 (AreaFull n) other = refl
+refused_leaves k l6 (FaultyFile n) other = absurd (true≢false other)
+
+pub text_refused : {c1 c2 c3 c4 c5 c6 : ℕ} {o : Outcome} {w1 w2 w3 w4 w5 w6 v1 v2 v3 v4 v5 v6 : List ℕ} → Long c1 c2 c3 c4 c5 c6 w1 w2 w3 w4 w5 w6
+    → (p : Result FileCounts ParseError) → Parses o w1 w2 w3 w4 w5 w6 p
+    → (x : ParseError) → p ≡ Err x → has_faults x ≡ false
+    → Cleared (length w1) (length w2) (length w3) (length w4) (length w5) (length w6) v1 v2 v3 v4 v5 v6 → {n6 : List ℕ} → n6 ≡ zeros 6
+    → left (Err x) n6 v1 v2 v3 v4 v5 v6 ≡ leaves (caps c1 c2 c3 c4 c5 c6) o
+text_refused {c1} {c2} {c3} {c4} {c5} {c6} {o} {w1} {w2} {w3} {w4} {w5} {w6} {v1} {v2} {v3} {v4} {v5} {v6} e p d x q other z zn =
+    let k = caps c1 c2 c3 c4 c5 c6 in
+    zeros_left (Err x) cleared zn ∙ refused_leaves k w6 x other ∙ ap (leaves k) (sym (d.says ∙ ap (outcome_of w1 w2 w3 w4 w5 w6) q))
   where
     cleared : Cleared c1 c2 c3 c4 c5 c6 v1 v2 v3 v4 v5 v6
     cleared = record {
@@ -96,25 +110,25 @@ zeroed_by z e = record {
 -- ---- the tests
 
 module _ (asked : Request) (c1 c2 c3 c4 c5 c6 : ℕ) where
-  abbrev Leaves : Answer → Type 0
+  abbrev Leaves : ParseAnswer → Type 0
   Leaves r = (v1 v2 v3 v4 v5 v6 : List ℕ) → Cleared c1 c2 c3 c4 c5 c6 v1 v2 v3 v4 v5 v6 → (n6 : List ℕ) → n6 ≡ zeros 6
       → left r n6 v1 v2 v3 v4 v5 v6 ≡ parse_call asked (caps c1 c2 c3 c4 c5 c6)
 
-  pub call_long_file : 65535 < length asked.source → Leaves LongFile
+  pub call_long_file : 65535 < length asked.source → Leaves (Err LongFile)
   unfolding parse_call leaves outcome
-  call_long_file h v1 v2 v3 v4 v5 v6 z n6 zn = zeros_left LongFile z zn ∙ rw (lt-ltb 65535 (length asked.source) h)
+  call_long_file h v1 v2 v3 v4 v5 v6 z n6 zn = zeros_left (Err LongFile) z zn ∙ rw (lt-ltb 65535 (length asked.source) h)
 
   module _ (within : length asked.source ≤ 65535) where
-    pub call_unknown_flag : 3 < asked.options.flags → Leaves UnknownFlag
+    pub call_unknown_flag : 3 < asked.options.flags → Leaves (Err UnknownFlag)
     unfolding parse_call leaves outcome
     call_unknown_flag h v1 v2 v3 v4 v5 v6 z n6 zn =
-        zeros_left UnknownFlag z zn ∙ rw (le-ltb 65535 (length asked.source) within, lt-ltb 3 asked.options.flags h)
+        zeros_left (Err UnknownFlag) z zn ∙ rw (le-ltb 65535 (length asked.source) within, lt-ltb 3 asked.options.flags h)
 
     module _ (known : asked.options.flags ≤ 3) (t : Bool) (is : t ≡ utf8 asked.source) where
-      pub call_invalid_utf8 : t ≡ false → Leaves InvalidUtf8
+      pub call_invalid_utf8 : t ≡ false → Leaves (Err InvalidUtf8)
       unfolding parse_call leaves outcome
       call_invalid_utf8 h v1 v2 v3 v4 v5 v6 z n6 zn =
-          zeros_left InvalidUtf8 z zn ∙ rw (le-ltb 65535 (length asked.source) within, le-ltb 3 asked.options.flags known, ← is, h)
+          zeros_left (Err InvalidUtf8) z zn ∙ rw (le-ltb 65535 (length asked.source) within, le-ltb 3 asked.options.flags known, ← is, h)
 
       -- the text is parsed, with areas of as many bytes
       pub call_text : t ≡ true → {m1 m2 m3 m4 m5 m6 : ℕ} → m1 ≡ c1 → m2 ≡ c2 → m3 ≡ c3 → m4 ≡ c4 → m5 ≡ c5 → m6 ≡ c6 → {x : Left}

@@ -3,97 +3,112 @@
 use mathlib.Core.Path.{◌≡◌, refl, sym, ap, subst, ◌∙◌}
 use mathlib.Core.Bool.{Bool, true, false, cond, not}
 use mathlib.Core.List.{List, [], ◌∷◌}
-use mathlib.Core.Option.{Option, none, some}
-use Prim.Native.Nat.{ℕ, ◌+◌, ◌≤◌}
+use mathlib.Core.Option.{none, some}
+use mathlib.Core.Option as Math
+use Prim.Native.Nat.{ℕ, ◌+◌, ◌*◌, ◌≤◌}
 use native.Mathlib.Omega.{arith}
 use borrow.Author.Rules.{rules}
 use borrow.Author.Tests.{eq-eqb, ne_eqb, eqb-true}
 use lib.Dec.{eqb}
 use lib.ListN.{length}
+use Rattle.std.specs.Prelude.{Option, Some, None, Result, Ok, Err, is_some}
 use Rattle.text.specs.Scan.{skip_blanks}
 use Rattle.characters.specs.Class.{is_blank}
 use Rattle.characters.specs.Whitespace.{byte}
 use Rattle.text.specs.Range.{lookahead_is}
-use Rattle.std.specs.Prelude.{Option as CodeOption, Some, None, is_some}
 use Rattle.characters.proofs.Walks.{first_to}
 use Rattle.area.specs.declared.State.{State}
-use Rattle.area.specs.declared.Fault.{Fault}
-use Rattle.area.specs.declared.Appended.{Appended}
+use Rattle.area.specs.declared.Fault.{Fault as FaultSpan}
+use Rattle.area.specs.declared.AreaFull.{AreaFull}
+use Rattle.area.specs.declared.AreaName.{AreaName}
+use Rattle.area.specs.declared.AreaName.TheVariants as N
+use Rattle.area.specs.Names.{area_number}
 use Rattle.area.specs.Bytes.{zeros}
 use Rattle.area.specs.Areas.{Pushed}
 use Rattle.area.specs.Records.{state_width, most_states, state_bytes}
 use Rattle.area.specs.Contents.{list_of, contents, state_format, rule_format, entry_format, text_format, expected_format, fault_format, append, left_by, Grows, Held}
 use Rattle.area.proofs.Contents.{state_sound, rule_sound, entry_sound, text_sound, expected_sound, fault_sound, held_empty, held_push, contents-length}
-use Rattle.fault.specs.Step.{Out, go, bad, full, next, onto, written, loop, Does}
+use Rattle.fault.specs.declared.Stop.{Stop}
+use Rattle.fault.specs.declared.Stop.TheVariants.{Fault, Full}
+use Rattle.fault.specs.declared.kinds.LexErrorKind.{LexErrorKind}
+use Rattle.fault.specs.Kinds.{kind_number}
+use Rattle.fault.specs.Step.{Out, go, bad, full, next, onto, written, loop, outcome, Does}
 use Rattle.fault.specs.Faults.{PrematureEnd, add_fault, HeldFaults, GrowsFaults}
-use Rattle.fault.proofs.Steps.{does_full, bad_goes, full_goes}
+use Rattle.fault.proofs.Steps.{IsFault, does_full, bad_goes, full_goes, onto_err, was_ok, holds_ok, holds_err}
 use Rattle.names.specs.Names.{DistinctNames}
 use Rattle.names.proofs.Distinct.{distinct_none}
 use Rattle.section.specs.Request.{Options, Request}
 use Rattle.section.specs.Section.{percents, in_section, to_declaration}
 use Rattle.section.proofs.Lines.{ahead_within}
 use Rattle.declarations.specs.declared.DeclarationCounts.{DeclarationCounts}
-use Rattle.declarations.specs.declared.DeclarationProgress.{DeclarationProgress}
-use Rattle.declarations.specs.declared.DeclarationProgress.TheVariants as Declaring
 use Rattle.declarations.specs.Declarations.{Declared, declarations, next_declaration, end_declarations, state}
 use Rattle.declarations.specs.Declarations as D
-use Rattle.declarations.specs.Answers.{HeldDeclared, declared_in, declaration_progress, caps_of}
+use Rattle.declarations.specs.Answers.{HeldDeclared, declared_in, caps_of}
 use Rattle.rules_section.specs.RulesSection.{Ruled, rules_section}
 use Rattle.rules_section.specs.declared.RuleCounts.{RuleCounts}
-use Rattle.rules_section.specs.declared.RuleProgress.{RuleProgress}
-use Rattle.rules_section.specs.declared.RuleProgress.TheVariants as Ruling
+use Rattle.rules_section.specs.Answers.{ruled_in, HeldRuled, rule_caps_of}
 use Rattle.parse.specs.declared.FileCounts.{FileCounts}
-use Rattle.parse.specs.declared.Parsed.{Parsed}
-use Rattle.parse.specs.declared.Parsed.TheVariants.{Clean, Faulty, Short}
+use Rattle.parse.specs.declared.ParseError.{ParseError}
+use Rattle.parse.specs.declared.ParseError.TheVariants.{LongFile, UnknownFlag, InvalidUtf8, AreaFull as NoRoom, FaultyFile}
 use Rattle.parse.specs.Parse.{Caps, Outcome, accepted, faulty, area_full, caps, closed, ending, judge, contents_of, rules_from, undeclared}
 use Rattle.parse.specs.Parse.{with_states, opening, file}
-use Rattle.rules_section.specs.Answers.{rule_progress, ruled_in, HeldRuled, rule_counts, rule_caps_of}
-use Rattle.parse.specs.Answers.{closed_by, judged_by, contents_in, HeldFile, Parses, Zeroed}
+use Rattle.parse.specs.Answers.{stopped, Refuses, nothing_ruled, judged_by, contents_in, HeldFile, Parses, Zeroed}
 
 -- ---- state 0 and the declarations
 
-pub zero_faults : (l : List ℕ) → l ≡ zeros (length l) → HeldFaults l 0
-unfolding contents list_of
-zero_faults l z = record { held = held_empty fault_sound l z; numbered = record { low = λ j h. absurd (omega (arith, h)) } }
-
-abbrev started : ℕ → DeclarationCounts
-started n = record { states = n; expected = 0; faults = 0 }
-
-module _ (s : List ℕ) (options : Options) (l1 l5 l6 : List ℕ) (z1 : l1 ≡ zeros (length l1)) (z5 : l5 ≡ zeros (length l5)) (z6 : l6 ≡ zeros (length l6))
-    (p : Appended) (e1 : List ℕ) (pushed : Pushed state_width most_states 1 (state_bytes (state 0 0 0)) l1 0 p e1) where
-  grown : Grows state_format (append state_format (length l1) (state 0 0 0 ∷ [])) l1 0 p e1
-  grown = held_push state_sound (held_empty state_sound l1 z1) (state 0 0 0) pushed
+module _ (s : List ℕ) (options : Options) (l1 l5 l6 : List ℕ) (q : DeclarationCounts) (h : HeldDeclared l1 l5 l6 q) (p : Result ℕ AreaFull) {e1 : List ℕ}
+    (pushed : Pushed N.States state_width most_states 1 (state_bytes (state 0 0 0)) l1 q.names.states p e1) where
+  grown : Grows state_format (append state_format (length l1) (state 0 0 0 ∷ [])) l1 q.names.states p e1
+  grown = held_push state_sound h.names.states (state 0 0 0) pushed
 
   abbrev Opened : List ℕ → List ℕ → List ℕ → Out DeclarationCounts → Type 0
-  Opened v1 v5 v6 o = Does (HeldDeclared v1 v5 v6) (opening s options (caps_of (length l1) (length l5) (length l6))) undeclared (declared_in v1 v5 v6) o
+  Opened v1 v5 v6 o =
+      Does (HeldDeclared v1 v5 v6) (opening s options (caps_of (length l1) (length l5) (length l6))) (declared_in l1 l5 l6 q) (declared_in v1 v5 v6) o
 
-  abbrev on : Option (List State) → Out Declared
-  on a = next (onto (with_states undeclared) (written 1 0 a)) (declarations s options (caps_of (length l1) (length l5) (length l6)))
+  abbrev on : Math.Option (List State) → Out Declared
+  on a = next (onto (with_states (declared_in l1 l5 l6 q)) (written 1 0 a)) (declarations s options (caps_of (length l1) (length l5) (length l6)))
 
-  is_opening : (a : Appended) → p ≡ a → opening s options (caps_of (length l1) (length l5) (length l6)) undeclared ≡ on (left_by state_format e1 a)
-  unfolding opening contents list_of
+  is_opening : (a : Result ℕ AreaFull) → p ≡ a
+      → opening s options (caps_of (length l1) (length l5) (length l6)) (declared_in l1 l5 l6 q) ≡ on (left_by state_format e1 a)
+  unfolding opening
   is_opening a z = ap on (grown.says ∙ ap (left_by state_format e1) z)
 
-  pub opening_full : p ≡ Appended.Full → Opened e1 l5 l6 (full 1)
-  opening_full z = does_full (is_opening Appended.Full z)
+  pub opening_full : {no_room : AreaFull} (m : DeclarationCounts) → p ≡ Err no_room → Opened e1 l5 l6 (outcome (Err (Full no_room.0)) m)
+  opening_full {no_room} m z = rw (grown.names no_room z) (does_full (is_opening (Err no_room) z))
 
-  module _ (n : ℕ) (z : p ≡ Appended.Next n) where
-    pub opening_held : HeldDeclared e1 l5 l6 (started n)
-    opening_held = record { states = grown.held n z; expected = held_empty expected_sound l5 z5; faults = zero_faults l6 z6 }
+  module _ {n : ℕ} (z : p ≡ Ok n) where
+    abbrev started : DeclarationCounts
+    started = record { names = record { states = n; faults = q.names.faults }; expected = q.expected }
+
+    pub opening_held : HeldDeclared e1 l5 l6 started
+    opening_held = record { names = record { states = grown.held n z; faults = h.names.faults }; expected = h.expected }
 
     pub opening_on : {v1 v5 v6 : List ℕ} {o : Out DeclarationCounts}
-        → Does (HeldDeclared v1 v5 v6) (declarations s options (caps_of (length e1) (length l5) (length l6)) 0) (declared_in e1 l5 l6 (started n))
+        → Does (HeldDeclared v1 v5 v6) (declarations s options (caps_of (length e1) (length l5) (length l6)) 0) (declared_in e1 l5 l6 started)
         (declared_in v1 v5 v6) o → Opened v1 v5 v6 o
-    unfolding contents list_of
     opening_on d = record {
       says =
-          is_opening (Appended.Next n) z
-          ∙ ap (λ (m : ℕ). declarations s options (caps_of m (length l5) (length l6)) 0 (declared_in e1 l5 l6 (started n))) (sym grown.long) ∙ d.says;
+          is_opening (Ok n) z
+          ∙ ap (λ (m : ℕ). declarations s options (caps_of m (length l5) (length l6)) 0 (declared_in e1 l5 l6 started)) (sym grown.long) ∙ d.says;
       goes = d.goes;
       ends = d.ends;
     }
 
-pub ruleset opening_up = (rules, opening_full, opening_held, opening_on)
+pub ruleset opening_up = (rules, opening_held)
+
+-- nothing is declared yet
+abbrev pub nothing_declared : DeclarationCounts
+nothing_declared = record { names = record { states = 0; faults = 0 }; expected = 0 }
+
+zero_faults : (l : List ℕ) → l ≡ zeros (length l) → HeldFaults l 0
+unfolding contents list_of
+zero_faults l z = record { held = held_empty fault_sound l z; numbered = record { low = λ j h. absurd (omega (arith, h)) } }
+
+pub nothing_held : {l1 l2 l3 l4 l5 l6 : List ℕ} → Zeroed l1 l2 l3 l4 l5 l6 → HeldDeclared l1 l5 l6 nothing_declared
+nothing_held {l1} {l5 = l5} {l6 = l6} z = record {
+  names = record { states = held_empty state_sound l1 z.is1; faults = zero_faults l6 z.is6 };
+  expected = held_empty expected_sound l5 z.is5;
+}
 
 -- no rules yet, so no two with the same name
 pub no_names : (s l : List ℕ) → DistinctNames s (contents rule_format l 0)
@@ -107,7 +122,7 @@ module _ (s : List ℕ) (j : ℕ) (x : Declared) where
   unfolding end_declarations
   end_inside i d e = by (lookahead_is s percents i) refl e
     where
-      by : (f : CodeOption ℕ) → lookahead_is s percents i ≡ f → cond (is_some f) (go (skip_blanks s (i + 2)) d) (bad PrematureEnd i d) ≡ go j x → j ≤ length s
+      by : (f : Option ℕ) → lookahead_is s percents i ≡ f → cond (is_some f) (go (skip_blanks s (i + 2)) d) (bad PrematureEnd i d) ≡ go j x → j ≤ length s
       by (Some m) q z =
           let h : i + 2 ≤ length s = omega (arith, ahead_within s percents i m q) in
           let same : skip_blanks s (i + 2) ≡ j = cc in
@@ -127,165 +142,212 @@ module _ (s : List ℕ) (j : ℕ) (x : Declared) where
   unfolding opening
   opening_inside options k d e = by (append state_format k.c1 (state 0 0 0 ∷ []) d.states) e
     where
-      by : (a : Option (List State)) → next (onto (with_states d) (written 1 0 a)) (declarations s options k) ≡ go j x → j ≤ length s
+      by : (a : Math.Option (List State)) → next (onto (with_states d) (written 1 0 a)) (declarations s options k) ≡ go j x → j ≤ length s
       by none z = absurd (full_goes z)
       by (some xs) z = declarations_inside options k 0 (with_states d xs) z
 
 -- ---- answers
 
 abbrev counted : DeclarationCounts → RuleCounts → FileCounts
-counted d q = record { states = d.states; rules = q.rules; entries = q.entries; text = q.text; expected = d.expected }
+counted d q = record { states = d.names.states; rules = q.sheet.rules; entries = q.sheet.entries; text = q.sheet.text; expected = d.expected }
 
-pub judged_clean : (d : DeclarationCounts) (q : RuleCounts) → q.faults ≡ 0
-    → Clean (counted d q) ≡ judged_by d q
+pub judged_clean : (d : DeclarationCounts) (q : RuleCounts) → q.faults ≡ 0 → Ok (counted d q) ≡ judged_by d q
 judged_clean d q z = rw (eq-eqb q.faults 0 z)
 
-pub judged_faulty : (d : DeclarationCounts) (q : RuleCounts) → (q.faults ≡ 0 → ⊥) → Faulty q.faults ≡ judged_by d q
+pub judged_faulty : (d : DeclarationCounts) (q : RuleCounts) → (q.faults ≡ 0 → ⊥) → Err (FaultyFile q.faults) ≡ judged_by d q
 judged_faulty d q z = rw (ne_eqb q.faults 0 z)
 
 pub ruleset judging = (rules, judged_clean, judged_faulty)
 
--- ---- the file
+-- ---- what ends a parse
 
-tag : Parsed → ℕ
-tag (Clean q) = 0
-tag (Faulty n) = 1
-tag (Short n) = 2
+tag : ParseError → ℕ
+tag LongFile = 0
+tag UnknownFlag = 1
+tag InvalidUtf8 = 2
+tag (NoRoom n) = 3
+tag (FaultyFile n) = 4
+
+refuses_full : {o : Outcome} {l6 : List ℕ} {n : ℕ} → o ≡ area_full n → Refuses o l6 (NoRoom n)
+unfolding tag
+refuses_full e = record { says = e; faults = λ m z. absurd (omega (arith, ap tag z)) }
+
+refuses_faulty : {o : Outcome} {l6 : List ℕ} {n : ℕ} → o ≡ faulty (contents fault_format l6 n) → Held fault_format l6 n → Refuses o l6 (FaultyFile n)
+refuses_faulty {l6 = l6} {n} e h = record { says = e; faults = λ m z. subst (Held fault_format l6) (spans z) h }
+  where
+    spans : {m : ℕ} → FaultyFile n ≡ FaultyFile m → n ≡ m
+    spans z = cc
+
+module _ (cap : ℕ) (fs : List FaultSpan) (l6 : List ℕ) (stop : Stop) where
+  pub close_full : (name : AreaName) → stop ≡ Full name → (n : ℕ) → n ≡ area_number name → Refuses (stopped cap fs stop) l6 (NoRoom n)
+  close_full name z n e = refuses_full (ap (stopped cap fs) z ∙ ap area_full (sym e))
+
+module _ (w6 : List ℕ) (faults : ℕ) (stop : Stop) (kind : LexErrorKind) (at : ℕ) (z : stop ≡ Fault kind at) (p : Result ℕ AreaFull) {v6 : List ℕ}
+    (g : GrowsFaults (add_fault (length w6) (kind_number kind) at at) w6 faults p v6) where
+  abbrev ends : Outcome
+  ends = stopped (length w6) (contents fault_format w6 faults) stop
+
+  is : (a : Result ℕ AreaFull) → p ≡ a → ends ≡ closed (left_by fault_format v6 a)
+  is a y = ap (stopped (length w6) (contents fault_format w6 faults)) z ∙ ap closed (g.says ∙ ap (left_by fault_format v6) y)
+
+  pub close_fault : (n : ℕ) → p ≡ Ok n → Refuses ends v6 (FaultyFile n)
+  unfolding closed
+  close_fault n y = refuses_faulty (is (Ok n) y) (g.held n y).held
+
+  pub close_no_room : (no_room : AreaFull) → p ≡ Err no_room → (n : ℕ) → n ≡ area_number no_room.0 → Refuses ends v6 (NoRoom n)
+  unfolding closed
+  close_no_room no_room y n e =
+      refuses_full (is (Err no_room) y ∙ ap area_full (sym (e ∙ ap (λ (x : AreaFull). area_number x.0) (g.names no_room y))))
+
+pub ruleset closing = (rules, close_full, close_fault, close_no_room)
 
 module _ {o : Outcome} {l1 l2 l3 l4 l5 l6 : List ℕ} where
-  parses_short : {n : ℕ} → o ≡ area_full n → Parses o l1 l2 l3 l4 l5 l6 (Short n)
-  unfolding tag
-  parses_short e = record { says = e; clean = λ q z. absurd (omega (arith, ap tag z)); faults = λ n z. absurd (omega (arith, ap tag z)) }
-
-  parses_faulty : {n : ℕ} → o ≡ faulty (contents fault_format l6 n) → Held fault_format l6 n → Parses o l1 l2 l3 l4 l5 l6 (Faulty n)
-  unfolding tag
-  parses_faulty {n} e h = record { says = e; clean = λ q z. absurd (omega (arith, ap tag z)); faults = λ m z. subst (Held fault_format l6) (spans z) h }
+  parses_refused : {x : ParseError} → Refuses o l6 x → Parses o l1 l2 l3 l4 l5 l6 (Err x)
+  parses_refused {x} h = record { says = h.says; clean = λ q z. absurd (never z); faults = λ n z. h.faults n (same z) }
     where
-      spans : {m : ℕ} → Faulty n ≡ Faulty m → n ≡ m
-      spans z = cc
+      same : {y : ParseError} → ◌≡◌ {A = Result FileCounts ParseError} (Err x) (Err y) → x ≡ y
+      same z = cc
 
-  parses_clean : {q : FileCounts} → o ≡ accepted (contents_in l1 l2 l3 l4 l5 q) → HeldFile l1 l2 l3 l4 l5 l6 q → Parses o l1 l2 l3 l4 l5 l6 (Clean q)
-  unfolding tag
-  parses_clean {q} e h = record { says = e; clean = λ m z. subst (HeldFile l1 l2 l3 l4 l5 l6) (counts z) h; faults = λ n z. absurd (omega (arith, ap tag z)) }
+      never : {q : FileCounts} → ◌≡◌ {A = Result FileCounts ParseError} (Err x) (Ok q) → ⊥
+      never z =
+          let q : ◌≡◌ {A = ℕ} 0 1 = cc in
+          omega arith
+
+  parses_clean : {q : FileCounts} → o ≡ accepted (contents_in l1 l2 l3 l4 l5 q) → HeldFile l1 l2 l3 l4 l5 l6 q → Parses o l1 l2 l3 l4 l5 l6 (Ok q)
+  parses_clean {q} e h = record { says = e; clean = λ m z. subst (HeldFile l1 l2 l3 l4 l5 l6) (counts z) h; faults = λ n z. absurd (never z) }
     where
-      counts : {m : FileCounts} → Clean q ≡ Clean m → q ≡ m
+      counts : {m : FileCounts} → ◌≡◌ {A = Result FileCounts ParseError} (Ok q) (Ok m) → q ≡ m
       counts z = cc
 
-  -- the last fault is written, into an area of cap bytes
-  parses_closed : (cap kind at n : ℕ) (w6 : List ℕ) (p : Appended) → o ≡ closed (add_fault cap kind at at (contents fault_format w6 n)) → length w6 ≡ cap
-      → GrowsFaults (add_fault (length w6) kind at at) w6 n p l6 → (t : Parsed) → t ≡ closed_by p → Parses o l1 l2 l3 l4 l5 l6 t
-  unfolding closed
-  parses_closed cap kind at n w6 p e long g t z = subst (Parses o l1 l2 l3 l4 l5 l6) (sym z) (by p refl)
-    where
-      is : (a : Appended) → p ≡ a → o ≡ closed (left_by fault_format l6 a)
-      is a y = e ∙ ap (λ (m : ℕ). closed (add_fault m kind at at (contents fault_format w6 n))) (sym long) ∙ ap closed (g.says ∙ ap (left_by fault_format l6) y)
+      never : {x : ParseError} → ◌≡◌ {A = Result FileCounts ParseError} (Ok q) (Err x) → ⊥
+      never z =
+          let q : ◌≡◌ {A = ℕ} 0 1 = cc in
+          omega arith
 
-      by : (a : Appended) → p ≡ a → Parses o l1 l2 l3 l4 l5 l6 (closed_by a)
-      by (Appended.Next m) y = parses_faulty (is (Appended.Next m) y) (g.held m y).held
-      by Appended.Full y = parses_short (is Appended.Full y)
+-- ---- the file
 
-module _ (asked : Request) (l1 l2 l3 l4 l5 l6 : List ℕ) (zero : Zeroed l1 l2 l3 l4 l5 l6) (v1 v5 w6 : List ℕ) (r : DeclarationProgress)
-    (d : Does (HeldDeclared v1 v5 w6) (opening asked.source asked.options (caps_of (length l1) (length l5) (length l6))) undeclared
-    (declared_in v1 v5 w6) (declaration_progress r)) where
-  module _ (i : ℕ) (c : DeclarationCounts) (went : r ≡ Declaring.Go i c) where
-    pub rules_inside : i ≤ length asked.source
-    rules_inside =
-        opening_inside asked.source i (declared_in v1 v5 w6 c) asked.options (caps_of (length l1) (length l5) (length l6)) undeclared
-        (d.says ∙ ap (λ (x : DeclarationProgress). onto (declared_in v1 v5 w6) (declaration_progress x)) went)
+-- a section that stops ends the file
+ending_err : {S : Type 0} (faults : S → List FaultSpan) (cap : ℕ) (s : S) (g : ℕ → S → Outcome) (y : Stop)
+    → ending faults cap (outcome (Err y) s) g ≡ stopped cap (faults s) y
+ending_err faults cap s g (Fault kind at) = refl
+ending_err faults cap s g (Full name) = refl
 
-    kept : HeldDeclared v1 v5 w6 c
-    kept = d.goes i c (ap declaration_progress went)
+is_fault : (y : Stop) (kind : LexErrorKind) (at : ℕ) → y ≡ Fault kind at → IsFault y
+is_fault y kind at e = subst IsFault (sym e) tt
 
-    pub states_held : Held state_format v1 c.states
-    states_held = kept.states
-
-    pub rules_held : HeldRuled l2 l3 l4 w6 (rule_counts 0 0 0 c.faults)
-    rules_held =
-        record {
-          rules = held_empty rule_sound l2 zero.is2;
-          entries = held_empty entry_sound l3 zero.is3;
-          text = held_empty text_sound l4 zero.is4;
-          faults = kept.faults;
-        }
-
+module _ (asked : Request) (l1 l2 l3 l4 l5 l6 : List ℕ) (zero : Zeroed l1 l2 l3 l4 l5 l6) (v1 v5 w6 : List ℕ) (r : Result ℕ Stop) (c : DeclarationCounts)
+    (d : Does (HeldDeclared v1 v5 w6) (opening asked.source asked.options (caps_of (length l1) (length l5) (length l6))) (declared_in l1 l5 l6 nothing_declared)
+    (declared_in v1 v5 w6) (outcome r c)) where
   abbrev sizes : Caps
   sizes = caps (length l1) (length l2) (length l3) (length l4) (length l5) (length l6)
 
   abbrev whole : Outcome
   whole = file asked sizes
 
-  opened : (o : Out DeclarationCounts) → declaration_progress r ≡ o
-      → whole ≡ ending (λ d. d.faults) (length l6) (onto (declared_in v1 v5 w6) o) (rules_from asked sizes)
-  unfolding file
-  opened o z = ap (λ (x : Out Declared). ending (λ d. d.faults) (length l6) x (rules_from asked sizes)) (d.says ∙ ap (onto (declared_in v1 v5 w6)) z)
+  abbrev next_section : Out Declared → Outcome
+  next_section x = ending (λ d. d.faults) (length l6) x (rules_from asked sizes)
 
-  pub file_short : (n : ℕ) → r ≡ Declaring.Full n → Parses whole v1 l2 l3 l4 v5 w6 (Short n)
-  file_short n z = parses_short (opened (full n) (ap declaration_progress z))
+  opened : whole ≡ next_section (onto (declared_in v1 v5 w6) (outcome r c))
+  unfolding file contents list_of
+  opened = ap next_section d.says
 
-  pub file_closed : (kind at : ℕ) (c : DeclarationCounts) → r ≡ Declaring.Bad kind at c → length w6 ≡ length l6 → (p : Appended) (y6 : List ℕ)
-      → GrowsFaults (add_fault (length w6) kind at at) w6 c.faults p y6 → (t : Parsed) → t ≡ closed_by p → Parses whole v1 l2 l3 l4 v5 y6 t
-  file_closed kind at c z long p y6 g t q = parses_closed (length l6) kind at c.faults w6 p (opened (bad kind at c) (ap declaration_progress z)) long g t q
+  module _ (y : Stop) (z : r ≡ Err y) where
+    pub opening_faults : (kind : LexErrorKind) (at : ℕ) → y ≡ Fault kind at → HeldFaults w6 c.names.faults
+    opening_faults kind at e = (holds_err r c d y z (is_fault y kind at e)).names.faults
 
-  module _ (i : ℕ) (c : DeclarationCounts) (went : r ≡ Declaring.Go i c) where
-    module _ (v2 v3 v4 x6 : List ℕ) (q : RuleProgress)
-        (g : Does (HeldRuled v2 v3 v4 x6) (rules_section asked (contents state_format v1 c.states) (rule_caps_of (length l2) (length l3) (length l4))
-        (length w6) i) (ruled_in l2 l3 l4 w6 (rule_counts 0 0 0 c.faults)) (ruled_in v2 v3 v4 x6) (rule_progress q))
+    pub file_stops : length w6 ≡ length l6 → {v6 : List ℕ} {x : ParseError}
+        → Refuses (stopped (length w6) (contents fault_format w6 c.names.faults) y) v6 x → Parses whole v1 l2 l3 l4 v5 v6 (Err x)
+    file_stops long {v6} {x} h =
+        parses_refused (subst (λ (o : Outcome). Refuses o v6 x)
+        (ap (λ (k : ℕ). stopped k (contents fault_format w6 c.names.faults) y) long
+        ∙ sym (opened ∙ ap (λ (k : Result ℕ Stop). next_section (onto (declared_in v1 v5 w6) (outcome k c))) z
+        ∙ ap next_section (onto_err (declared_in v1 v5 w6) y c) ∙ ending_err (λ d. d.faults) (length l6) (declared_in v1 v5 w6 c) (rules_from asked sizes) y)) h)
+
+  module _ {i : ℕ} (went : r ≡ Ok i) where
+    kept : HeldDeclared v1 v5 w6 c
+    kept = holds_ok r c d went
+
+    pub rules_inside : i ≤ length asked.source
+    unfolding contents list_of
+    rules_inside =
+        opening_inside asked.source i (declared_in v1 v5 w6 c) asked.options (caps_of (length l1) (length l5) (length l6)) undeclared (was_ok r c d went)
+
+    pub states_fit : c.names.states * state_width ≤ length v1
+    states_fit = kept.names.states.area.fits
+
+    pub rules_held : HeldRuled l2 l3 l4 w6 (nothing_ruled c.names.faults)
+    rules_held =
+        record {
+          sheet = record { rules = held_empty rule_sound l2 zero.is2; entries = held_empty entry_sound l3 zero.is3; text = held_empty text_sound l4 zero.is4 };
+          faults = kept.names.faults;
+        }
+
+    module _ (v2 v3 v4 x6 : List ℕ) (q : Result ℕ Stop) (m : RuleCounts)
+        (g : Does (HeldRuled v2 v3 v4 x6) (rules_section asked (contents state_format v1 c.names.states) (rule_caps_of (length l2) (length l3) (length l4))
+        (length w6) i) (ruled_in l2 l3 l4 w6 (nothing_ruled c.names.faults)) (ruled_in v2 v3 v4 x6) (outcome q m))
         (long : length w6 ≡ length l6) where
       abbrev last : ℕ → Ruled → Outcome
       last j x = judge (contents_of (declared_in v1 v5 w6 c) x)
 
-      ruled : (o : Out RuleCounts) → rule_progress q ≡ o → whole ≡ ending (λ x. x.faults) (length l6) (onto (ruled_in v2 v3 v4 x6) o) last
+      abbrev end_with : Out Ruled → Outcome
+      end_with x = ending (λ x. x.faults) (length l6) x last
+
+      ruled : whole ≡ end_with (onto (ruled_in v2 v3 v4 x6) (outcome q m))
       unfolding rules_from contents list_of
-      ruled o z =
-          opened (go i c) (ap declaration_progress went)
-          ∙ ap (λ (m : ℕ). ending (λ x. x.faults) (length l6)
-          (rules_section asked (contents state_format v1 c.states) (rule_caps_of (length l2) (length l3) (length l4)) m i
-          (ruled_in l2 l3 l4 w6 (rule_counts 0 0 0 c.faults))) last) (sym long)
-          ∙ ap (λ (x : Out Ruled). ending (λ x. x.faults) (length l6) x last) (g.says ∙ ap (onto (ruled_in v2 v3 v4 x6)) z)
+      ruled =
+          opened
+          ∙ ap (λ (k : Result ℕ Stop). next_section (onto (declared_in v1 v5 w6) (outcome k c))) went
+          ∙ ap (λ (k : ℕ). end_with (rules_section asked (contents state_format v1 c.names.states) (rule_caps_of (length l2) (length l3) (length l4)) k i
+          (ruled_in l2 l3 l4 w6 (nothing_ruled c.names.faults)))) (sym long)
+          ∙ ap end_with g.says
 
-      pub rules_short : (n : ℕ) → q ≡ Ruling.Full n → Parses whole v1 v2 v3 v4 v5 x6 (Short n)
-      rules_short n z = parses_short (ruled (full n) (ap rule_progress z))
+      module _ (y : Stop) (z : q ≡ Err y) where
+        pub rules_faults : (kind : LexErrorKind) (at : ℕ) → y ≡ Fault kind at → HeldFaults x6 m.faults
+        rules_faults kind at e = (holds_err q m g y z (is_fault y kind at e)).faults
 
-      pub rules_closed : (kind at : ℕ) (m : RuleCounts) → q ≡ Ruling.Bad kind at m → length x6 ≡ length w6 → (p : Appended) (y6 : List ℕ)
-          → GrowsFaults (add_fault (length x6) kind at at) x6 m.faults p y6 → (t : Parsed) → t ≡ closed_by p → Parses whole v1 v2 v3 v4 v5 y6 t
-      rules_closed kind at m z grew p y6 h t y =
-          parses_closed (length l6) kind at m.faults x6 p (ruled (bad kind at m) (ap rule_progress z)) (grew ∙ long) h t y
+        pub rules_stop : length x6 ≡ length w6 → {y6 : List ℕ} {x : ParseError}
+            → Refuses (stopped (length x6) (contents fault_format x6 m.faults) y) y6 x → Parses whole v1 v2 v3 v4 v5 y6 (Err x)
+        rules_stop grew {y6} {x} h =
+            parses_refused (subst (λ (o : Outcome). Refuses o y6 x)
+            (ap (λ (k : ℕ). stopped k (contents fault_format x6 m.faults) y) (grew ∙ long)
+            ∙ sym (ruled ∙ ap (λ (k : Result ℕ Stop). end_with (onto (ruled_in v2 v3 v4 x6) (outcome k m))) z
+            ∙ ap end_with (onto_err (ruled_in v2 v3 v4 x6) y m) ∙ ending_err (λ x. x.faults) (length l6) (ruled_in v2 v3 v4 x6 m) last y)) h)
 
-      pub rules_judged : (j : ℕ) (m : RuleCounts) → q ≡ Ruling.Go j m → (t : Parsed) → t ≡ judged_by c m → Parses whole v1 v2 v3 v4 v5 x6 t
+      pub rules_judged : {j : ℕ} → q ≡ Ok j → (t : Result FileCounts ParseError) → t ≡ judged_by c m → Parses whole v1 v2 v3 v4 v5 x6 t
       unfolding judge contents list_of
-      rules_judged j m z t y = subst (Parses whole v1 v2 v3 v4 v5 x6) (sym y) (by (eqb m.faults 0) refl)
+      rules_judged {j} z t y = subst (Parses whole v1 v2 v3 v4 v5 x6) (sym y) (by (eqb m.faults 0) refl)
         where
           held : HeldRuled v2 v3 v4 x6 m
-          held = g.goes j m (ap rule_progress z)
+          held = holds_ok q m g z
 
           is : whole ≡ cond (eqb m.faults 0) (accepted (contents_of (declared_in v1 v5 w6 c) (ruled_in v2 v3 v4 x6 m)))
               (faulty (contents fault_format x6 m.faults))
-          is = ruled (go j m) (ap rule_progress z)
+          is = ruled ∙ ap (λ (k : Result ℕ Stop). end_with (onto (ruled_in v2 v3 v4 x6) (outcome k m))) z
               ∙ ap (λ (k : ℕ). cond (eqb k 0) (accepted (contents_of (declared_in v1 v5 w6 c) (ruled_in v2 v3 v4 x6 m)))
               (faulty (contents fault_format x6 m.faults))) (contents-length fault_sound held.faults.held)
 
           none_left : m.faults ≡ 0 → contents fault_format x6 m.faults ≡ []
           none_left e = ap (contents fault_format x6) e
 
-          by : (b : Bool) → eqb m.faults 0 ≡ b → Parses whole v1 v2 v3 v4 v5 x6 (cond b (Clean (counted c m)) (Faulty m.faults))
+          by : (b : Bool) → eqb m.faults 0 ≡ b → Parses whole v1 v2 v3 v4 v5 x6 (cond b (Ok (counted c m)) (Err (FaultyFile m.faults)))
           by true e =
               let z0 : m.faults ≡ 0 = eqb-true m.faults 0 e in
               parses_clean
-              (is ∙ rw e (ap (λ (fs : List Fault). accepted
+              (is ∙ rw e (ap (λ (fs : List FaultSpan). accepted
               (record {
-                states = contents state_format v1 c.states;
-                rules = contents rule_format v2 m.rules;
-                lists = contents entry_format v3 m.entries;
-                text = contents text_format v4 m.text;
+                states = contents state_format v1 c.names.states;
+                rules = contents rule_format v2 m.sheet.rules;
+                lists = contents entry_format v3 m.sheet.entries;
+                text = contents text_format v4 m.sheet.text;
                 expected = contents expected_format v5 c.expected;
                 faults = fs;
               })) (none_left z0)))
               (record {
-                states = (kept i c went).states;
-                rules = held.rules;
-                entries = held.entries;
-                text = held.text;
-                expected = (kept i c went).expected;
+                states = kept.names.states;
+                rules = held.sheet.rules;
+                entries = held.sheet.entries;
+                text = held.sheet.text;
+                expected = kept.expected;
                 faults = subst (Held fault_format x6) z0 held.faults.held;
               })
-          by false e = parses_faulty (is ∙ rw e) held.faults.held
+          by false e = parses_refused (refuses_faulty (is ∙ rw e) held.faults.held)

@@ -1,5 +1,5 @@
 -- The meaning of a file, and of the parse call (01, Numbers given at the counter, and Areas).
-use Rattle.std.specs.Prelude.{ℕ, cond, List, [], ◌∷◌, eqb, ltb, length}
+use Rattle.std.specs.Prelude.{Result, Ok, Err, ℕ, cond, List, [], ◌∷◌, eqb, ltb, length}
 use Rattle.std.proofs.Math.Option.{Option, none, some}
 use Rattle.characters.specs.Utf8.{utf8}
 use Rattle.area.specs.declared.State.{State}
@@ -17,8 +17,8 @@ use Rattle.declarations.specs.Declarations.{Declared, declarations, state}
 use Rattle.rules_section.specs.RulesSection.{Ruled, rules_section}
 use Rattle.declarations.specs.Declarations as D
 use Rattle.rules_section.specs.RulesSection as R
-use Rattle.parse.specs.declared.Answer.{Answer}
-use Rattle.parse.specs.declared.Answer.TheVariants.{Accepted, LongFile, UnknownFlag, InvalidUtf8, AreaFull, FaultyFile}
+use Rattle.parse.specs.declared.ParseError.{ParseError}
+use Rattle.parse.specs.declared.ParseError.TheVariants.{LongFile, UnknownFlag, InvalidUtf8, AreaFull, FaultyFile}
 
 -- what stands in the six areas
 pub record Contents : Type 0 where
@@ -110,9 +110,16 @@ module _ (q : Request) (k : Caps) where
 
 -- ---- the call
 
+-- accepted, or refused by a number
+abbrev pub ParseAnswer : Type 0
+ParseAnswer = Result (Unit {0}) ParseError
+
+abbrev pub parse_accepted : ParseAnswer
+parse_accepted = Ok tt
+
 -- what the call leaves: its answer, the six counts and the six areas
 pub record Left : Type 0 where
-  pub answer : Answer
+  pub answer : ParseAnswer
   pub counts : List ℕ
   pub area1 : List ℕ
   pub area2 : List ℕ
@@ -121,17 +128,17 @@ pub record Left : Type 0 where
   pub area5 : List ℕ
   pub area6 : List ℕ
 
-abbrev pub left : Answer → List ℕ → List ℕ → List ℕ → List ℕ → List ℕ → List ℕ → List ℕ → Left
+abbrev pub left : ParseAnswer → List ℕ → List ℕ → List ℕ → List ℕ → List ℕ → List ℕ → List ℕ → Left
 left r n x1 x2 x3 x4 x5 x6 = record { answer = r; counts = n; area1 = x1; area2 = x2; area3 = x3; area4 = x4; area5 = x5; area6 = x6 }
 
 -- 1 to 4: all six areas zero
-abbrev pub cleared : Answer → Caps → Left
+abbrev pub cleared : ParseAnswer → Caps → Left
 cleared r k = left r (zeros 6) (zeros k.c1) (zeros k.c2) (zeros k.c3) (zeros k.c4) (zeros k.c5) (zeros k.c6)
 
 -- 5: all but the fault records
 abbrev pub faults_left : List Fault → Caps → Left
 faults_left fs k =
-    left (FaultyFile (length fs)) (zeros 6) (zeros k.c1) (zeros k.c2) (zeros k.c3) (zeros k.c4) (zeros k.c5) (laid fault_format k.c6 fs)
+    left (Err (FaultyFile (length fs))) (zeros 6) (zeros k.c1) (zeros k.c2) (zeros k.c3) (zeros k.c4) (zeros k.c5) (laid fault_format k.c6 fs)
 
 -- the count of each area's records or bytes
 abbrev pub counts_of : Contents → List ℕ
@@ -140,7 +147,7 @@ counts_of b = length b.states ∷ length b.rules ∷ length b.lists ∷ length b
 -- accepted: everything past the records is zero
 abbrev pub sheet_left : Contents → Caps → Left
 sheet_left b k =
-    left Accepted (counts_of b)
+    left parse_accepted (counts_of b)
     (laid state_format k.c1 b.states)
     (laid rule_format k.c2 b.rules)
     (laid entry_format k.c3 b.lists)
@@ -150,10 +157,10 @@ sheet_left b k =
 
 -- what the call leaves by the outcome (01, Numbers given at the counter)
 unfoldable pub leaves : Caps → Outcome → Left
-leaves k long_file = cleared LongFile k
-leaves k unknown_flag = cleared UnknownFlag k
-leaves k invalid_utf8 = cleared InvalidUtf8 k
-leaves k (area_full n) = cleared (AreaFull n) k
+leaves k long_file = cleared (Err LongFile) k
+leaves k unknown_flag = cleared (Err UnknownFlag) k
+leaves k invalid_utf8 = cleared (Err InvalidUtf8) k
+leaves k (area_full n) = cleared (Err (AreaFull n)) k
 leaves k (faulty fs) = faults_left fs k
 leaves k (accepted b) = sheet_left b k
 
@@ -164,13 +171,13 @@ parse_call q k = leaves k (outcome q k)
 -- ---- the answers as words
 
 -- the number and the value of each answer (01, Numbers given at the counter)
-unfoldable pub parse_fields : Answer → Fields
-parse_fields Accepted = fields accepted_number 0 0 0
-parse_fields LongFile = fields long_file_number 0 0 0
-parse_fields UnknownFlag = fields unknown_flag_number 0 0 0
-parse_fields InvalidUtf8 = fields invalid_utf8_number 0 0 0
-parse_fields (AreaFull n) = fields area_full_number n 0 0
-parse_fields (FaultyFile n) = fields faulty_file_number n 0 0
+unfoldable pub parse_fields : ParseAnswer → Fields
+parse_fields (Ok x) = fields accepted_number 0 0 0
+parse_fields (Err LongFile) = fields long_file_number 0 0 0
+parse_fields (Err UnknownFlag) = fields unknown_flag_number 0 0 0
+parse_fields (Err InvalidUtf8) = fields invalid_utf8_number 0 0 0
+parse_fields (Err (AreaFull n)) = fields area_full_number n 0 0
+parse_fields (Err (FaultyFile n)) = fields faulty_file_number n 0 0
 
-abbrev pub parse_word : Answer → ℕ
+abbrev pub parse_word : ParseAnswer → ℕ
 parse_word x = word (parse_fields x)

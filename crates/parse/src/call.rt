@@ -2,19 +2,21 @@
 ghost use Rattle.std.specs.Prelude.{◌≡◌, ◌≤◌, length};
 ghost use Rattle.area.specs.Bytes.{zeros};
 ghost use Rattle.area.specs.Phrases.{before, after};
-ghost use Rattle.rules_section.specs.Phrases.{asked};
+ghost use Rattle.section.specs.Request.{asked_by};
 ghost use Rattle.parse.specs.Parse.{file, leaves, parse_call};
 ghost use Rattle.parse.specs.Answers.{Cleared, Zeroed};
 ghost use Rattle.parse.specs.Phrases.{room_in, left_in};
 
+use crate::ParseError;
 use crate::sections::parse_sections;
-use crate::{Answer, Parsed};
 use answers::MOST_SOURCE;
 use area::clear;
 use characters::utf8::utf8;
+use section::LexFile;
 
 const MOST_FLAGS: u64 = 3;
 
+// The six areas stay parameters: a struct or an array of slices that are lent for writing has no proof.
 fn clear_all(
     area1: &mut [u8],
     area2: &mut [u8],
@@ -37,9 +39,7 @@ fn clear_all(
 
 // A text of at most 65,535 bytes, into areas and counts that are zero.
 fn parse_text(
-    src: &[u8],
-    flags: u64,
-    verdicts: &[u8],
+    lex_file: LexFile,
     counts: &mut [u16; 6],
     area1: &mut [u8],
     area2: &mut [u8],
@@ -47,39 +47,35 @@ fn parse_text(
     area4: &mut [u8],
     area5: &mut [u8],
     area6: &mut [u8],
-) -> Answer
-    requires src_len_bound { length src.now ≤ 65535 }
+) -> Result<(), ParseError>
+    requires source_len_bound { length lex_file.source.now ≤ 65535 }
     requires zeroed { Zeroed area1.old area2.old area3.old area4.old area5.old area6.old }
     requires counts_value { counts.old ≡ zeros 6 }
-    ensures { let room = room_in area1 area2 area3 area4 area5 area6 in left_in result counts area1 area2 area3 area4 area5 area6 ≡ leaves room (file (asked src.now flags verdicts.now) room) }
+    ensures { let room = room_in area1 area2 area3 area4 area5 area6 in left_in result counts area1 area2 area3 area4 area5 area6 ≡ leaves room (file (asked_by lex_file.entry) room) }
 {
-    match parse_sections(
-        src, flags, verdicts, area1, area2, area3, area4, area5, area6,
-    ) {
-        Parsed::Clean(q) => {
+    match parse_sections(lex_file, area1, area2, area3, area4, area5, area6) {
+        Ok(q) => {
             *counts = [q.states, q.rules, q.entries, q.text, q.expected, 0];
-            Answer::Accepted
+            Ok(())
         }
-        Parsed::Faulty(n) => {
+        Err(error) => {
             clear(area1);
             clear(area2);
             clear(area3);
             clear(area4);
             clear(area5);
-            Answer::FaultyFile(n)
-        }
-        Parsed::Short(n) => {
-            clear_all(area1, area2, area3, area4, area5, area6);
-            Answer::AreaFull(n)
+            if error.has_faults() {
+                return Err(error);
+            }
+            clear(area6);
+            Err(error)
         }
     }
 }
 
 // Everything is zero before the first test, and stays so where the call is refused by 1, 2, 3 or 4.
 pub fn parse(
-    src: &[u8],
-    flags: u64,
-    verdicts: &[u8],
+    lex_file: LexFile,
     counts: &mut [u16; 6],
     area1: &mut [u8],
     area2: &mut [u8],
@@ -87,22 +83,20 @@ pub fn parse(
     area4: &mut [u8],
     area5: &mut [u8],
     area6: &mut [u8],
-) -> Answer
+) -> Result<(), ParseError>
     ensures { left_in result counts area1 area2 area3 area4 area5 area6
-        ≡ parse_call (asked src.now flags verdicts.now) (room_in area1 area2 area3 area4 area5 area6) }
+        ≡ parse_call (asked_by lex_file.entry) (room_in area1 area2 area3 area4 area5 area6) }
 {
     *counts = [0; 6];
     clear_all(area1, area2, area3, area4, area5, area6);
-    if src.len() > MOST_SOURCE {
-        return Answer::LongFile;
+    if lex_file.source.len() > MOST_SOURCE {
+        return Err(ParseError::LongFile);
     }
-    if flags > MOST_FLAGS {
-        return Answer::UnknownFlag;
+    if lex_file.flags > MOST_FLAGS {
+        return Err(ParseError::UnknownFlag);
     }
-    if utf8(src) {
-        return parse_text(
-            src, flags, verdicts, counts, area1, area2, area3, area4, area5, area6,
-        );
+    if utf8(lex_file.source) {
+        return parse_text(lex_file, counts, area1, area2, area3, area4, area5, area6);
     }
-    Answer::InvalidUtf8
+    Err(ParseError::InvalidUtf8)
 }

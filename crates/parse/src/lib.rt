@@ -4,6 +4,9 @@
 mod sections; // the file from its start
 pub mod call; // the parse call
 
+ghost use Rattle.std.specs.Prelude.{◌≡◌};
+ghost use Rattle.parse.specs.Answers.{has_faults};
+
 // How many records each area has where there are no faults.
 #[derive(Clone, Copy)]
 pub struct FileCounts {
@@ -14,21 +17,21 @@ pub struct FileCounts {
     pub expected: u16,
 }
 
-// What a file comes to: no fault; a number of fault spans; or the area of a number was full.
-#[derive(Clone, Copy)]
-pub enum Parsed {
-    Clean(FileCounts),
-    Faulty(u16),
-    Short(u16),
-}
-
-// The answers of the parse call: accepted, or refused by a number of 01.
-#[derive(Clone, Copy)]
-pub enum Answer {
-    Accepted,
+// Why a file is refused: the area of a number was full, or there are so many fault spans.
+#[derive(Clone, Copy, PartialEq, Eq, Debug)]
+pub enum ParseError {
     LongFile,
     UnknownFlag,
     InvalidUtf8,
     AreaFull(u16),
     FaultyFile(u16),
+}
+
+impl ParseError {
+    // Whether the fault area keeps the faults.
+    fn has_faults(self) -> bool
+        ensures { result ≡ has_faults self }
+    {
+        matches!(self, ParseError::FaultyFile(_))
+    }
 }

@@ -1,7 +1,7 @@
 -- What bounds the outcome of a file, whatever it is. State names are declared left to right, so where the declarations go on, all names together
 -- have no more bytes than stand before that place; and whatever adds to the fault list asks for room in area 6. The rest is what an accepted
 -- parse yields.
-use Rattle.std.specs.Prelude.{is_some}
+use Rattle.std.specs.Prelude.{Result, Ok, Err, is_some}
 use Prim.Native.Nat.{ℕ, ◌+◌, ◌-◌, ◌≤◌}
 use mathlib.Core.Path.{◌≡◌, refl, subst}
 use mathlib.Core.Bool.{not}
@@ -35,8 +35,9 @@ use Rattle.names.specs.Names.{is_state_name}
 use Rattle.declarations.specs.Declarations.{range, Names, names, NameCaps, name_caps, Declared, Caps, state, trimmed, word_end, first_word, rest_of, is_inclusive, is_exclusive, is_expecting, states_of}
 use Rattle.declarations.specs.Declarations.{declaration_of, behind_name, add_state, repeat_state, state_named, declare_state, state_names, expected_names, with_names, with_expected, then_at, declare_as, declaration, next_declaration, end_declarations, declarations}
 use Rattle.declarations.proofs.Lines.{names_within}
+use Rattle.rules.specs.declared.LexError.{LexError}
 use Rattle.rules.specs.declared.Heading.{Heading}
-use Rattle.rules.specs.declared.Heading.TheVariants.{Faulty, Repeated, Fresh}
+use Rattle.rules.specs.declared.Heading.TheVariants.{Repeated, Fresh}
 use Rattle.rules.specs.Heading.{heading_of}
 use Rattle.rules_section.specs.RulesSection.{Ruled, Sheet, sheet_of, with_sheet, with_faults, pattern, rule_as, rule, line, next_rule, rules, routines, rules_section}
 use Rattle.rules_section.specs.RulesSection as R
@@ -245,13 +246,14 @@ module _ (asked : Request) (xs : List State) (k : R.Caps) (c6 : ℕ) where
   sheet_fits r (bad kind at w) h = tt
   sheet_fits r (full n) h = tt
 
-  heading_fits : (i e : ℕ) (x : Heading) (r : Ruled) → FaultsFit c6 r.faults → Yields Ruling (rule_as asked xs k c6 i e x r)
+  heading_fits : (i e : ℕ) (x : Result Heading LexError) (r : Ruled) → FaultsFit c6 r.faults → Yields Ruling (rule_as asked xs k c6 i e x r)
   unfolding rule_as
-  heading_fits i e (Faulty kind at) r h = tt
-  heading_fits i e (Repeated c d a z) r h =
-      yields_onto (λ _ fs. FaultsFit c6 fs) Ruling (with_faults r) (written 6 e (add_repeat c6 DuplicateName c d a z r.faults))
-      (repeat_fits (λ _ fs. FaultsFit c6 fs) c6 e r.faults (λ _ f. f) DuplicateName c d a z) (λ _ _ f. f)
-  heading_fits i e (Fresh b hd) r h = sheet_fits r (pattern asked k i e hd (trim_end_unescaped asked.source i b) xs (sheet_of r)) h
+  heading_fits i e (Err error) r h = tt
+  heading_fits i e (Ok (Repeated first again)) r h =
+      yields_onto (λ _ fs. FaultsFit c6 fs) Ruling (with_faults r)
+      (written 6 e (add_repeat c6 DuplicateName first.start first.end again.start again.end r.faults))
+      (repeat_fits (λ _ fs. FaultsFit c6 fs) c6 e r.faults (λ _ f. f) DuplicateName first.start first.end again.start again.end) (λ _ _ f. f)
+  heading_fits i e (Ok (Fresh b hd)) r h = sheet_fits r (pattern asked k i e hd (trim_end_unescaped asked.source i b) xs (sheet_of r)) h
 
   line_fits : (i e : ℕ) (r : Ruled) → FaultsFit c6 r.faults → Yields Ruling (line asked xs k c6 i e r)
   unfolding line rule

@@ -15,7 +15,8 @@ use Rattle.characters.specs.Unicode.{is_scalar, encode, encode_all, Scalars}
 use Rattle.characters.specs.Utf8.{utf8}
 use Rattle.characters.proofs.Tests.{by_test, or_cases, range_of}
 use Rattle.characters.proofs.Decoding.{utf8_judges}
-use Rattle.escape.specs.Escape.{Escape, escapes, posix_escapes, backspace, escape_from, escaped, rewritten_end, replaced, unescaped}
+use Rattle.escape.specs.declared.Escape.{Escape}
+use Rattle.escape.specs.Escape.{escapes, posix_escapes, backspace, escape_from, escaped, rewritten_end, replaced, unescaped}
 use Rattle.area.specs.Lists.{all}
 use Rattle.area.proofs.All.{all_append, all_take, all_drop}
 use Rattle.parsed_sheet.specs.Accepted.{is_byte}

@@ -7,6 +7,7 @@ use mathlib.Core.List.{List, []}
 use native.Mathlib.Omega.{arith}
 use borrow.Author.Tests.{le-leb}
 use lib.ListN.{length}
+use Rattle.std.specs.Prelude.{Ok, Err}
 use Rattle.area.specs.declared.State.{State}
 use Rattle.area.specs.declared.Rule.{Rule}
 use Rattle.area.specs.declared.Expected.{Expected}
@@ -16,9 +17,7 @@ use Rattle.area.specs.Contents.{Format, contents, Held, text_format, laid}
 use Rattle.area.proofs.Areas.{area-length}
 use Rattle.area.proofs.Contents.{Sound, contents_are, held_of, state_sound, rule_sound, entry_sound, text_sound, expected_sound}
 use Rattle.section.specs.Request.{Request}
-use Rattle.parse.specs.declared.Answer.{Answer}
-use Rattle.parse.specs.declared.Answer.TheVariants.{Accepted, LongFile, UnknownFlag, InvalidUtf8, AreaFull, FaultyFile}
-use Rattle.parse.specs.Parse.{Contents, Caps, Outcome, long_file, unknown_flag, invalid_utf8, area_full, faulty, accepted, outcome, Left, sheet_left, leaves, parse_call}
+use Rattle.parse.specs.Parse.{Contents, Caps, Outcome, long_file, unknown_flag, invalid_utf8, area_full, faulty, accepted, outcome, ParseAnswer, parse_accepted, Left, sheet_left, leaves, parse_call}
 use Rattle.sheet_check.specs.SheetCheck.{SheetBytes, decoded, sizes_of, long_enough, good_sizes, sheet_check}
 use Rattle.parsed_sheet.specs.Accepted.{Fits, ContentsFit, AreasHold, sheet_left_by}
 use Rattle.parsed_sheet.proofs.Checking.{accepted_counts, accepted_good, accepted_fits, accepted_faultless}
@@ -69,13 +68,9 @@ module _ (s : List ℕ) (k : Caps) (c : Contents) (f : ContentsFit k c) where
 
 -- ---- the call
 
-abbrev is_accepted : Answer → Bool
-is_accepted Accepted = true
-is_accepted LongFile = false
-is_accepted UnknownFlag = false
-is_accepted InvalidUtf8 = false
-is_accepted (AreaFull n) = false
-is_accepted (FaultyFile n) = false
+abbrev is_accepted : ParseAnswer → Bool
+is_accepted (Ok x) = true
+is_accepted (Err error) = false
 
 module _ (asked : Request) (k : Caps) where
   module _ (c : Contents) (is : outcome asked k ≡ accepted c) where
@@ -114,11 +109,11 @@ module _ (asked : Request) (k : Caps) where
         })
 
   -- a call that answers that it accepts has contents
-  pub answer_accepted : (parse_call asked k).answer ≡ Accepted → (c : Contents) × (outcome asked k ≡ accepted c)
+  pub answer_accepted : (parse_call asked k).answer ≡ parse_accepted → (c : Contents) × (outcome asked k ≡ accepted c)
   unfolding parse_call leaves
   answer_accepted e = by (outcome asked k) refl e
     where
-      by : (o : Outcome) → outcome asked k ≡ o → (leaves k o).answer ≡ Accepted → (c : Contents) × (outcome asked k ≡ accepted c)
+      by : (o : Outcome) → outcome asked k ≡ o → (leaves k o).answer ≡ parse_accepted → (c : Contents) × (outcome asked k ≡ accepted c)
       by (accepted c) q z = (c, q)
       by long_file q z = absurd (false≢true (ap is_accepted z))
       by unknown_flag q z = absurd (false≢true (ap is_accepted z))

@@ -1,6 +1,6 @@
 -- Larger areas change nothing but where an area was full, and that is one of the six: one law for each way to join steps, one line for each
 -- definition. So an accepted outcome is the file's meaning, whatever the areas had.
-use Rattle.std.specs.Prelude.{is_some}
+use Rattle.std.specs.Prelude.{Result, Ok, Err, is_some}
 use Prim.Native.Nat.{ℕ, zero, suc, ◌+◌, ◌*◌, ◌-◌, ◌≤◌}
 use mathlib.Core.Path.{◌≡◌, refl, ap, subst, subst⁻¹}
 use mathlib.Core.Bool.{Bool, true, false, cond, not, ◌&&◌}
@@ -27,6 +27,7 @@ use Rattle.section.specs.Request.{Options, Request}
 use Rattle.section.specs.Section.{percents, to_declaration, to_rule, has_routines}
 use Rattle.area.specs.Contents.{Format, append, state_format, rule_format, entry_format, text_format, expected_format, fault_format}
 use Rattle.fault.specs.Step.{Out, go, bad, full, next, onto, written, loop}
+use Rattle.fault.specs.Kinds.{kind_number}
 use Rattle.fault.specs.Faults.{find_fault, UnknownDeclaration, InvalidName, UnknownStartState, DuplicateStartState, InvalidStartState, InvalidStartStateName, DuplicateName, RegexError, VerbatimNotSupported, add_fault, add_span, add_pair, repeat_at, add_repeat}
 use Rattle.declarations.specs.declared.Declaration.{Declaration}
 use Rattle.declarations.specs.declared.Declaration.TheVariants.{States, Expecting, Unknown}
@@ -34,13 +35,16 @@ use Rattle.names.specs.Names.{is_state_name}
 use Rattle.declarations.specs.Declarations.{Range, range, Names, names, name_caps, state, Declared, with_names, with_expected, expected, is_quoted, behind_name}
 use Rattle.declarations.specs.Declarations.{add_state, repeat_state, state_named, declare_state, state_names, declare_expected, expected_names, declare_as, declaration, next_declaration, end_declarations, declarations}
 use Rattle.rules.specs.declared.Head.{Head}
+use Rattle.rules.specs.declared.LexError.{LexError}
 use Rattle.rules.specs.declared.Heading.{Heading}
-use Rattle.rules.specs.declared.Heading.TheVariants.{Faulty, Repeated, Fresh}
+use Rattle.rules.specs.declared.Heading.TheVariants.{Repeated, Fresh}
 use Rattle.rules.specs.declared.Body.{Body}
 use Rattle.rules.specs.declared.Body.TheVariants.{Unclosed, Listed, Rewritten, Plain}
 use Rattle.rules.specs.Heading.{body_of}
 use Rattle.rules.specs.Rules.{refuses, entry_end, entry_id, next_entry, entries, record_rule}
-use Rattle.rules_section.specs.RulesSection.{Sheet, sheet, Text, StateList, Ruled, sheet_of, with_sheet, with_faults, with_rule, listed_rule, rewritten_rule, pattern, rule_as, rule, line, next_rule, rules, routines, rules_section}
+use Rattle.rules_section.specs.RulesSection.{Sheet, sheet, Ruled, sheet_of, with_sheet, with_faults, with_rule, listed_rule, rewritten_rule, pattern, rule_as, rule, line, next_rule, rules, routines, rules_section}
+use Rattle.rules_section.specs.declared.pattern.Text.{Text}
+use Rattle.rules_section.specs.declared.pattern.StateList.{StateList}
 use Rattle.rules_section.proofs.Patterns.{pattern_is_unclosed, pattern_is_listed, pattern_is_rewritten, pattern_is_plain}
 use Rattle.parse.specs.Parse.{Contents, Caps, Outcome, long_file, unknown_flag, invalid_utf8, area_full, faulty, accepted, closed, ending, judge, contents_of, rules_from, opening, file, outcome, declaration_caps, rule_caps, undeclared, with_states, no_rules}
 use Rattle.parsed_sheet.specs.Meaning.{whole, limits, meaning}
@@ -267,12 +271,12 @@ module _ (k l : Caps) (w : Wider k l) (asked : Request) (xs : List State) where
             both (pattern_is_plain asked (rule_caps k) i e h c xs v q) (pattern_is_plain asked (rule_caps l) i e h c xs v q)
             (grow_with _ _ v)
 
-  grow_rule : (i e : ℕ) (x : Heading) (r : Ruled) → Stays (rule_as asked xs (rule_caps k) k.c6 i e x r) (rule_as asked xs (rule_caps l) l.c6 i e x r)
+  grow_rule : (i e : ℕ) (x : Result Heading LexError) (r : Ruled) → Stays (rule_as asked xs (rule_caps k) k.c6 i e x r) (rule_as asked xs (rule_caps l) l.c6 i e x r)
   unfolding rule_as
-  grow_rule i e (Faulty kind at) r = stays_bad kind at r
-  grow_rule i e (Repeated x y a z) r =
-      stays_onto (with_faults r) (stays_written 6 e (omega arith) (grown_repeat k.c6 l.c6 w.w6 DuplicateName x y a z r.faults))
-  grow_rule i e (Fresh b h) r = stays_onto (with_sheet r) (grow_pattern i e h _ (sheet_of r))
+  grow_rule i e (Err error) r = stays_bad (kind_number error.kind) error.at r
+  grow_rule i e (Ok (Repeated first again)) r =
+      stays_onto (with_faults r) (stays_written 6 e (omega arith) (grown_repeat k.c6 l.c6 w.w6 DuplicateName first.start first.end again.start again.end r.faults))
+  grow_rule i e (Ok (Fresh b h)) r = stays_onto (with_sheet r) (grow_pattern i e h _ (sheet_of r))
 
   grow_line : (i e : ℕ) (r : Ruled) → Stays (line asked xs (rule_caps k) k.c6 i e r) (line asked xs (rule_caps l) l.c6 i e r)
   unfolding line rule

@@ -1,7 +1,8 @@
 -- What the rules section keeps: each rule's ranges lie within the source, the list entries and the rewritten text so far, which only grow; its id is
 -- its position; each entry and each target is a declared state; and no two rules have the same name.
 use Prim.Native.Nat.{ℕ, ◌+◌, ◌≤◌, ◌<◌}
-use mathlib.Core.Path.{◌≡◌, refl, sym}
+use mathlib.Core.Path.{◌≡◌, refl}
+use Rattle.std.specs.Prelude.{Result, Ok, Err}
 use mathlib.Core.Bool.{Bool, true, false, cond}
 use mathlib.Core.List.{List, [], ◌∷◌, ◌++◌}
 use mathlib.Core.Option.{Option, none, some}
@@ -25,13 +26,16 @@ use Rattle.escape.specs.Escape.{unescaped}
 use Rattle.names.proofs.Distinct.{Unused, distinct_more}
 use Rattle.section.specs.Request.{Request}
 use Rattle.section.specs.Section.{to_rule, in_section, has_routines}
+use Rattle.rules.specs.declared.LexError.{LexError}
 use Rattle.rules.specs.declared.Head.{Head}
 use Rattle.rules.specs.declared.Heading.{Heading}
-use Rattle.rules.specs.declared.Heading.TheVariants.{Faulty, Repeated, Fresh}
-use Rattle.rules.specs.Heading.{heading_of}
+use Rattle.rules.specs.declared.Heading.TheVariants.{Repeated, Fresh}
+use Rattle.rules.specs.Heading.{heading_of, named_field, name_fields}
 use Rattle.rules.specs.Rules.{entry_end, entry_id, next_entry, entries, refuses, record_rule}
-use Rattle.rules_section.specs.RulesSection.{Sheet, Caps, sheet, Text, StateList, source_text, text_since, no_list, list_since, with_rule, listed_rule, rewritten_rule, pattern, Ruled, sheet_of, with_sheet, with_faults, rule_as, rule, line, next_rule, rules, routines, rules_section}
+use Rattle.rules_section.specs.RulesSection.{Sheet, Caps, sheet, source_text, text_since, no_list, list_since, with_rule, listed_rule, rewritten_rule, pattern, Ruled, sheet_of, with_sheet, with_faults, rule_as, rule, line, next_rule, rules, routines, rules_section}
 use Rattle.rules_section.specs.RulesSection as R
+use Rattle.rules_section.specs.declared.pattern.Text.{Text}
+use Rattle.rules_section.specs.declared.pattern.StateList.{StateList}
 use Rattle.rules.proofs.Heads.{fresh_from, fresh_to, fresh_unused}
 use Rattle.rules_section.proofs.Patterns.{pattern_cases}
 use Rattle.area.specs.Lists.{all}
@@ -149,7 +153,7 @@ module _ (asked : Request) (xs : List State) (k : Caps) (i e : ℕ) where
   Sheets j w = SheetHolds asked.source (length xs) k w
 
   module _ (w : Sheet) (holds : SheetHolds asked.source (length xs) k w) (h : Head) (head : HeadHolds asked.source (length xs) h)
-      (unused : Unused asked.source w.rules h.named h.name_from h.name_length) (c : ℕ) (cl : c ≤ length asked.source) where
+      (unused : Unused asked.source w.rules (named_field h.name) (name_fields h.name).from (name_fields h.name).length) (c : ℕ) (cl : c ≤ length asked.source) where
     -- list entries and text that hold and are no fewer
     abbrev MoreEntries : ℕ → List ℕ → Type 0
     MoreEntries j ids = EntriesFrom (length w.lists) (length xs) k.c3 ids
@@ -223,16 +227,17 @@ module _ (asked : Request) (xs : List State) (stated : 0 < length xs) (source : 
   faults_kept e r none h = tt
   faults_kept e r (some fs) h = h
 
-  as_kept : (i e : ℕ) → i ≤ e → e ≤ length asked.source → (r : Ruled) → Lined i r → (x : Heading)
+  as_kept : (i e : ℕ) → i ≤ e → e ≤ length asked.source → (r : Ruled) → Lined i r → (x : Result Heading LexError)
       → heading_of asked.source i (trim_end asked.source i e) xs r.rules ≡ x → Yields Lined (rule_as asked xs k c6 i e x r)
   unfolding rule_as trim_end
-  as_kept i e a l r h (Faulty kind at) q = tt
-  as_kept i e a l r h (Repeated c d b z) q = faults_kept e r (add_repeat c6 DuplicateName c d b z r.faults) h
-  as_kept i e a l r h (Fresh b hd) q =
+  as_kept i e a l r h (Err error) q = tt
+  as_kept i e a l r h (Ok (Repeated first again)) q =
+      faults_kept e r (add_repeat c6 DuplicateName first.start first.end again.start again.end r.faults) h
+  as_kept i e a l r h (Ok (Fresh b hd)) q =
       let t = trim_end asked.source i e in
       let tl : t ≤ e = first_to _ i e a in
-      let bi : i ≤ b = fresh_from asked.source i t xs r.rules (Fresh b hd) (sym q) b hd refl in
-      let bt : b < t = fresh_to asked.source i t xs r.rules (Fresh b hd) (sym q) b hd refl in
+      let bi : i ≤ b = fresh_from asked.source i t xs r.rules (heading_of asked.source i t xs r.rules) refl q b hd refl in
+      let bt : b < t = fresh_to asked.source i t xs r.rules (heading_of asked.source i t xs r.rules) refl q b hd refl in
       let c = trim_end_unescaped asked.source i b in
       yields_onto (Sheets asked xs k i e) Lined (with_sheet r) (pattern asked k i e hd c xs (sheet_of r))
       (pattern_kept asked xs k i e (sheet_of r) h hd (heading_holds asked.source xs stated r.rules i t (omega arith) b hd q)

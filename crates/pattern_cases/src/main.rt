@@ -2,8 +2,8 @@
 // of the test, and the part itself in brackets; then for a rule past the last, and for sheets that are broken.
 #![tactic(auto)]
 
-use parse::Answer;
 use parse::call::parse;
+use section::LexFile;
 use sheet_check::Sheet;
 use sheet_check::pattern::{pattern, pattern_test};
 use streams::{read_full, say};
@@ -44,10 +44,13 @@ fn show(rt: &impl Print, source: &[u8]) {
     let mut area4 = [0; 16];
     let mut area5 = [0; 4];
     let mut area6 = [0; 8];
-    let answer = parse(
+    let lex_file = LexFile {
         source,
-        0,
-        b"",
+        flags: 0,
+        verdicts: b"",
+    };
+    let answer = parse(
+        lex_file,
         &mut counts,
         &mut area1,
         &mut area2,
@@ -56,10 +59,10 @@ fn show(rt: &impl Print, source: &[u8]) {
         &mut area5,
         &mut area6,
     );
-    let Answer::Accepted = answer else {
+    if answer.is_err() {
         say(rt, b"not accepted\n");
         return;
-    };
+    }
     // Rule 0 then stands in place 2, which is none.
     let mut misplaced = area2;
     misplaced[14] = 2;

@@ -6,11 +6,12 @@ use Rattle.area.specs.Computing.{computing as area-computing}
 use Rattle.fault.specs.Computing.{computing as fault-computing}
 use Rattle.names.specs.Computing.{computing as names-computing}
 use Rattle.escape.specs.Computing.{computing as escape-computing}
-use Rattle.rules.specs.Heading.{has_target, target_end, operation_of, target_operation, target_name, target_id, target_of, equal_quotes, is_no_name, is_name, label_by, label_of, rule_named, heading_behind, heading_of, has_list, list_end, body_of}
+use Rattle.rules.specs.Heading.{has_target, target_end, operation_of, target_operation, target_name, target_id, target_of, equal_quotes, is_no_name, is_name, label_by, label_of, rule_named, heading_named, heading_behind, heading_of, has_list}
+use Rattle.rules.specs.Heading.{list_end, body_of}
 use Rattle.rules.specs.Rules.{entry_end, entry_id, next_entry, entries, refuses, record_rule}
 
 unfoldable heading_file : Unit {0}
-unfolding has_target target_end operation_of target_operation target_name target_id target_of equal_quotes is_no_name is_name label_by label_of rule_named heading_behind heading_of has_list list_end body_of
+unfolding has_target target_end operation_of target_operation target_name target_id target_of equal_quotes is_no_name is_name label_by label_of rule_named heading_named heading_behind heading_of has_list list_end body_of
 heading_file = tt
 
 unfoldable rules_file : Unit {0}

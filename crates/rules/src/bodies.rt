@@ -1,6 +1,5 @@
 // What a pattern is: a list of states in front, or text whose escapes are rewritten or stay (01, Rules).
 ghost use Rattle.std.specs.Prelude.{◌≡◌, ◌≤◌, length};
-ghost use Rattle.area.specs.Phrases.{before};
 ghost use Rattle.rules.specs.Heading.{body_of};
 
 use crate::Body;
@@ -9,6 +8,7 @@ use escape::is_rewritten;
 use text::scan::find_byte;
 
 // The pattern from i to c. An empty one has no list, whatever byte stands behind it.
+#[tactic(auto, unfolding(crate::specs::Heading::body_of, crate::specs::Heading::has_list, crate::specs::Heading::list_end))]
 pub fn body_of(src: &[u8], i: usize, c: usize) -> Body
     requires { (i ≤ c) × (c ≤ length src.now) }
     ensures { result ≡ body_of src.now i c }

@@ -6,51 +6,105 @@ pub mod entries; // the list of states in front of a pattern
 pub mod headings; // what stands behind the last blank of a line
 pub mod record; // the record of a rule
 
-// What a rule does with the stack of states, and with which of them: both 0 where the rule has no target.
+ghost use Rattle.std.specs.Prelude.{◌≡◌, ◌≤◌};
+ghost use Rattle.rules.specs.Heading.{operation_number, mark_length};
+
+use fault::{LexErrorKind, Span, Stop};
+
+// A fault of a rule's line: its kind, and where it stands.
+#[derive(Clone, Copy, PartialEq, Eq, Debug)]
+pub struct LexError {
+    pub kind: LexErrorKind,
+    pub at: u16,
+}
+
+impl From<LexError> for Stop {
+    ghost use Rattle.fault.specs.declared.Stop.TheVariants.{Fault};
+
+    ghost from_gives = { λ error stop. stop ≡ Fault error.kind error.at };
+
+    fn from(error: LexError) -> Stop {
+        Stop::Fault(error.kind, error.at)
+    }
+}
+
+// What a rule does with the stack of states.
+#[derive(Clone, Copy, PartialEq, Eq, Debug)]
+pub enum StartStateOperation {
+    ReplaceStack = 1,
+    Push,
+    Pop,
+}
+
+impl From<StartStateOperation> for u16 {
+    ghost from_gives = { λ operation number. number ≡ operation_number operation };
+
+    fn from(operation: StartStateOperation) -> u16 {
+        operation as u16
+    }
+}
+
+impl StartStateOperation {
+    // How many bytes stand for it in a target.
+    fn mark_len(self) -> usize
+        ensures is { result ≡ mark_length self }
+        ensures small { result ≤ 1 }
+    {
+        match self {
+            StartStateOperation::ReplaceStack => 0,
+            StartStateOperation::Push => 1,
+            StartStateOperation::Pop => 1,
+        }
+    }
+}
+
+// What a rule does with the stack of states, and with which of them.
 #[derive(Clone, Copy)]
 pub struct TargetState {
-    pub operation: u16,
     pub id: u16,
+    pub operation: StartStateOperation,
 }
 
-// A target, or none, and the place behind it; or the kind and the place of its fault.
+// The target of a rule that has one, and the place behind it; without a target the place behind the blank.
 #[derive(Clone, Copy)]
-pub enum Target {
-    To(TargetState, usize),
-    Wrong(u16, u16),
+pub struct Target {
+    pub state: Option<TargetState>,
+    pub end: usize,
 }
 
-// What a rule's name part is.
-#[derive(Clone, Copy)]
+// What a rule's name part is. An enum of its own: without a name nothing is wrong, and none of the three has a value.
+#[derive(Clone, Copy, PartialEq, Eq, Debug)]
 pub enum Label {
     Unnamed,
     Named,
     Misnamed,
 }
 
-// What stands behind a rule's last blank: seven of the rule's fields.
+// Where a rule's name stands, without its quotes.
 #[derive(Clone, Copy)]
-pub struct Head {
-    pub named: u16,
-    pub span_start: u16,
-    pub span_end: u16,
-    pub name_from: u16,
-    pub name_length: u16,
-    pub operation: u16,
-    pub target: u16,
+pub struct Name {
+    pub from: u16,
+    pub length: u16,
 }
 
-// What a rule's line says but for its pattern: the kind and the place of a fault; a repeated name (the span of the first, its own);
-// or the place of the last blank and what stands behind it.
+// What stands behind a rule's last blank.
+#[derive(Clone, Copy)]
+pub struct Head {
+    pub name: Option<Name>,
+    pub name_span: Span,
+    pub target_state: Option<TargetState>,
+}
+
+// What a rule's line says but for its pattern: a name that a rule has already (the span of the first, its own); or the place of the last blank and
+// what stands behind it.
 #[derive(Clone, Copy)]
 pub enum Heading {
-    Faulty(u16, u16),
-    Repeated(u16, u16, u16, u16),
+    Repeated(Span, Span),
     Fresh(usize, Head),
 }
 
 // A pattern: a list of states that is not closed, one that is closed at a place, text to rewrite, or text as it stands.
-#[derive(Clone, Copy)]
+#[derive(Clone, Copy, PartialEq, Eq, Debug)]
 pub enum Body {
     Unclosed,
     Listed(usize),

@@ -5,35 +5,34 @@ ghost use Rattle.area.specs.Phrases.{before};
 ghost use Rattle.fault.specs.Phrases.{DoesRecords};
 ghost use Rattle.rules.specs.Rules.{refuses, record_rule};
 
-use area::{Appended, RULE_AREA, Rule, push_rule};
+use area::{Rule, push};
 use characters::whitespace::byte_at;
-use fault::Progress;
-use fault::kinds::REGEX_ERROR;
+use fault::{LexErrorKind, Stop};
 
 // Whether the engine refuses the rule at the position k. Past the end of the verdicts it passes.
+#[tactic(auto, unfolding(crate::specs::Rules::refuses))]
 fn refuses(verdicts: &[u8], k: usize) -> bool
     ensures { result ≡ refuses verdicts.now k }
 {
     byte_at(verdicts, k) != 0
 }
 
-// The rule x of the line from i to e, behind n2 rules.
+// The rule x of the line from i to e, behind as many as `count` says.
+#[tactic(auto, using(crate::proofs::Recording::rule_refused))]
 pub fn record_rule(
     verdicts: &[u8],
     i: u16,
     e: usize,
     x: Rule,
     area2: &mut [u8],
-    n2: u16,
-) -> Progress
-    requires { Held rule_format area2.old n2 }
-    ensures { DoesRecords rule_format (λ c2. record_rule verdicts.now c2 i e x) area2 n2 result }
+    count: &mut u16,
+) -> Result<usize, Stop>
+    requires { Held rule_format area2.old count.old }
+    ensures { DoesRecords rule_format (λ c2. record_rule verdicts.now c2 i e x) area2 count result }
 {
-    if refuses(verdicts, n2 as usize) {
-        return Progress::Bad(REGEX_ERROR, i, n2);
+    if refuses(verdicts, *count as usize) {
+        return Err(Stop::Fault(LexErrorKind::RegexError, i));
     }
-    match push_rule(area2, n2, x) {
-        Appended::Next(m) => Progress::Go(e, m),
-        Appended::Full => Progress::Full(RULE_AREA),
-    }
+    *count = push(area2, *count, x)?;
+    Ok(e)
 }

@@ -5,6 +5,7 @@ use mathlib.Core.List.{List, [], ◌∷◌, ◌++◌}
 use mathlib.Core.Option.{Option, none, some}
 use Prim.Native.Nat.{ℕ, ◌+◌}
 use lib.ListN.{length, take}
+use Rattle.std.specs.Prelude.{Result, Ok, Err}
 use lib.Seq.{take-length, take-append_seam}
 use Rattle.characters.specs.Whitespace.{at_whitespace}
 use Rattle.text.specs.Scan.{trim_end, trim_end_unescaped}
@@ -15,9 +16,10 @@ use Rattle.area.specs.declared.Fault.{Fault}
 use Rattle.area.specs.Areas.{room}
 use Rattle.area.specs.Contents.{append, contents, rule_format, text_format}
 use Rattle.area.proofs.Contents.{rule_sound, contents-length}
-use Rattle.fault.specs.Step.{Out, go, bad, full, next, onto, written, Does}
+use Rattle.fault.specs.declared.Stop.{Stop}
+use Rattle.fault.specs.Step.{Out, go, bad, full, next, onto, written, outcome, Does}
 use Rattle.fault.specs.Faults.{add_fault, add_repeat, DuplicateName, RegexError, VerbatimNotSupported}
-use Rattle.fault.proofs.Steps.{was_go}
+use Rattle.fault.proofs.Steps.{was_ok}
 use Rattle.fault.proofs.Yielding.{Yields, yields_onto}
 use Rattle.names.specs.Names.{DistinctNames}
 use Rattle.names.proofs.Distinct.{Unused, distinct_more}
@@ -25,17 +27,18 @@ use Rattle.section.specs.Request.{Request}
 use Rattle.escape.specs.Escape.{unescaped}
 use Rattle.rules.specs.declared.Head.{Head}
 use Rattle.rules.specs.declared.Heading.{Heading}
-use Rattle.rules.specs.declared.Heading.TheVariants.{Faulty, Repeated, Fresh}
-use Rattle.rules.specs.Heading.{heading_of}
+use Rattle.rules.specs.declared.Heading.TheVariants.{Repeated, Fresh}
+use Rattle.rules.specs.declared.LexError.{LexError}
+use Rattle.rules.specs.Heading.{heading_of, named_field, name_fields}
 use Rattle.rules.specs.Rules.{entries, refuses, record_rule}
-use Rattle.rules_section.specs.RulesSection.{Sheet, Caps, sheet, Text, StateList, rule_of, source_text, text_since, no_list, list_since, with_rule}
+use Rattle.rules_section.specs.declared.pattern.Text.{Text}
+use Rattle.rules_section.specs.declared.pattern.StateList.{StateList}
+use Rattle.rules_section.specs.RulesSection.{Sheet, Caps, sheet, rule_of, source_text, text_since, no_list, list_since, with_rule}
 use Rattle.rules_section.specs.RulesSection.{listed_rule, rewritten_rule, pattern, Ruled, sheet_of, with_sheet, with_faults, rule_as, rule, line}
 use Rattle.rules_section.proofs.Patterns.{pattern_cases}
 use Rattle.rules.proofs.Heads.{fresh_unused}
 use Rattle.rules_section.specs.declared.RuleCounts.{RuleCounts}
-use Rattle.rules_section.specs.declared.RuleProgress.{RuleProgress}
-use Rattle.rules_section.specs.declared.RuleProgress.TheVariants.{Go}
-use Rattle.rules_section.specs.Answers.{rule_progress, ruled_in, HeldRuled}
+use Rattle.rules_section.specs.Answers.{ruled_in, HeldRuled}
 
 -- what a line makes of the rules xs: the same rules, or one more, whose name none of them has
 pub data Extends (s : List ℕ) (xs ys : List Rule) : Type 0 where
@@ -57,7 +60,7 @@ YieldsExtended s xs rules o = Yields (λ _ t. Extends s xs (rules t)) o
 -- ---- the record
 
 module _ (asked : Request) (k : Caps) (i e : ℕ) (h : Head) (w : Sheet)
-    (unused : Unused asked.source w.rules h.named h.name_from h.name_length) where
+    (unused : Unused asked.source w.rules (named_field h.name) (name_fields h.name).from (name_fields h.name).length) where
   abbrev Sheets : Out Sheet → Type 0
   Sheets o = YieldsExtended asked.source w.rules (λ v. v.rules) o
 
@@ -105,11 +108,11 @@ module _ (asked : Request) (xs : List State) (k : Caps) (c6 i e : ℕ) (r : Rule
   faults_extend none = tt
   faults_extend (some fs) = same refl
 
-  as_extends : (x : Heading) → heading_of asked.source i (trim_end asked.source i e) xs r.rules ≡ x → Lines (rule_as asked xs k c6 i e x r)
+  as_extends : (x : Result Heading LexError) → heading_of asked.source i (trim_end asked.source i e) xs r.rules ≡ x → Lines (rule_as asked xs k c6 i e x r)
   unfolding rule_as
-  as_extends (Faulty kind at) q = tt
-  as_extends (Repeated c d a z) q = faults_extend (add_repeat c6 DuplicateName c d a z r.faults)
-  as_extends (Fresh b h) q =
+  as_extends (Err error) q = tt
+  as_extends (Ok (Repeated first again)) q = faults_extend (add_repeat c6 DuplicateName first.start first.end again.start again.end r.faults)
+  as_extends (Ok (Fresh b h)) q =
       let s = asked.source in
       let unused = fresh_unused s i (trim_end s i e) xs r.rules b h q in
       let c = trim_end_unescaped s i b in
@@ -127,17 +130,16 @@ module _ (asked : Request) (xs : List State) (k : Caps) (c6 i e : ℕ) (r : Rule
 -- ---- the areas before and after a line that goes on
 
 module _ (asked : Request) (xs : List State) (k : Caps) (c6 i e : ℕ) {l2 l3 l4 l6 v2 v3 v4 v6 : List ℕ} {q : RuleCounts} (h : HeldRuled l2 l3 l4 l6 q)
-    (r : RuleProgress)
-    (d : Does (HeldRuled v2 v3 v4 v6) (line asked xs k c6 i e) (ruled_in l2 l3 l4 l6 q) (ruled_in v2 v3 v4 v6) (rule_progress r)) (j : ℕ) (p : RuleCounts)
-    (z : r ≡ Go j p) where
-  extended : Extends asked.source (contents rule_format l2 q.rules) (contents rule_format v2 p.rules)
-  extended = subst (Lines asked xs k c6 i e (ruled_in l2 l3 l4 l6 q)) (was_go d (ap rule_progress z)) (line_extends asked xs k c6 i e (ruled_in l2 l3 l4 l6 q))
+    (r : Result ℕ Stop) (p : RuleCounts)
+    (d : Does (HeldRuled v2 v3 v4 v6) (line asked xs k c6 i e) (ruled_in l2 l3 l4 l6 q) (ruled_in v2 v3 v4 v6) (outcome r p)) {j : ℕ} (z : r ≡ Ok j) where
+  extended : Extends asked.source (contents rule_format l2 q.sheet.rules) (contents rule_format v2 p.sheet.rules)
+  extended = subst (Lines asked xs k c6 i e (ruled_in l2 l3 l4 l6 q)) (was_ok r p d z) (line_extends asked xs k c6 i e (ruled_in l2 l3 l4 l6 q))
 
   -- the rules that were there before it are the first ones
-  pub rules_kept : take q.rules (contents rule_format v2 p.rules) ≡ contents rule_format l2 q.rules
+  pub rules_kept : take q.sheet.rules (contents rule_format v2 p.sheet.rules) ≡ contents rule_format l2 q.sheet.rules
   rules_kept =
-      ap (λ (n : ℕ). take n (contents rule_format v2 p.rules)) (sym (contents-length rule_sound h.rules)) ∙ extends_first extended
+      ap (λ (n : ℕ). take n (contents rule_format v2 p.sheet.rules)) (sym (contents-length rule_sound h.sheet.rules)) ∙ extends_first extended
 
   -- distinct names stay distinct
-  pub names_kept : DistinctNames asked.source (contents rule_format l2 q.rules) → DistinctNames asked.source (contents rule_format v2 p.rules)
+  pub names_kept : DistinctNames asked.source (contents rule_format l2 q.sheet.rules) → DistinctNames asked.source (contents rule_format v2 p.sheet.rules)
   names_kept names = extends_distinct names extended

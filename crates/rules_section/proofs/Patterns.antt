@@ -5,18 +5,20 @@ use mathlib.Core.List.{List}
 use Prim.Native.Nat.{ℕ, ◌+◌, ◌-◌, ◌≤◌, ◌<◌}
 use native.Mathlib.Omega.{arith}
 use borrow.Author.Rules.{rules}
-use mir.Syntax.{w16, w64}
-use mir.Val.{Fits}
 use lib.ListN.{length}
+use Rattle.std.specs.Prelude.{Result, Ok, Err}
 use Rattle.area.specs.declared.State.{State}
 use Rattle.area.specs.declared.Rule.{Rule}
-use Rattle.area.specs.declared.Appended.{Appended}
+use Rattle.area.specs.declared.AreaFull.{AreaFull}
 use Rattle.area.specs.Contents.{append, contents, rule_format, entry_format, text_format, Grows, Held}
 use Rattle.area.proofs.Contents.{contents-length, rule_sound, entry_sound, text_sound}
-use Rattle.fault.specs.declared.Progress.{Progress}
-use Rattle.fault.specs.Step.{Out, bad, full, next, onto, written, Does, progress}
+use Rattle.fault.specs.declared.Stop.{Stop}
+use Rattle.fault.specs.declared.Stop.TheVariants.{Fault, Full}
+use Rattle.fault.specs.declared.kinds.LexErrorKind.TheVariants as Kind
+use Rattle.fault.specs.Step.{Out, bad, next, onto, written, outcome, Does}
 use Rattle.fault.specs.Faults.{InvalidStartState}
-use Rattle.fault.proofs.Steps.{does_bad, does_full, does_onto, was_go, was_bad, was_full, written_next, written_full}
+use Rattle.fault.proofs.Steps.{does_bad, does_full, does_err, does_onto, onto_outcome, was_ok, was_err, holds_ok, holds_err, next_err, onto_err}
+use Rattle.fault.proofs.Steps.{written_next, written_full}
 use Rattle.section.specs.Request.{Request}
 use Rattle.escape.specs.Escape.{unescaped}
 use Rattle.rules.specs.declared.Head.{Head}
@@ -25,11 +27,12 @@ use Rattle.rules.specs.declared.Body.TheVariants.{Unclosed, Listed, Rewritten, P
 use Rattle.rules.specs.Heading.{body_of}
 use Rattle.rules.proofs.Patterns.{listed_from, listed_to}
 use Rattle.rules.specs.Rules.{entries, record_rule}
-use Rattle.rules_section.specs.RulesSection.{Sheet, sheet, Caps, Text, StateList, rule_of, source_text, text_since, no_list, list_since, with_rule}
+use Rattle.rules_section.specs.declared.pattern.Text.{Text}
+use Rattle.rules_section.specs.declared.pattern.StateList.{StateList}
+use Rattle.rules_section.specs.RulesSection.{Sheet, sheet, Caps, rule_of, source_text, text_since, no_list, list_since, with_rule}
 use Rattle.rules_section.specs.RulesSection.{listed_rule, rewritten_rule, pattern}
 use Rattle.rules_section.specs.declared.SheetCounts.{SheetCounts}
-use Rattle.rules_section.specs.declared.SheetProgress.{SheetProgress}
-use Rattle.rules_section.specs.Answers.{sheet_progress, rules_sheet_in, HeldSheet, sheet_counts, rule_caps_of}
+use Rattle.rules_section.specs.Answers.{rules_sheet_in, HeldSheet, sheet_counts, rule_caps_of}
 
 -- ---- what becomes of a pattern, by what it is
 
@@ -72,16 +75,7 @@ module _ (s : List ℕ) (i c : ℕ) (b : Body) (is : b ≡ body_of s i c) (g : �
   pub list_closed : g + 1 ≤ c
   list_closed = omega (arith, listed_to s i c b is g q)
 
-  pub list_place : c ≤ length s → length s ≤ 65535 → Fits w64 (g + 1)
-  list_place h k = record { fits = omega (arith, listed_to s i c b is g q) }
-
-  pub list_field : c ≤ length s → length s ≤ 65535 → Fits w16 (g + 1)
-  list_field h k = record { fits = omega (arith, listed_to s i c b is g q) }
-
 -- ---- the ways through a pattern
-
-pub rules_held : {l2 l3 l4 : List ℕ} {q : SheetCounts} → HeldSheet l2 l3 l4 q → Held rule_format l2 q.rules
-rules_held h = h.rules
 
 module _ (asked : Request) (i e : ℕ) (h : Head) (c : ℕ) (xs : List State) (l2 l3 l4 : List ℕ) (q : SheetCounts) (held : HeldSheet l2 l3 l4 q)
     (b : Body) (is : b ≡ body_of asked.source i c) where
@@ -91,8 +85,8 @@ module _ (asked : Request) (i e : ℕ) (h : Head) (c : ℕ) (xs : List State) (l
   abbrev before : Sheet
   before = rules_sheet_in l2 l3 l4 q
 
-  abbrev Done : List ℕ → List ℕ → List ℕ → Out SheetCounts → Type 0
-  Done v2 v3 v4 o = Does (HeldSheet v2 v3 v4) (pattern asked caps i e h c xs) before (rules_sheet_in v2 v3 v4) o
+  abbrev Done : List ℕ → List ℕ → List ℕ → Result ℕ Stop → SheetCounts → Type 0
+  Done v2 v3 v4 r p = Does (HeldSheet v2 v3 v4) (pattern asked caps i e h c xs) before (rules_sheet_in v2 v3 v4) (outcome r p)
 
   -- the rule of a text and a list, behind what is written
   abbrev made : Text → StateList → Sheet → Out Sheet
@@ -124,80 +118,68 @@ module _ (asked : Request) (i e : ℕ) (h : Head) (c : ℕ) (xs : List State) (l
   text_count : length (contents text_format l4 q.text) ≡ q.text
   text_count = contents-length text_sound held.text
 
-  pub pattern_unclosed : b ≡ Unclosed → Done l2 l3 l4 (bad InvalidStartState i q)
+  pub pattern_unclosed : b ≡ Unclosed → Done l2 l3 l4 (Err (Fault Kind.InvalidStartState i)) q
   pattern_unclosed z = does_bad (pattern_is_unclosed asked caps i e h c xs before (sym is ∙ z)) held
 
   -- the record was made, of the rule x
-  module _ (x : Rule) (p : Progress) {v2 : List ℕ}
+  module _ (x : Rule) {v2 : List ℕ} (r : Result ℕ Stop) (m : ℕ)
       (d : Does (Held rule_format v2) (record_rule asked.verdicts (length l2) i e x) (contents rule_format l2 q.rules) (contents rule_format v2)
-      (progress p)) (r : SheetProgress) where
-    recorded : (l3' l4' : List ℕ) (m t : ℕ) → Held entry_format l3' m → Held text_format l4' t → sheet_progress r ≡ onto (λ n. sheet_counts n m t) (progress p)
-        → pattern asked caps i e h c xs before ≡ onto (λ rs. sheet rs (contents entry_format l3' m) (contents text_format l4' t))
+      (outcome r m)) where
+    recorded : (l3' l4' : List ℕ) (n t : ℕ) → Held entry_format l3' n → Held text_format l4' t
+        → pattern asked caps i e h c xs before ≡ onto (λ rs. sheet rs (contents entry_format l3' n) (contents text_format l4' t))
         (record_rule asked.verdicts (length l2) i e x (contents rule_format l2 q.rules))
-        → Done v2 l3' l4' (sheet_progress r)
-    recorded l3' l4' m t he ht z y =
-        subst (Done v2 l3' l4') (sym z)
-        (does_onto (λ rs. sheet rs (contents entry_format l3' m) (contents text_format l4' t)) (λ n. sheet_counts n m t) (rules_sheet_in v2 l3' l4') y (λ n. refl)
-        (λ n g. record { rules = g; entries = he; text = ht }) (progress p) d)
+        → Done v2 l3' l4' r (sheet_counts m n t)
+    recorded l3' l4' n t he ht y =
+        subst (Does (HeldSheet v2 l3' l4') (pattern asked caps i e h c xs) before (rules_sheet_in v2 l3' l4')) (onto_outcome (λ k. sheet_counts k n t) r m)
+        (does_onto (λ rs. sheet rs (contents entry_format l3' n) (contents text_format l4' t)) (λ k. sheet_counts k n t) (rules_sheet_in v2 l3' l4') y (λ k. refl)
+        (λ k g. record { rules = g; entries = he; text = ht }) (outcome r m) d)
 
-    pub pattern_plain : b ≡ Plain → x ≡ rule_of h q.rules (source_text i c) (record { from = q.entries; count = 0 })
-        → sheet_progress r ≡ onto (λ n. sheet_counts n q.entries q.text) (progress p) → Done v2 l3 l4 (sheet_progress r)
-    unfolding with_rule
-    pattern_plain z y w =
-        recorded l3 l4 q.entries q.text held.entries held.text w
-        (pattern_is_plain asked caps i e h c xs before (sym is ∙ z) ∙ rw (rule_count, entry_count_lem, ← y))
-
-    module _ (g : ℕ) (z : b ≡ Listed g) {v3 : List ℕ} (o : Progress)
-        (n : Does (Held entry_format v3) (entries asked.source (length l3) xs i g) (contents entry_format l3 q.entries) (contents entry_format v3)
-        (progress o)) (j m : ℕ) (went : o ≡ Progress.Go j m) where
-      pub pattern_listed : (k : ℕ) → x ≡ rule_of h q.rules (source_text (g + 1) c) (record { from = q.entries; count = k }) → k ≡ m - q.entries
-          → sheet_progress r ≡ onto (λ n. sheet_counts n m q.text) (progress p) → Done v2 v3 l4 (sheet_progress r)
+    module _ (t : Text) (l : StateList) (is_rule : x ≡ rule_of h q.rules t l) where
+      pub pattern_plain : b ≡ Plain → t ≡ source_text i c → l ≡ record { from = q.entries; count = q.entries - q.entries }
+          → Done v2 l3 l4 r (sheet_counts m q.entries q.text)
       unfolding with_rule
-      pattern_listed k y u w =
-          let more : length (contents entry_format v3 m) ≡ m = contents-length entry_sound (n.goes j m (ap progress went)) in
-          recorded v3 l4 m q.text (n.goes j m (ap progress went)) held.text w
-          (is_listed g z ∙ ap (after_list g) (was_go n (ap progress went)) ∙ rw (more, rule_count, entry_count_lem, ← u, ← y))
+      pattern_plain z is_text is_list =
+          let none : q.entries - q.entries ≡ 0 = omega arith in
+          recorded l3 l4 q.entries q.text held.entries held.text
+          (pattern_is_plain asked caps i e h c xs before (sym is ∙ z) ∙ rw (rule_count, entry_count_lem, is_rule, is_text, is_list, none))
 
-    module _ (z : b ≡ Rewritten) (o : Appended) {v4 : List ℕ}
-        (n : Grows text_format (append text_format (length l4) (unescaped asked.source asked.options.flags i c)) l4 q.text o v4) (m : ℕ)
-        (went : o ≡ Appended.Next m) where
-      pub pattern_rewritten : (k : ℕ) → x ≡ rule_of h q.rules (record { place = 1; from = q.text; length = k }) (record { from = q.entries; count = 0 })
-          → k ≡ m - q.text → sheet_progress r ≡ onto (λ n. sheet_counts n q.entries m) (progress p) → Done v2 l3 v4 (sheet_progress r)
-      unfolding with_rule
-      pattern_rewritten k y u w =
-          let more : length (contents text_format v4 m) ≡ m = contents-length text_sound (n.held m went) in
-          recorded l3 v4 q.entries m held.entries (n.held m went) w
-          (is_rewritten_lem z ∙ ap after_text (written_next text_format 4 e _ v4 o n.says went) ∙ rw (more, rule_count, entry_count_lem, text_count, ← u, ← y))
+      module _ (g : ℕ) (z : b ≡ Listed g) {v3 : List ℕ} (o : Result ℕ Stop) (n : ℕ)
+          (listed : Does (Held entry_format v3) (entries asked.source (length l3) xs i g) (contents entry_format l3 q.entries) (contents entry_format v3)
+          (outcome o n)) {j : ℕ} (went : o ≡ Ok j) where
+        pub pattern_listed : t ≡ source_text (g + 1) c → l ≡ record { from = q.entries; count = n - q.entries } → Done v2 v3 l4 r (sheet_counts m n q.text)
+        unfolding with_rule
+        pattern_listed is_text is_list =
+            let more : length (contents entry_format v3 n) ≡ n = contents-length entry_sound (holds_ok o n listed went) in
+            recorded v3 l4 n q.text (holds_ok o n listed went) held.text
+            (is_listed g z ∙ ap (after_list g) (was_ok o n listed went) ∙ rw (more, rule_count, entry_count_lem, is_rule, is_text, is_list))
 
-  module _ (g : ℕ) (z : b ≡ Listed g) {v3 : List ℕ} (o : Progress)
-      (n : Does (Held entry_format v3) (entries asked.source (length l3) xs i g) (contents entry_format l3 q.entries) (contents entry_format v3)
-      (progress o)) where
-    pub pattern_list_bad : (kind at m : ℕ) → o ≡ Progress.Bad kind at m → Done l2 v3 l4 (bad kind at (sheet_counts q.rules m q.text))
-    pattern_list_bad kind at m y =
-        does_bad (is_listed g z ∙ ap (after_list g) (was_bad n (ap progress y)))
-        (record { rules = held.rules; entries = n.ends kind at m (ap progress y); text = held.text })
+      module _ (z : b ≡ Rewritten) (o : Result ℕ AreaFull) {v4 : List ℕ}
+          (grown : Grows text_format (append text_format (length l4) (unescaped asked.source asked.options.flags i c)) l4 q.text o v4) (n : ℕ) (went : o ≡ Ok n) where
+        pub pattern_rewritten : t ≡ record { place = 1; from = q.text; length = n - q.text } → l ≡ record { from = q.entries; count = q.entries - q.entries }
+            → Done v2 l3 v4 r (sheet_counts m q.entries n)
+        unfolding with_rule
+        pattern_rewritten is_text is_list =
+            let more : length (contents text_format v4 n) ≡ n = contents-length text_sound (grown.held n went) in
+            let none : q.entries - q.entries ≡ 0 = omega arith in
+            recorded l3 v4 q.entries n held.entries (grown.held n went)
+            (is_rewritten_lem z ∙ ap after_text (written_next text_format 4 e _ v4 o grown.says went)
+            ∙ rw (more, rule_count, entry_count_lem, text_count, is_rule, is_text, is_list, none))
 
-    pub pattern_list_full : (k : ℕ) → o ≡ Progress.Full k → Done l2 v3 l4 (full k)
-    pattern_list_full k y = does_full (is_listed g z ∙ ap (after_list g) (was_full n (ap progress y)))
+  pub pattern_list_err : (g : ℕ) → b ≡ Listed g → {v3 : List ℕ} (o : Result ℕ Stop) (n : ℕ)
+      → Does (Held entry_format v3) (entries asked.source (length l3) xs i g) (contents entry_format l3 q.entries) (contents entry_format v3) (outcome o n)
+      → (y : Stop) → o ≡ Err y → Done l2 v3 l4 (Err y) (sheet_counts q.rules n q.text)
+  pattern_list_err g z {v3} o n listed y ended =
+      let ids = contents entry_format v3 n in
+      let lift : List ℕ → Sheet = λ ids. sheet before.rules ids before.text in
+      let on : ℕ → Sheet → Out Sheet = λ _ v. made (source_text (g + 1) c) (list_since before v) v in
+      does_err y _
+      (is_listed g z ∙ ap (after_list g) (was_err o n listed y ended) ∙ ap (λ (x : Out Sheet). next x on) (onto_err lift y ids) ∙ next_err y (lift ids) on)
+      (λ f. record { rules = held.rules; entries = holds_err o n listed y ended f; text = held.text })
 
-  module _ (z : b ≡ Rewritten) (o : Appended) {v4 : List ℕ}
-      (n : Grows text_format (append text_format (length l4) (unescaped asked.source asked.options.flags i c)) l4 q.text o v4) where
-    pub pattern_text_full : o ≡ Appended.Full → Done l2 l3 v4 (full 4)
-    pattern_text_full y = does_full (is_rewritten_lem z ∙ ap after_text (written_full text_format 4 e _ v4 o n.says y))
+  pub pattern_text_full : b ≡ Rewritten → {v4 : List ℕ} (o : Result ℕ AreaFull)
+      → Grows text_format (append text_format (length l4) (unescaped asked.source asked.options.flags i c)) l4 q.text o v4
+      → (p : SheetCounts) {full : AreaFull} → o ≡ Err full → Done l2 l3 v4 (Err (Full full.0)) p
+  pattern_text_full z {v4} o grown p {full} y =
+      rw (grown.names full y) (does_full (is_rewritten_lem z ∙ ap after_text (written_full text_format 4 e _ v4 o grown.says y)))
 
-pub ruleset patterning = (
-  rules,
-  rules_held,
-  listed_from,
-  list_to,
-  list_closed,
-  list_place,
-  list_field,
-  pattern_unclosed,
-  pattern_plain,
-  pattern_listed,
-  pattern_rewritten,
-  pattern_list_bad,
-  pattern_list_full,
-  pattern_text_full,
-)
+pub ruleset patterning = (rules, listed_from, list_to, list_closed, pattern_unclosed)

@@ -2,23 +2,28 @@
 use mathlib.Core.Path.{◌≡◌, refl, sym, ap, subst, ◌∙◌}
 use mathlib.Core.Bool.{Bool, true, false}
 use mathlib.Core.List.{List}
-use mathlib.Core.Option.{Option}
+use mathlib.Core.Option as Math
 use Prim.Native.Nat.{ℕ, ◌-◌, ◌≤◌, ◌<◌}
 use native.Mathlib.Omega.{arith}
 use borrow.Author.Rules.{rules as usual}
 use lib.ListN.{length, take}
+use Rattle.std.specs.Prelude.{Result, Ok, Err}
 use Rattle.characters.specs.Walk.{Between}
 use Rattle.characters.specs.Whitespace.{at_whitespace, line_end_len}
 use Rattle.text.specs.Scan.{line_end, trim_end, trim_end_unescaped}
 use Rattle.area.specs.declared.State.{State}
 use Rattle.area.specs.declared.Rule.{Rule}
-use Rattle.area.specs.declared.Fault.{Fault}
-use Rattle.area.specs.declared.Appended.{Appended}
-use Rattle.area.specs.Contents.{contents, fault_format, rule_format}
-use Rattle.fault.specs.Step.{Out, go, bad, full, next, onto, written, Does}
-use Rattle.fault.specs.Faults.{add_fault, add_repeat, DuplicateName, VerbatimNotSupported, RoutinesNotSupported, GrowsFaults}
-use Rattle.fault.proofs.Steps.{Loops, loops_stop, loops_next, loops_bad, loops_full, going_start, does_go, does_bad, does_full, does_onto}
-use Rattle.fault.proofs.Steps.{written_next, written_full, then_go, then_bad, then_full}
+use Rattle.area.specs.declared.Fault.{Fault as FaultSpan}
+use Rattle.area.specs.declared.AreaFull.{AreaFull}
+use Rattle.area.specs.Contents.{contents, fault_format, rule_format, Held}
+use Rattle.fault.specs.declared.Span.{Span}
+use Rattle.fault.specs.declared.Stop.{Stop}
+use Rattle.fault.specs.declared.Stop.TheVariants.{Fault, Full}
+use Rattle.fault.specs.declared.kinds.LexErrorKind.TheVariants as Kind
+use Rattle.fault.specs.Step.{Out, go, next, onto, written, outcome, Does}
+use Rattle.fault.specs.Faults.{add_fault, add_repeat, DuplicateName, VerbatimNotSupported, GrowsFaults}
+use Rattle.fault.proofs.Steps.{Loops, loops_stop, loops_next, loops_err, going_start, does_go, does_bad, does_full, does_err, does_onto, onto_outcome}
+use Rattle.fault.proofs.Steps.{holds_ok, holds_err, written_next, written_full, then_ok, then_err, next_err}
 use Rattle.names.specs.Names.{DistinctNames}
 use Rattle.names.specs.Marks.{Marked, NamesHeld}
 use Rattle.section.specs.Request.{Request}
@@ -26,43 +31,40 @@ use Rattle.section.specs.Section.{in_section, to_rule, has_routines}
 use Rattle.section.specs.Reader.{NextLine}
 use Rattle.section.specs.declared.reader.Line.{Line}
 use Rattle.section.proofs.Lines.{in_section_inside, line_has_byte, rule_starts}
+use Rattle.rules.specs.declared.LexError.{LexError}
 use Rattle.rules.specs.declared.Head.{Head}
 use Rattle.rules.specs.declared.Heading.{Heading}
-use Rattle.rules.specs.declared.Heading.TheVariants.{Faulty, Repeated, Fresh}
+use Rattle.rules.specs.declared.Heading.TheVariants.{Repeated, Fresh}
 use Rattle.rules.specs.Heading.{heading_of}
-use Rattle.rules_section.specs.RulesSection.{Ruled, Caps, with_sheet, with_faults, pattern, rule_as, rule, line, next_rule, rules, routines, rules_section}
 use Rattle.rules.proofs.Heads.{fresh_from, fresh_to}
-use Rattle.rules_section.specs.declared.SheetProgress.{SheetProgress}
+use Rattle.rules_section.specs.RulesSection.{Ruled, Caps, with_sheet, with_faults, pattern, rule_as, rule, line, next_rule, rules, routines, rules_section}
+use Rattle.rules_section.specs.declared.SheetCounts.{SheetCounts}
 use Rattle.rules_section.specs.declared.RuleCounts.{RuleCounts}
-use Rattle.rules_section.specs.declared.RuleProgress.{RuleProgress}
-use Rattle.rules_section.specs.declared.RuleProgress.TheVariants.{Go, Bad, Full}
-use Rattle.rules_section.specs.Answers.{sheet_progress, rules_sheet_in, HeldSheet, sheet_counts, rule_progress, ruled_in, HeldRuled, rule_counts, rule_caps_of}
-use Rattle.rules_section.specs.Answers.{after_faults}
+use Rattle.rules_section.specs.Answers.{rules_sheet_in, HeldSheet, ruled_in, HeldRuled, rule_counts, rule_caps_of}
 use Rattle.rules_section.proofs.Extending.{rules_kept, names_kept}
 
 -- ---- a rule
 
-pub sheet_held : {l2 l3 l4 l6 : List ℕ} {q : RuleCounts} → HeldRuled l2 l3 l4 l6 q → HeldSheet l2 l3 l4 (sheet_counts q.rules q.entries q.text)
-sheet_held h = record { rules = h.rules; entries = h.entries; text = h.text }
-
 -- a step whose outcome is that the faults grow by g
-faults_grown : {f : Ruled → Out Ruled} {g : List Fault → Option (List Fault)} {l2 l3 l4 l6 v6 : List ℕ} {q : RuleCounts} (h : HeldRuled l2 l3 l4 l6 q)
-    (e : ℕ) (p : Appended) (r : RuleProgress)
-    → f (ruled_in l2 l3 l4 l6 q) ≡ onto (with_faults (ruled_in l2 l3 l4 l6 q)) (written 6 e (g (contents fault_format l6 q.faults)))
-    → GrowsFaults g l6 q.faults p v6 → rule_progress r ≡ after_faults e q p
-    → Does (HeldRuled l2 l3 l4 v6) f (ruled_in l2 l3 l4 l6 q) (ruled_in l2 l3 l4 v6) (rule_progress r)
-faults_grown {f} {g} {l2} {l3} {l4} {l6} {v6} {q} h e p r is d w =
-    subst (Does (HeldRuled l2 l3 l4 v6) f (ruled_in l2 l3 l4 l6 q) (ruled_in l2 l3 l4 v6)) (sym w) (by p refl)
-  where
-    by : (x : Appended) → p ≡ x → Does (HeldRuled l2 l3 l4 v6) f (ruled_in l2 l3 l4 l6 q) (ruled_in l2 l3 l4 v6) (after_faults e q x)
-    by (Appended.Next m) z =
-        does_go (is ∙ ap (onto (with_faults (ruled_in l2 l3 l4 l6 q))) (written_next fault_format 6 e _ v6 p d.says z))
-        (record { rules = h.rules; entries = h.entries; text = h.text; faults = d.held m z })
-    by Appended.Full z = does_full (is ∙ ap (onto (with_faults (ruled_in l2 l3 l4 l6 q))) (written_full fault_format 6 e _ v6 p d.says z))
+module _ (f : Ruled → Out Ruled) (g : List FaultSpan → Math.Option (List FaultSpan)) {l2 l3 l4 l6 v6 : List ℕ} {q : RuleCounts} (h : HeldRuled l2 l3 l4 l6 q)
+    (e : ℕ) (p : Result ℕ AreaFull)
+    (is : f (ruled_in l2 l3 l4 l6 q) ≡ onto (with_faults (ruled_in l2 l3 l4 l6 q)) (written 6 e (g (contents fault_format l6 q.faults))))
+    (d : GrowsFaults g l6 q.faults p v6) where
+  abbrev Grown : Result ℕ Stop → RuleCounts → Type 0
+  Grown r n = Does (HeldRuled l2 l3 l4 v6) f (ruled_in l2 l3 l4 l6 q) (ruled_in l2 l3 l4 v6) (outcome r n)
 
-pub fresh_inside : (s : List ℕ) (i e t : ℕ) (xs : List State) (rs : List Rule) → Between i e (trim_end s i e) t → (x : Heading) → x ≡ heading_of s i t xs rs
-    → (k : ℕ) (h : Head) → x ≡ Fresh k h → e ≤ length s → k ≤ length s
-fresh_inside s i e t xs rs b x is k h z l = omega (arith, fresh_to s i t xs rs x is k h z, b.to)
+  faults_grown : {m : ℕ} → p ≡ Ok m → Grown (Ok e) (rule_counts q.sheet m)
+  faults_grown {m} z =
+      does_go (is ∙ ap (onto (with_faults (ruled_in l2 l3 l4 l6 q))) (written_next fault_format 6 e _ v6 p d.says z))
+      (record { sheet = h.sheet; faults = d.held m z })
+
+  faults_full : (n : RuleCounts) {full : AreaFull} → p ≡ Err full → Grown (Err (Full full.0)) n
+  faults_full n {full} z =
+      rw (d.names full z) (does_full (is ∙ ap (onto (with_faults (ruled_in l2 l3 l4 l6 q))) (written_full fault_format 6 e _ v6 p d.says z)))
+
+pub fresh_inside : (s : List ℕ) (i e t : ℕ) (xs : List State) (rs : List Rule) → Between i e (trim_end s i e) t → (x : Result Heading LexError)
+    → x ≡ heading_of s i t xs rs → {z : Heading} → x ≡ Ok z → (k : ℕ) (h : Head) → z ≡ Fresh k h → e ≤ length s → k ≤ length s
+fresh_inside s i e t xs rs b x is was k h y l = omega (arith, fresh_to s i t xs rs x is was k h y, b.to)
 
 module _ (asked : Request) (xs : List State) (i e : ℕ) (l2 l3 l4 l6 : List ℕ) (q : RuleCounts) (h : HeldRuled l2 l3 l4 l6 q) where
   abbrev caps : Caps
@@ -71,58 +73,72 @@ module _ (asked : Request) (xs : List State) (i e : ℕ) (l2 l3 l4 l6 : List ℕ
   abbrev before : Ruled
   before = ruled_in l2 l3 l4 l6 q
 
-  module _ (t : ℕ) (b : Between i e (trim_end asked.source i e) t) (x : Heading)
-      (is : x ≡ heading_of asked.source i t xs (contents rule_format l2 q.rules)) where
-    abbrev Done : List ℕ → List ℕ → List ℕ → List ℕ → Out RuleCounts → Type 0
-    Done v2 v3 v4 v6 o = Does (HeldRuled v2 v3 v4 v6) (rule asked xs caps (length l6) i e) before (ruled_in v2 v3 v4 v6) o
+  module _ (t : ℕ) (b : Between i e (trim_end asked.source i e) t) (x : Result Heading LexError)
+      (is : x ≡ heading_of asked.source i t xs (contents rule_format l2 q.sheet.rules)) where
+    abbrev Done : List ℕ → List ℕ → List ℕ → List ℕ → Result ℕ Stop → RuleCounts → Type 0
+    Done v2 v3 v4 v6 r p = Does (HeldRuled v2 v3 v4 v6) (rule asked xs caps (length l6) i e) before (ruled_in v2 v3 v4 v6) (outcome r p)
 
-    step : (y : Heading) → x ≡ y → rule asked xs caps (length l6) i e before ≡ rule_as asked xs caps (length l6) i e y before
+    step : (y : Result Heading LexError) → x ≡ y → rule asked xs caps (length l6) i e before ≡ rule_as asked xs caps (length l6) i e y before
     unfolding rule
-    step y z = rw (← b.is) (ap (λ (k : Heading). rule_as asked xs caps (length l6) i e k before) (sym is ∙ z))
+    step y z = rw (← b.is) (ap (λ (k : Result Heading LexError). rule_as asked xs caps (length l6) i e k before) (sym is ∙ z))
 
-    pub rule_faulty : (kind at : ℕ) → x ≡ Faulty kind at → Done l2 l3 l4 l6 (bad kind at q)
+    pub rule_wrong : (error : LexError) → x ≡ Err error → Done l2 l3 l4 l6 (Err (Fault error.kind error.at)) q
     unfolding rule_as
-    rule_faulty kind at z = does_bad (step (Faulty kind at) z) h
+    rule_wrong error z = does_bad (step (Err error) z) h
 
-    pub rule_repeated : (c d a y : ℕ) → x ≡ Repeated c d a y → (p : Appended) (v6 : List ℕ) (r : RuleProgress)
-        → GrowsFaults (add_repeat (length l6) DuplicateName c d a y) l6 q.faults p v6
-        → rule_progress r ≡ after_faults e q p → Done l2 l3 l4 v6 (rule_progress r)
-    unfolding rule_as
-    rule_repeated c d a y z p v6 r g w = faults_grown h e p r (step (Repeated c d a y) z) g w
+    module _ {heading : Heading} (was : x ≡ Ok heading) where
+      module _ (first again : Span) (z : heading ≡ Repeated first again) (p : Result ℕ AreaFull) {v6 : List ℕ}
+          (g : GrowsFaults (add_repeat (length l6) DuplicateName first.start first.end again.start again.end) l6 q.faults p v6) where
+        repeats : rule asked xs caps (length l6) i e before
+            ≡ onto (with_faults before)
+            (written 6 e (add_repeat (length l6) DuplicateName first.start first.end again.start again.end (contents fault_format l6 q.faults)))
+        unfolding rule_as
+        repeats = step (Ok (Repeated first again)) (was ∙ ap Ok z)
 
-    module _ (k : ℕ) (hd : Head) (z : x ≡ Fresh k hd) where
-      pub rule_fresh : (c : ℕ) → Between i (length asked.source) (trim_end_unescaped asked.source i k) c → {v2 v3 v4 : List ℕ} (p : SheetProgress)
-          → Does (HeldSheet v2 v3 v4) (pattern asked caps i e hd c xs) (rules_sheet_in l2 l3 l4 (sheet_counts q.rules q.entries q.text))
-          (rules_sheet_in v2 v3 v4) (sheet_progress p)
-          → (r : RuleProgress) → rule_progress r ≡ onto (λ w. rule_counts w.rules w.entries w.text q.faults) (sheet_progress p)
-          → Done v2 v3 v4 l6 (rule_progress r)
+        pub rule_repeated : {m : ℕ} → p ≡ Ok m → Done l2 l3 l4 v6 (Ok e) (rule_counts q.sheet m)
+        rule_repeated y = faults_grown (rule asked xs caps (length l6) i e) (add_repeat (length l6) DuplicateName first.start first.end again.start again.end) h e p repeats g y
+
+        pub rule_no_room : (n : RuleCounts) {full : AreaFull} → p ≡ Err full → Done l2 l3 l4 v6 (Err (Full full.0)) n
+        rule_no_room n y = faults_full (rule asked xs caps (length l6) i e) (add_repeat (length l6) DuplicateName first.start first.end again.start again.end) h e p repeats g n y
+
+      pub rule_fresh : (k : ℕ) (hd : Head) → heading ≡ Fresh k hd → (c : ℕ) → Between i (length asked.source) (trim_end_unescaped asked.source i k) c
+          → {v2 v3 v4 : List ℕ} (r : Result ℕ Stop) (w : SheetCounts)
+          → Does (HeldSheet v2 v3 v4) (pattern asked caps i e hd c xs) (rules_sheet_in l2 l3 l4 q.sheet) (rules_sheet_in v2 v3 v4) (outcome r w)
+          → Done v2 v3 v4 l6 r (rule_counts w q.faults)
       unfolding rule_as
-      rule_fresh c m {v2} {v3} {v4} p d r w =
-          subst (Done v2 v3 v4 l6) (sym w)
-          (does_onto (with_sheet before) (λ w. rule_counts w.rules w.entries w.text q.faults) (ruled_in v2 v3 v4 l6)
-          (step (Fresh k hd) z ∙ rw (← m.is))
-          (λ w. refl) (λ w g. record { rules = g.rules; entries = g.entries; text = g.text; faults = h.faults }) (sheet_progress p) d)
+      rule_fresh k hd z c m {v2} {v3} {v4} r w d =
+          subst (Does (HeldRuled v2 v3 v4 l6) (rule asked xs caps (length l6) i e) before (ruled_in v2 v3 v4 l6)) (onto_outcome (λ n. rule_counts n q.faults) r w)
+          (does_onto (with_sheet before) (λ n. rule_counts n q.faults) (ruled_in v2 v3 v4 l6)
+          (step (Ok (Fresh k hd)) (was ∙ ap Ok z) ∙ rw (← m.is))
+          (λ n. refl) (λ n g. record { sheet = g; faults = h.faults }) (outcome r w) d)
 
   -- ---- a line
 
   module _ (t : Bool) (is : t ≡ at_whitespace asked.source i) where
-    abbrev Lined : List ℕ → List ℕ → List ℕ → List ℕ → Out RuleCounts → Type 0
-    Lined v2 v3 v4 v6 o = Does (HeldRuled v2 v3 v4 v6) (line asked xs caps (length l6) i e) before (ruled_in v2 v3 v4 v6) o
+    abbrev Lined : List ℕ → List ℕ → List ℕ → List ℕ → Result ℕ Stop → RuleCounts → Type 0
+    Lined v2 v3 v4 v6 r p = Does (HeldRuled v2 v3 v4 v6) (line asked xs caps (length l6) i e) before (ruled_in v2 v3 v4 v6) (outcome r p)
 
-    pub line_verbatim : t ≡ true → (p : Appended) (v6 : List ℕ) (r : RuleProgress)
-        → GrowsFaults (add_fault (length l6) VerbatimNotSupported i e) l6 q.faults p v6
-        → rule_progress r ≡ after_faults e q p → Lined l2 l3 l4 v6 (rule_progress r)
-    unfolding line
-    line_verbatim z p v6 r g w = faults_grown h e p r (rw (← is, z)) g w
+    module _ (z : t ≡ true) (p : Result ℕ AreaFull) {v6 : List ℕ} (g : GrowsFaults (add_fault (length l6) VerbatimNotSupported i e) l6 q.faults p v6) where
+      verbatim : line asked xs caps (length l6) i e before
+          ≡ onto (with_faults before) (written 6 e (add_fault (length l6) VerbatimNotSupported i e (contents fault_format l6 q.faults)))
+      unfolding line
+      verbatim = rw (← is, z)
+
+      pub line_verbatim : {m : ℕ} → p ≡ Ok m → Lined l2 l3 l4 v6 (Ok e) (rule_counts q.sheet m)
+      line_verbatim y = faults_grown (line asked xs caps (length l6) i e) (add_fault (length l6) VerbatimNotSupported i e) h e p verbatim g y
+
+      pub line_no_room : (n : RuleCounts) {full : AreaFull} → p ≡ Err full → Lined l2 l3 l4 v6 (Err (Full full.0)) n
+      line_no_room n y = faults_full (line asked xs caps (length l6) i e) (add_fault (length l6) VerbatimNotSupported i e) h e p verbatim g n y
 
     pub line_rule : t ≡ false → {v2 v3 v4 v6 : List ℕ} {o : Out RuleCounts}
-        → Does (HeldRuled v2 v3 v4 v6) (rule asked xs caps (length l6) i e) before (ruled_in v2 v3 v4 v6) o → Lined v2 v3 v4 v6 o
+        → Does (HeldRuled v2 v3 v4 v6) (rule asked xs caps (length l6) i e) before (ruled_in v2 v3 v4 v6) o
+        → Does (HeldRuled v2 v3 v4 v6) (line asked xs caps (length l6) i e) before (ruled_in v2 v3 v4 v6) o
     unfolding line
     line_rule z d = record { says = rw (← is, z) d.says; goes = d.goes; ends = d.ends }
 
-pub ruleset ruling = (usual, fresh_from, fresh_inside, rule_faulty)
+pub ruleset ruling = (usual, fresh_from, fresh_inside)
 
-pub ruleset lining = (usual, line_verbatim, line_rule)
+pub ruleset lining = (usual, line_rule)
 
 -- ---- the loop over the lines
 
@@ -141,7 +157,7 @@ body asked xs c i r = next_rule asked xs c.caps c.six i r
 pub record Rules (whole : Out Ruled) (asked : Request) (xs : List State) (k2 k3 k4 k6 : List ℕ) (x : Line) (l2 l3 l4 l6 : List ℕ) (q : RuleCounts)
     (marks : List ℕ) : Type 0 where
   pub held : HeldRuled l2 l3 l4 l6 q
-  pub names : NamesHeld asked.source (contents rule_format l2 q.rules) marks
+  pub names : NamesHeld asked.source (contents rule_format l2 q.sheet.rules) marks
   pub within : x.start ≤ length asked.source
   pub ends : Between x.start (length asked.source) (line_end asked.source x.start) x.end
   pub starts : line_end_len asked.source x.start ≡ 0
@@ -154,7 +170,7 @@ pub record Rules (whole : Out Ruled) (asked : Request) (xs : List State) (k2 k3 
 
 pub rules_start : (asked : Request) (xs : List State) (i : ℕ) (x : Line) (l2 l3 l4 l6 : List ℕ) (q : RuleCounts) → HeldRuled l2 l3 l4 l6 q
     → NextLine asked.source (to_rule asked.source asked.options.flags) i x
-    → (marks : List ℕ) → Marked asked.source (contents rule_format l2 q.rules) marks → DistinctNames asked.source (contents rule_format l2 q.rules)
+    → (marks : List ℕ) → Marked asked.source (contents rule_format l2 q.sheet.rules) marks → DistinctNames asked.source (contents rule_format l2 q.sheet.rules)
     → Rules (rules asked xs (rule_caps_of (length l2) (length l3) (length l4)) (length l6) i (ruled_in l2 l3 l4 l6 q)) asked xs l2 l3 l4 l6 x l2 l3 l4 l6 q marks
 unfolding rules
 rules_start asked xs i x l2 l3 l4 l6 q h b marks m d = record {
@@ -177,9 +193,9 @@ rules_start asked xs i x l2 l3 l4 l6 q h b marks m d = record {
 
 module _ {whole : Out Ruled} {asked : Request} {xs : List State} {k2 k3 k4 k6 : List ℕ} {here : Line} {l2 l3 l4 l6 : List ℕ} {q : RuleCounts} {marks : List ℕ}
     (x : Rules whole asked xs k2 k3 k4 k6 here l2 l3 l4 l6 q marks) (t : Bool) (tested : t ≡ in_section asked.source here.start) (pass : t ≡ true)
-    {v2 v3 v4 v6 : List ℕ} (r : RuleProgress)
+    {v2 v3 v4 v6 : List ℕ} (r : Result ℕ Stop) (p : RuleCounts)
     (d : Does (HeldRuled v2 v3 v4 v6) (line asked xs (rule_caps_of (length l2) (length l3) (length l4)) (length l6) here.start here.end)
-    (ruled_in l2 l3 l4 l6 q) (ruled_in v2 v3 v4 v6) (rule_progress r)) where
+    (ruled_in l2 l3 l4 l6 q) (ruled_in v2 v3 v4 v6) (outcome r p)) where
   abbrev i : ℕ
   i = here.start
 
@@ -195,83 +211,80 @@ module _ {whole : Out Ruled} {asked : Request} {xs : List State} {k2 k3 k4 k6 : 
   unfolding next_rule
   is_next = rw (← x.ends.is)
 
-  module _ (j : ℕ) (p : RuleCounts) (z : r ≡ Go j p) (y : Line) (c : NextLine asked.source (to_rule asked.source asked.options.flags) e y) where
-    went : Does (HeldRuled v2 v3 v4 v6) (body asked xs (sizes l2 l3 l4 l6) i) (ruled_in l2 l3 l4 l6 q) (ruled_in v2 v3 v4 v6) (go y.start p)
-    went = rw c.starts.is (then_go (λ _. to_rule asked.source asked.options.flags e) is_next d (ap rule_progress z))
+  module _ {j : ℕ} (z : r ≡ Ok j) where
+    module _ (y : Line) (c : NextLine asked.source (to_rule asked.source asked.options.flags) e y) where
+      went : Does (HeldRuled v2 v3 v4 v6) (body asked xs (sizes l2 l3 l4 l6) i) (ruled_in l2 l3 l4 l6 q) (ruled_in v2 v3 v4 v6) (go y.start p)
+      went = rw c.starts.is (then_ok (λ _. to_rule asked.source asked.options.flags e) is_next r p d z)
 
-    forward : i < y.start
-    forward = omega (arith, line_has_byte asked.source i inside x.starts, x.ends.is, c.starts.from)
+      forward : i < y.start
+      forward = omega (arith, line_has_byte asked.source i inside x.starts, x.ends.is, c.starts.from)
 
-    pub rules_less : length asked.source - y.start < length asked.source - i
-    rules_less = omega (arith, forward, c.starts.to)
+      pub rules_less : length asked.source - y.start < length asked.source - i
+      rules_less = omega (arith, forward, c.starts.to)
 
-    pub rules_next : length v2 ≡ length l2 → length v3 ≡ length l3 → length v4 ≡ length l4 → length v6 ≡ length l6 → (marks' : List ℕ)
-        → Marked asked.source (contents rule_format v2 p.rules) marks'
-        → Rules whole asked xs k2 k3 k4 k6 y v2 v3 v4 v6 p marks'
-    rules_next e2 e3 e4 e6 marks' m = record {
-      held = d.goes j p (ap rule_progress z);
-      names = record {
-        marked = m;
-        distinct = names_kept asked xs (rule_caps_of (length l2) (length l3) (length l4)) (length l6) i e x.held r d j p z
-            x.names.distinct;
-      };
-      within = c.starts.to;
-      ends = c.ends;
-      starts = rw c.starts.is (rule_starts asked.source asked.options.flags e);
-      long2 = e2 ∙ x.long2;
-      long3 = e3 ∙ x.long3;
-      long4 = e4 ∙ x.long4;
-      long6 = e6 ∙ x.long6;
-      loops =
-          loops_next x.loops (sym tested ∙ pass) inside went (sizes v2 v3 v4 v6) refl forward
-          (λ i. record { caps = record { c2 = e2 i; c3 = e3 i; c4 = e4 i }; six = e6 i });
-    }
+      pub rules_next : length v2 ≡ length l2 → length v3 ≡ length l3 → length v4 ≡ length l4 → length v6 ≡ length l6 → (marks' : List ℕ)
+          → Marked asked.source (contents rule_format v2 p.sheet.rules) marks'
+          → Rules whole asked xs k2 k3 k4 k6 y v2 v3 v4 v6 p marks'
+      rules_next e2 e3 e4 e6 marks' m = record {
+        held = holds_ok r p d z;
+        names = record {
+          marked = m;
+          distinct = names_kept asked xs (rule_caps_of (length l2) (length l3) (length l4)) (length l6) i e x.held r p d z
+              x.names.distinct;
+        };
+        within = c.starts.to;
+        ends = c.ends;
+        starts = rw c.starts.is (rule_starts asked.source asked.options.flags e);
+        long2 = e2 ∙ x.long2;
+        long3 = e3 ∙ x.long3;
+        long4 = e4 ∙ x.long4;
+        long6 = e6 ∙ x.long6;
+        loops =
+            loops_next x.loops (sym tested ∙ pass) inside went (sizes v2 v3 v4 v6) refl forward
+            (λ i. record { caps = record { c2 = e2 i; c3 = e3 i; c4 = e4 i }; six = e6 i });
+      }
 
-  -- the marks are those of the first rules after the line
-  pub rules_marked : (j : ℕ) (p : RuleCounts) → r ≡ Go j p → Marked asked.source (take q.rules (contents rule_format v2 p.rules)) marks
-  rules_marked j p z =
-      subst (λ (ys : List Rule). Marked asked.source ys marks)
-      (sym (rules_kept asked xs (rule_caps_of (length l2) (length l3) (length l4)) (length l6) i e x.held r d j p z)) x.names.marked
+    pub rules_read : Held rule_format v2 p.sheet.rules
+    rules_read = (holds_ok r p d z).sheet.rules
 
-  whole_bad : (kind at : ℕ) (p : RuleCounts) → r ≡ Bad kind at p → whole ≡ bad kind at (ruled_in v2 v3 v4 v6 p)
-  whole_bad kind at p z =
-      loops_bad x.loops (sym tested ∙ pass) inside (then_bad (λ _. to_rule asked.source asked.options.flags e) is_next d (ap rule_progress z)) refl
+    -- the marks are those of the first rules after the line
+    pub rules_marked : Marked asked.source (take q.sheet.rules (contents rule_format v2 p.sheet.rules)) marks
+    rules_marked =
+        subst (λ (ys : List Rule). Marked asked.source ys marks)
+        (sym (rules_kept asked xs (rule_caps_of (length l2) (length l3) (length l4)) (length l6) i e x.held r p d z)) x.names.marked
 
-  whole_full : (n : ℕ) → r ≡ Full n → whole ≡ full n
-  whole_full n z =
-      loops_full x.loops (sym tested ∙ pass) inside (then_full (λ _. to_rule asked.source asked.options.flags e) is_next d (ap rule_progress z)) refl
+  whole_err : (y : Stop) → r ≡ Err y → whole ≡ outcome (Err y) (ruled_in v2 v3 v4 v6 p)
+  whole_err y z =
+      loops_err x.loops (sym tested ∙ pass) inside (Err y) p (then_err (λ _. to_rule asked.source asked.options.flags e) is_next r p d y z) y refl
 
 -- the section as a whole began at i₀ with the state r₀
 module _ (asked : Request) (xs : List State) (k : Caps) (c6 i₀ : ℕ) (r₀ : Ruled) {k2 k3 k4 k6 : List ℕ} {here : Line} {l2 l3 l4 l6 : List ℕ}
     {q : RuleCounts} {marks : List ℕ}
     (x : Rules (rules asked xs k c6 i₀ r₀) asked xs k2 k3 k4 k6 here l2 l3 l4 l6 q marks) (t : Bool)
     (tested : t ≡ in_section asked.source here.start) where
-  abbrev Ended : List ℕ → List ℕ → List ℕ → List ℕ → Out RuleCounts → Type 0
-  Ended v2 v3 v4 v6 o = Does (HeldRuled v2 v3 v4 v6) (rules_section asked xs k c6 i₀) r₀ (ruled_in v2 v3 v4 v6) o
+  abbrev Ended : List ℕ → List ℕ → List ℕ → List ℕ → Result ℕ Stop → RuleCounts → Type 0
+  Ended v2 v3 v4 v6 r p = Does (HeldRuled v2 v3 v4 v6) (rules_section asked xs k c6 i₀) r₀ (ruled_in v2 v3 v4 v6) (outcome r p)
 
   module _ (stop : t ≡ false) (m : Bool) (is : m ≡ has_routines asked.source here.start) where
     at_end : rules_section asked xs k c6 i₀ r₀ ≡ routines asked.source here.start (ruled_in l2 l3 l4 l6 q)
     unfolding rules_section
     at_end = ap (λ (o : Out Ruled). next o (routines asked.source)) (loops_stop x.loops (sym tested ∙ stop))
 
-    pub rules_end : m ≡ false → Ended l2 l3 l4 l6 (go here.start q)
+    pub rules_end : m ≡ false → Ended l2 l3 l4 l6 (Ok here.start) q
     unfolding routines
     rules_end z = does_go (at_end ∙ rw (← is, z)) x.held
 
-    pub rules_routines : m ≡ true → Ended l2 l3 l4 l6 (bad RoutinesNotSupported here.start q)
+    pub rules_routines : m ≡ true → Ended l2 l3 l4 l6 (Err (Fault Kind.RoutinesNotSupported here.start)) q
     unfolding routines
     rules_routines z = does_bad (at_end ∙ rw (← is, z)) x.held
 
-  module _ (pass : t ≡ true) {v2 v3 v4 v6 : List ℕ} (r : RuleProgress)
+  pub rules_err : (pass : t ≡ true) {v2 v3 v4 v6 : List ℕ} (r : Result ℕ Stop) (p : RuleCounts)
       (d : Does (HeldRuled v2 v3 v4 v6) (line asked xs (rule_caps_of (length l2) (length l3) (length l4)) (length l6) here.start here.end)
-      (ruled_in l2 l3 l4 l6 q) (ruled_in v2 v3 v4 v6) (rule_progress r)) where
-    pub rules_bad : (kind at : ℕ) (p : RuleCounts) → r ≡ Bad kind at p → Ended v2 v3 v4 v6 (bad kind at p)
-    unfolding rules_section
-    rules_bad kind at p z =
-        does_bad (ap (λ (o : Out Ruled). next o (routines asked.source)) (whole_bad x t tested pass r d kind at p z)) (d.ends kind at p (ap rule_progress z))
+      (ruled_in l2 l3 l4 l6 q) (ruled_in v2 v3 v4 v6) (outcome r p)) (y : Stop) → r ≡ Err y → Ended v2 v3 v4 v6 (Err y) p
+  unfolding rules_section
+  rules_err pass {v2} {v3} {v4} {v6} r p d y z =
+      does_err y _
+      (ap (λ (o : Out Ruled). next o (routines asked.source)) (whole_err x t tested pass r p d y z) ∙ next_err y (ruled_in v2 v3 v4 v6 p) (routines asked.source))
+      (holds_err r p d y z)
 
-    pub rules_full : (n : ℕ) → r ≡ Full n → Ended v2 v3 v4 v6 (full n)
-    unfolding rules_section
-    rules_full n z = does_full (ap (λ (o : Out Ruled). next o (routines asked.source)) (whole_full x t tested pass r d n z))
-
-pub ruleset sectioning = (usual, rules_start, rules_end, rules_bad, rules_full)
+pub ruleset sectioning = (usual, rules_start, rules_end)

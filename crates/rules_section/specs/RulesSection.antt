@@ -1,5 +1,5 @@
 -- What the rules section writes (01, Rules). The states are those of the declarations.
-use Rattle.std.specs.Prelude.{ℕ, ◌+◌, ◌-◌, cond, List, length}
+use Rattle.std.specs.Prelude.{Result, Ok, Err, ℕ, ◌+◌, ◌-◌, cond, List, length}
 use Rattle.characters.specs.Whitespace.{at_whitespace}
 use Rattle.text.specs.Scan.{line_end, trim_end, trim_end_unescaped}
 use Rattle.area.specs.declared.State.{State}
@@ -7,16 +7,20 @@ use Rattle.area.specs.declared.Rule.{Rule}
 use Rattle.area.specs.declared.Fault.{Fault}
 use Rattle.area.specs.Contents.{append, text_format}
 use Rattle.fault.specs.Step.{Out, go, bad, next, onto, written, loop}
+use Rattle.fault.specs.Kinds.{kind_number}
 use Rattle.fault.specs.Faults.{add_fault, add_repeat, RoutinesNotSupported, InvalidStartState, DuplicateName, VerbatimNotSupported}
 use Rattle.escape.specs.Escape.{unescaped}
 use Rattle.section.specs.Request.{Request}
 use Rattle.section.specs.Section.{to_rule, in_section, has_routines}
+use Rattle.rules.specs.declared.LexError.{LexError}
 use Rattle.rules.specs.declared.Head.{Head}
 use Rattle.rules.specs.declared.Heading.{Heading}
-use Rattle.rules.specs.declared.Heading.TheVariants.{Faulty, Repeated, Fresh}
+use Rattle.rules.specs.declared.Heading.TheVariants.{Repeated, Fresh}
 use Rattle.rules.specs.declared.Body.TheVariants.{Unclosed, Listed, Rewritten, Plain}
-use Rattle.rules.specs.Heading.{heading_of, body_of}
+use Rattle.rules.specs.Heading.{heading_of, named_field, name_fields, operation_field, target_field, body_of}
 use Rattle.rules.specs.Rules.{entries, record_rule}
+use Rattle.rules_section.specs.declared.pattern.Text.{Text}
+use Rattle.rules_section.specs.declared.pattern.StateList.{StateList}
 
 -- ---- what is written
 
@@ -38,34 +42,23 @@ sheet rs ids t = record { rules = rs; lists = ids; text = t }
 
 -- ---- the record
 
--- where a rule's text stands: place 0 is the source, 1 the rewritten text (01, Areas, 2 and 4)
-pub record Text : Type 0 where
-  pub place : ℕ
-  pub from : ℕ
-  pub length : ℕ
-
--- where a rule's list of states stands among the entries (01, Areas, 2 and 3)
-pub record StateList : Type 0 where
-  pub from : ℕ
-  pub count : ℕ
-
 -- the rule at the position k: its id is k (01, Rules)
 abbrev pub rule_of : Head → ℕ → Text → StateList → Rule
 rule_of h k t l = record {
   has_id = 1;
   id = k;
-  named = h.named;
-  span_start = h.span_start;
-  span_end = h.span_end;
-  name_from = h.name_from;
-  name_length = h.name_length;
+  named = named_field h.name;
+  span_start = h.name_span.start;
+  span_end = h.name_span.end;
+  name_from = (name_fields h.name).from;
+  name_length = (name_fields h.name).length;
   place = t.place;
   text_from = t.from;
   text_length = t.length;
   list_from = l.from;
   list_count = l.count;
-  operation = h.operation;
-  target = h.target;
+  operation = operation_field h.target_state;
+  target = target_field h.target_state;
 }
 
 -- the source from a to c (01, Areas, 4)
@@ -145,10 +138,11 @@ routines s i r = cond (has_routines s i) (bad RoutinesNotSupported i r) (go i r)
 
 module _ (q : Request) (xs : List State) (k : Caps) (c6 : ℕ) where
   -- what becomes of the line from i to e: a fault; a repeated name, whose pattern is not read; or a rule (01, Rules)
-  unfoldable pub rule_as : ℕ → ℕ → Heading → Ruled → Out Ruled
-  rule_as i e (Faulty kind at) r = bad kind at r
-  rule_as i e (Repeated c d a z) r = onto (with_faults r) (written 6 e (add_repeat c6 DuplicateName c d a z r.faults))
-  rule_as i e (Fresh b h) r = onto (with_sheet r) (pattern q k i e h (trim_end_unescaped q.source i b) xs (sheet_of r))
+  unfoldable pub rule_as : ℕ → ℕ → Result Heading LexError → Ruled → Out Ruled
+  rule_as i e (Err error) r = bad (kind_number error.kind) error.at r
+  rule_as i e (Ok (Repeated first again)) r =
+      onto (with_faults r) (written 6 e (add_repeat c6 DuplicateName first.start first.end again.start again.end r.faults))
+  rule_as i e (Ok (Fresh b h)) r = onto (with_sheet r) (pattern q k i e h (trim_end_unescaped q.source i b) xs (sheet_of r))
 
   -- a rule, whose line is read without its trailing whitespace (01, Rules)
   unfoldable pub rule : ℕ → ℕ → Ruled → Out Ruled

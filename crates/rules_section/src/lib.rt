@@ -13,27 +13,9 @@ pub struct SheetCounts {
     pub text: u16,
 }
 
-// What a step over areas 2, 3 and 4 comes to.
-#[derive(Clone, Copy)]
-pub enum SheetProgress {
-    Go(usize, SheetCounts),
-    Bad(u16, u16, SheetCounts),
-    Full(u16),
-}
-
 // The same with the number of fault spans.
 #[derive(Clone, Copy)]
 pub struct RuleCounts {
-    pub rules: u16,
-    pub entries: u16,
-    pub text: u16,
+    pub sheet: SheetCounts,
     pub faults: u16,
-}
-
-// What a step over areas 2, 3, 4 and 6 comes to.
-#[derive(Clone, Copy)]
-pub enum RuleProgress {
-    Go(usize, RuleCounts),
-    Bad(u16, u16, RuleCounts),
-    Full(u16),
 }

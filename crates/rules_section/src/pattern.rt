@@ -1,177 +1,192 @@
 // The pattern of a rule and the rule's record: a list of states, text to rewrite, or text as it stands (01, Rules).
 ghost use Rattle.std.specs.Prelude.{◌≡◌, ◌-◌, ◌≤◌, length};
-ghost use Rattle.area.specs.Contents.{state_format, contents, Held};
 ghost use Rattle.area.specs.Phrases.{before};
-ghost use Rattle.fault.specs.Step.{onto, progress};
-ghost use Rattle.rules_section.specs.RulesSection.{rule_of, pattern};
-ghost use Rattle.rules_section.specs.Answers.{sheet_progress, HeldSheet, sheet_counts};
-ghost use Rattle.rules_section.specs.Phrases.{asked, DoesSheet};
+ghost use Rattle.section.specs.Request.{asked_by};
+ghost use Rattle.rules.specs.Heading.{named_field, name_fields, operation_field, target_field};
+ghost use Rattle.rules_section.specs.RulesSection.{source_text, rule_of, pattern};
+ghost use Rattle.rules_section.specs.Answers.{HeldSheet};
+ghost use Rattle.rules_section.specs.Phrases.{DoesSheet};
 
-use crate::{SheetCounts, SheetProgress};
-use area::{Appended, Rule, TEXT_AREA};
+use crate::SheetCounts;
+use area::list::Records;
+use area::{Rule, State};
 use escape::unescape;
-use fault::Progress;
-use fault::kinds::INVALID_START_STATE;
+use fault::{LexErrorKind, Stop};
 use rules::bodies::body_of;
 use rules::entries::parse_start_states;
 use rules::record::record_rule;
-use rules::{Body, Head};
+use rules::{Body, Head, Name, TargetState};
+use section::LexFile;
+use section::reader::Line;
 
-// Where a rule's text and list stand: five of the rule's fields.
+// Where a rule's text stands: place 0 is the source, 1 the rewritten text.
 #[derive(Clone, Copy)]
 pub struct Text {
     pub place: u16,
     pub from: u16,
     pub length: u16,
-    pub list_from: u16,
-    pub list_count: u16,
 }
 
-// The rule of a heading and a text, at the next position: its id is the position.
-fn rule_with(h: Head, k: u16, t: Text) -> Rule
-    ensures { result
-        ≡ rule_of h k (record { place = t.place; from = t.from; length = t.length }) (record { from = t.list_from; count = t.list_count }) }
+// Where a rule's list of states stands among the entries.
+#[derive(Clone, Copy)]
+pub struct StateList {
+    pub from: u16,
+    pub count: u16,
+}
+
+// ---- the rule's fields
+
+fn named_field(name: Option<Name>) -> u16
+    ensures { result ≡ named_field name }
 {
+    match name {
+        Some(_) => 1,
+        None => 0,
+    }
+}
+
+fn name_fields(name: Option<Name>) -> Name
+    ensures { result ≡ name_fields name }
+{
+    name.unwrap_or(Name { from: 0, length: 0 })
+}
+
+fn operation_field(target: Option<TargetState>) -> u16
+    ensures { result ≡ operation_field target }
+{
+    match target {
+        Some(x) => u16::from(x.operation),
+        None => 0,
+    }
+}
+
+fn target_field(target: Option<TargetState>) -> u16
+    ensures { result ≡ target_field target }
+{
+    match target {
+        Some(x) => x.id,
+        None => 0,
+    }
+}
+
+// The rule of a heading, a text and a list, at the next position: its id is the position.
+fn rule_with(h: Head, k: u16, t: Text, l: StateList) -> Rule
+    ensures { result ≡ rule_of h k t l }
+{
+    let name = name_fields(h.name);
     Rule {
         has_id: 1,
         id: k,
-        named: h.named,
-        span_start: h.span_start,
-        span_end: h.span_end,
-        name_from: h.name_from,
-        name_length: h.name_length,
+        named: named_field(h.name),
+        span_start: h.name_span.start,
+        span_end: h.name_span.end,
+        name_from: name.from,
+        name_length: name.length,
         place: t.place,
         text_from: t.from,
         text_length: t.length,
-        list_from: t.list_from,
-        list_count: t.list_count,
-        operation: h.operation,
-        target: h.target,
+        list_from: l.from,
+        list_count: l.count,
+        operation: operation_field(h.target_state),
+        target: target_field(h.target_state),
     }
 }
 
-// How many more there are: none where there are fewer.
-fn more(before: u16, after: u16) -> u16
-    ensures { result ≡ after - before }
+// ---- where the text and the list stand
+
+fn source_text(a: usize, c: usize) -> Text
+    requires { (a ≤ c) × (c ≤ 65535) }
+    ensures { result ≡ source_text a c }
 {
-    if before <= after {
-        return after - before;
+    Text {
+        place: 0,
+        from: a as u16,
+        length: (c - a) as u16,
     }
-    0
 }
 
-// What the record comes to, with the counts of list entries and text.
-fn with_counts(p: Progress, entries: u16, text: u16) -> SheetProgress
-    ensures { sheet_progress result ≡ onto (λ n. sheet_counts n entries text) (progress p) }
+// The rewritten text behind the first `before` bytes of it.
+fn text_since(before: u16, now: u16) -> Text
+    ensures { result ≡ record { place = 1; from = before; length = now - before } }
 {
-    match p {
-        Progress::Go(at, n) => SheetProgress::Go(
-            at,
-            SheetCounts {
-                rules: n,
-                entries: entries,
-                text: text,
-            },
-        ),
-        Progress::Bad(kind, at, n) => SheetProgress::Bad(
-            kind,
-            at,
-            SheetCounts {
-                rules: n,
-                entries: entries,
-                text: text,
-            },
-        ),
-        Progress::Full(n) => SheetProgress::Full(n),
+    Text {
+        place: 1,
+        from: before,
+        length: now.saturating_sub(before),
     }
 }
 
-// The pattern from i to c of the line from i to e, and the rule.
+// The entries behind the first `before` of them.
+fn list_since(before: u16, now: u16) -> StateList
+    ensures { result ≡ record { from = before; count = now - before } }
+{
+    StateList {
+        from: before,
+        count: now.saturating_sub(before),
+    }
+}
+
+// ---- the pattern
+
+// The pattern of the line up to c, and the rule.
+#[tactic(auto, using(crate::proofs::Patterns::patterning))]
 pub fn parse_pattern(
-    src: &[u8],
-    flags: u64,
-    verdicts: &[u8],
-    i: usize,
-    e: usize,
+    file: LexFile,
+    line: Line,
     h: Head,
     c: usize,
-    q: SheetCounts,
-    area1: &[u8],
-    n1: u16,
+    counts: &mut SheetCounts,
+    states: &Records<State>,
     area2: &mut [u8],
     area3: &mut [u8],
     area4: &mut [u8],
-) -> SheetProgress
-    requires i_le_c { ((i ≤ c) × (c ≤ length src.now)) × (length src.now ≤ 65535) }
-    requires held { Held state_format area1.now n1 }
-    requires held_sheet { HeldSheet area2.old area3.old area4.old q }
-    ensures { DoesSheet (λ k. pattern (asked src.now flags verdicts.now) k i e h c (contents state_format area1.now n1)) area2 area3 area4 q result }
+) -> Result<usize, Stop>
+    requires start_le_c { ((line.start ≤ c) × (c ≤ length file.source.now)) × (length file.source.now ≤ 65535) }
+    requires held_sheet { HeldSheet area2.old area3.old area4.old counts.old }
+    ensures { DoesSheet (λ k. pattern (asked_by file.entry) k line.start line.end h c states.now) area2 area3 area4 counts result }
 {
-    let place = i as u16;
-    let rules = q.rules;
-    let entries = q.entries;
-    let text = q.text;
-    match body_of(src, i, c) {
-        Body::Unclosed => SheetProgress::Bad(INVALID_START_STATE, place, q),
+    let place = line.start as u16;
+    let entries = counts.entries;
+    let text = counts.text;
+    match body_of(file.source, line.start, c) {
+        Body::Unclosed => Err(Stop::Fault(LexErrorKind::InvalidStartState, place)),
         Body::Listed(g) => {
-            let from = (g + 1) as u16;
-            let length = (c - (g + 1)) as u16;
-            match parse_start_states(src, i, g, area1, n1, area3, entries) {
-                Progress::Go(_, m) => {
-                    let t = Text {
-                        place: 0,
-                        from: from,
-                        length: length,
-                        list_from: entries,
-                        list_count: more(entries, m),
-                    };
-                    with_counts(
-                        record_rule(verdicts, place, e, rule_with(h, rules, t), area2, rules),
-                        m,
-                        text,
-                    )
-                }
-                Progress::Bad(kind, at, m) => SheetProgress::Bad(
-                    kind,
-                    at,
-                    SheetCounts {
-                        rules: rules,
-                        entries: m,
-                        text: text,
-                    },
-                ),
-                Progress::Full(n) => SheetProgress::Full(n),
-            }
+            let count = &mut counts.entries;
+            parse_start_states(file.source, line.start, g, states, area3, count)?;
+            let list = list_since(entries, counts.entries);
+            let rule = rule_with(h, counts.rules, source_text(g + 1, c), list);
+            record_rule(
+                file.verdicts,
+                place,
+                line.end,
+                rule,
+                area2,
+                &mut counts.rules,
+            )
         }
-        Body::Rewritten => match unescape(src, flags, i, c, area4, text) {
-            Appended::Next(m) => {
-                let t = Text {
-                    place: 1,
-                    from: text,
-                    length: more(text, m),
-                    list_from: entries,
-                    list_count: 0,
-                };
-                with_counts(
-                    record_rule(verdicts, place, e, rule_with(h, rules, t), area2, rules),
-                    entries,
-                    m,
-                )
-            }
-            Appended::Full => SheetProgress::Full(TEXT_AREA),
-        },
+        Body::Rewritten => {
+            counts.text = unescape(file.source, file.flags, line.start, c, area4, text)?;
+            let list = list_since(entries, entries);
+            let rule = rule_with(h, counts.rules, text_since(text, counts.text), list);
+            record_rule(
+                file.verdicts,
+                place,
+                line.end,
+                rule,
+                area2,
+                &mut counts.rules,
+            )
+        }
         Body::Plain => {
-            let t = Text {
-                place: 0,
-                from: place,
-                length: (c - i) as u16,
-                list_from: entries,
-                list_count: 0,
-            };
-            with_counts(
-                record_rule(verdicts, place, e, rule_with(h, rules, t), area2, rules),
-                entries,
-                text,
+            let list = list_since(entries, entries);
+            let rule = rule_with(h, counts.rules, source_text(line.start, c), list);
+            record_rule(
+                file.verdicts,
+                place,
+                line.end,
+                rule,
+                area2,
+                &mut counts.rules,
             )
         }
     }

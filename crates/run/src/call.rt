@@ -8,7 +8,7 @@ ghost use Rattle.run.specs.Top.{RowFits};
 use crate::fit::row_top;
 use crate::moves::put_state;
 use crate::{After, MOST_BYTES, Run, StartRefused, Step, StepError};
-use area::{ENTRY_WIDTH, read_entry};
+use area::{ENTRY_WIDTH, read};
 use sheet_check::Sheet;
 use sheet_check::check::quick_check;
 use winner::{LentLexer, Row};
@@ -41,7 +41,7 @@ fn step_row(lexer: &LentLexer, r: Run, stack: &mut [u8], row: Row) -> After<Resu
     requires row_fits { RowFits (fits_in r) (length lexer.now.rules) row.bytes.now row }
     ensures { run_left result.answer result.run stack.new ≡ step_row lexer.now (running r stack.old) (input row.entry.bytes.now) }
 {
-    let state = read_entry(stack, r.depth as usize - 1);
+    let state: u16 = read(stack, r.depth as usize - 1);
     let Some(b) = lexer.winner(state, row) else {
         return r.after(Ok(Step::Stopped));
     };

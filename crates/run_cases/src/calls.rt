@@ -25,16 +25,17 @@ enum Command {
     Odd,
 }
 
+// The first letter tells it.
 fn command_of(line: &[u8]) -> Option<Command> {
-    match line.split(|byte| *byte == b' ').next()? {
-        b"link" => Some(Command::Link),
-        b"count" => Some(Command::Count),
-        b"start" => Some(Command::Start),
-        b"put" => Some(Command::Put),
-        b"numbers" => Some(Command::Numbers),
-        b"row" => Some(Command::Row),
-        b"bytes" => Some(Command::Bytes),
-        b"odd" => Some(Command::Odd),
+    match line.first()? {
+        b'l' => Some(Command::Link),
+        b'c' => Some(Command::Count),
+        b's' => Some(Command::Start),
+        b'p' => Some(Command::Put),
+        b'n' => Some(Command::Numbers),
+        b'r' => Some(Command::Row),
+        b'b' => Some(Command::Bytes),
+        b'o' => Some(Command::Odd),
         _ => None,
     }
 }

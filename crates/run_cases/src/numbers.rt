@@ -1,12 +1,11 @@
 // The numbers of a line as two-byte fields.
 use output::Text;
-use std::str;
 
+// The low half of each byte is a digit, whatever the byte is; the number is taken modulo 65,536.
 fn number_of(word: &[u8]) -> u16 {
-    match str::from_utf8(word) {
-        Ok(word) => word.parse().unwrap_or(0),
-        Err(_) => 0,
-    }
+    word.iter().fold(0u16, |x, digit| {
+        x.wrapping_mul(10).wrapping_add((*digit % 16) as u16)
+    })
 }
 
 // The numbers behind the first word of a line; as many as fit.

@@ -1,7 +1,7 @@
 // What is printed: numbers, and what a line is answered.
 use answers::Number;
 use link::{LinkError, Linked};
-use parse::Answer;
+use parse::ParseError;
 use run::{StartRefused, Step, StepError};
 use std::fmt;
 
@@ -53,15 +53,15 @@ impl fmt::Display for Outcome {
     }
 }
 
-impl From<Answer> for Outcome {
-    fn from(answer: Answer) -> Outcome {
+impl From<Result<(), ParseError>> for Outcome {
+    fn from(answer: Result<(), ParseError>) -> Outcome {
         match answer {
-            Answer::Accepted => Outcome::Accepted,
-            Answer::LongFile => Outcome::Refused(Number::LongFile),
-            Answer::UnknownFlag => Outcome::Refused(Number::UnknownFlag),
-            Answer::InvalidUtf8 => Outcome::Refused(Number::InvalidUtf8),
-            Answer::AreaFull(n) => Outcome::RefusedAt(Number::AreaFull, n),
-            Answer::FaultyFile(n) => Outcome::RefusedAt(Number::FaultyFile, n),
+            Ok(_) => Outcome::Accepted,
+            Err(ParseError::LongFile) => Outcome::Refused(Number::LongFile),
+            Err(ParseError::UnknownFlag) => Outcome::Refused(Number::UnknownFlag),
+            Err(ParseError::InvalidUtf8) => Outcome::Refused(Number::InvalidUtf8),
+            Err(ParseError::AreaFull(n)) => Outcome::RefusedAt(Number::AreaFull, n),
+            Err(ParseError::FaultyFile(n)) => Outcome::RefusedAt(Number::FaultyFile, n),
         }
     }
 }

@@ -1,10 +1,11 @@
 // The sheet of a file, in areas of its own.
 use link::call::set_rule_ids_spanned;
 use link::{LinkError, Linked};
-use parse::Answer;
+use parse::ParseError;
 use parse::call::parse;
 use run::call::step;
 use run::{After, Run, Step, StepError};
+use section::LexFile;
 
 #[derive(Drop)]
 pub struct Sheet<'a> {
@@ -18,7 +19,7 @@ pub struct Sheet<'a> {
 }
 
 impl<'a> Sheet<'a> {
-    pub fn parse(source: &'a [u8]) -> (Sheet<'a>, Answer) {
+    pub fn parse(source: &'a [u8]) -> (Sheet<'a>, Result<(), ParseError>) {
         // Locals, since fields that are lent for writing together do not prove.
         let mut counts = [0; 6];
         let mut area1 = [0; 60];
@@ -27,10 +28,13 @@ impl<'a> Sheet<'a> {
         let mut area4 = [0; 40];
         let mut area5 = [0; 40];
         let mut area6 = [0; 40];
-        let answer = parse(
+        let lex_file = LexFile {
             source,
-            0,
-            b"",
+            flags: 0,
+            verdicts: b"",
+        };
+        let answer = parse(
+            lex_file,
             &mut counts,
             &mut area1,
             &mut area2,

@@ -14,6 +14,14 @@ use characters::whitespace::byte_at;
 use text::range::lookahead_is;
 use text::scan::{line_end, parse_nl, parse_ws};
 
+// A lex file that is parsed: its bytes, what the caller chooses, and the engine's verdicts on its rules.
+#[derive(Clone, Copy)]
+pub struct LexFile<'a> {
+    pub source: &'a [u8],
+    pub flags: u64,
+    pub verdicts: &'a [u8],
+}
+
 // Whether a line that flag 1 skips starts at i.
 fn is_comment(src: &[u8], flags: u64, i: usize) -> bool
     requires { i ≤ length src.now }

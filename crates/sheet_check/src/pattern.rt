@@ -6,7 +6,7 @@ ghost use Rattle.sheet_check.specs.Pattern.{pattern_part, pattern_call, handed, 
 use crate::check::check;
 use crate::{Part, Sheet};
 use answers::Number;
-use area::read_rule;
+use area::{Rule, read};
 
 // Where the text of a rule stands; none where number 6 holds.
 pub fn locate(sheet: Sheet, rule: u64) -> Option<Part>
@@ -14,7 +14,7 @@ pub fn locate(sheet: Sheet, rule: u64) -> Option<Part>
 {
     if check(sheet) {
         if rule < wide(sheet.counts[1]) {
-            let x = read_rule(sheet.rules, rule as usize);
+            let x: Rule = read(sheet.rules, rule as usize);
             return Some(Part {
                 place: x.place,
                 from: x.text_from,

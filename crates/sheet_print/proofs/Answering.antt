@@ -15,8 +15,7 @@ use Rattle.area.specs.Contents.{Format, state_format, rule_format, fault_format,
 use Rattle.area.specs.Records.{nth_state, nth_rule, nth_fault}
 use Rattle.area.proofs.Contents.{Sound, state_sound, rule_sound, fault_sound}
 use Rattle.area.proofs.Fields.{bytes-length}
-use Rattle.parse.specs.declared.Answer.{Answer}
-use Rattle.parse.specs.Parse.{Outcome, long_file, unknown_flag, invalid_utf8, area_full, faulty, accepted}
+use Rattle.parse.specs.Parse.{ParseAnswer, Outcome, long_file, unknown_flag, invalid_utf8, area_full, faulty, accepted}
 use Rattle.parse.specs.Parse.{Caps, caps, Left, left, leaves, outcome, parse_call}
 use Rattle.output.specs.Output.{joined}
 use Rattle.sheet_lines.specs.Lines.{state_line, rule_line, fault_line}
@@ -92,7 +91,7 @@ module _ (s : List ℕ) (k : Caps) (y : Left) (e : y ≡ parse_call (sheet_reque
   call_text h = ap (left_text s) e ∙ leaves_text s k (outcome (sheet_request s) k) (subst (λ (z : Left). Kept k z) e h)
 
 -- the areas that the program lends
-pub sheet_written : (s : List ℕ) (a : Answer) (n x1 x2 x3 x4 x5 x6 : List ℕ) (c1 c2 c3 c4 c5 c6 : ℕ)
+pub sheet_written : (s : List ℕ) (a : ParseAnswer) (n x1 x2 x3 x4 x5 x6 : List ℕ) (c1 c2 c3 c4 c5 c6 : ℕ)
     → left a n x1 x2 x3 x4 x5 x6 ≡ parse_call (sheet_request s) (caps c1 c2 c3 c4 c5 c6)
     → c1 ≡ 384 → c2 ≡ 57344 → c3 ≡ 32768 → c4 ≡ 32768 → c5 ≡ 32768 → c6 ≡ 32768
     → length x1 ≡ 384 → length x2 ≡ 57344 → length x6 ≡ 32768

@@ -1,11 +1,10 @@
 -- The lines that `sheet` prints of a file (01, Files to try, the end; the words are ASCII).
-use Rattle.std.specs.Prelude.{ℕ, ◌+◌, ◌*◌, List, [], ◌++◌, length}
+use Rattle.std.specs.Prelude.{Ok, Err, ℕ, ◌+◌, ◌*◌, List, [], ◌++◌, length}
 use Rattle.answers.specs.Numbers.{long_file_number, unknown_flag_number, invalid_utf8_number}
 use Rattle.area.specs.Records.{nth_state, nth_rule, nth_fault}
-use Rattle.parse.specs.declared.Answer.{Answer}
-use Rattle.parse.specs.declared.Answer.TheVariants.{Accepted, LongFile, UnknownFlag, InvalidUtf8, AreaFull, FaultyFile}
+use Rattle.parse.specs.declared.ParseError.TheVariants.{LongFile, UnknownFlag, InvalidUtf8, AreaFull, FaultyFile}
 use Rattle.section.specs.Request.{Request, request, options}
-use Rattle.parse.specs.Parse.{Outcome, Caps, caps, long_file, unknown_flag, invalid_utf8, area_full, faulty, accepted, outcome}
+use Rattle.parse.specs.Parse.{ParseAnswer, Outcome, Caps, caps, long_file, unknown_flag, invalid_utf8, area_full, faulty, accepted, outcome}
 use Rattle.output.specs.Output.{joined}
 use Rattle.sheet_lines.specs.Lines.{state_line, rule_line, fault_line, refused_line, full_line, fault_lines, sheet_lines}
 
@@ -40,10 +39,10 @@ sheet_room = 64 * 38 + 65535 + 2048 * 95
 -- ---- the same, from the areas' bytes
 
 -- what is printed of an answer, the counts and the areas
-unfoldable pub answer_text : List ℕ → Answer → ℕ → ℕ → List ℕ → List ℕ → List ℕ → List ℕ
-answer_text s Accepted states rules l1 l2 l6 = sheet_lines s l1 states l2 rules
-answer_text s LongFile states rules l1 l2 l6 = refused_line long_file_number
-answer_text s UnknownFlag states rules l1 l2 l6 = refused_line unknown_flag_number
-answer_text s InvalidUtf8 states rules l1 l2 l6 = refused_line invalid_utf8_number
-answer_text s (AreaFull area) states rules l1 l2 l6 = full_line area
-answer_text s (FaultyFile spans) states rules l1 l2 l6 = fault_lines l6 spans
+unfoldable pub answer_text : List ℕ → ParseAnswer → ℕ → ℕ → List ℕ → List ℕ → List ℕ → List ℕ
+answer_text s (Ok x) states rules l1 l2 l6 = sheet_lines s l1 states l2 rules
+answer_text s (Err LongFile) states rules l1 l2 l6 = refused_line long_file_number
+answer_text s (Err UnknownFlag) states rules l1 l2 l6 = refused_line unknown_flag_number
+answer_text s (Err InvalidUtf8) states rules l1 l2 l6 = refused_line invalid_utf8_number
+answer_text s (Err (AreaFull area)) states rules l1 l2 l6 = full_line area
+answer_text s (Err (FaultyFile spans)) states rules l1 l2 l6 = fault_lines l6 spans

@@ -7,18 +7,20 @@ ghost use Rattle.sheet_print.specs.Lines.{answer_text, sheet_text, sheet_room};
 
 use answers::Number;
 use output::Text;
-use parse::Answer;
+use parse::ParseError;
 use parse::call::parse;
+use section::LexFile;
 use sheet_lines::{put_faults, put_full, put_refused, put_sheet};
 
 // The room that `sheet` asks for.
 pub const SHEET_ROOM: usize = 262527;
 
 // The lines that an answer and the areas come to.
+#[tactic(auto, unfolding(crate::specs::Lines::answer_text))]
 fn put_answer<const N: usize>(
     out: &mut Text<N>,
     src: &[u8],
-    answer: Answer,
+    answer: Result<(), ParseError>,
     counts: [u16; 6],
     area1: &[u8],
     area2: &[u8],
@@ -28,12 +30,12 @@ fn put_answer<const N: usize>(
         (answer_text src.now answer (get_or counts 0 0) (get_or counts 1 0) area1.now area2.now area6.now) }
 {
     match answer {
-        Answer::Accepted => put_sheet(out, src, counts[0], area1, counts[1], area2),
-        Answer::LongFile => put_refused(out, Number::LongFile as u16),
-        Answer::UnknownFlag => put_refused(out, Number::UnknownFlag as u16),
-        Answer::InvalidUtf8 => put_refused(out, Number::InvalidUtf8 as u16),
-        Answer::AreaFull(area) => put_full(out, area),
-        Answer::FaultyFile(spans) => put_faults(out, area6, spans),
+        Ok(_) => put_sheet(out, src, counts[0], area1, counts[1], area2),
+        Err(ParseError::LongFile) => put_refused(out, Number::LongFile as u16),
+        Err(ParseError::UnknownFlag) => put_refused(out, Number::UnknownFlag as u16),
+        Err(ParseError::InvalidUtf8) => put_refused(out, Number::InvalidUtf8 as u16),
+        Err(ParseError::AreaFull(area)) => put_full(out, area),
+        Err(ParseError::FaultyFile(spans)) => put_faults(out, area6, spans),
     }
 }
 
@@ -49,10 +51,13 @@ pub fn sheet<const N: usize>(src: &[u8], out: &mut Text<N>)
     let mut area4 = [0u8; 32768];
     let mut area5 = [0u8; 32768];
     let mut area6 = [0u8; 32768];
+    let lex_file = LexFile {
+        source: src,
+        flags: 0,
+        verdicts: b"",
+    };
     let answer = parse(
-        src,
-        0,
-        b"",
+        lex_file,
         &mut counts,
         &mut area1,
         &mut area2,

@@ -2,8 +2,7 @@
 use mathlib.Core.Path.{◌≡◌, ap, ◌∙◌}
 use mathlib.Core.List.{List}
 use Prim.Native.Nat.{ℕ}
-use Rattle.parse.specs.declared.Answer.{Answer}
-use Rattle.parse.specs.Parse.{Left, left, parse_word}
+use Rattle.parse.specs.Parse.{ParseAnswer, Left, left, parse_word}
 use Rattle.link.specs.Link.{LinkAnswer, LinkLeft, link_left, link_word}
 use Rattle.std.specs.Prelude.{Result}
 use Rattle.lines.specs.declared.Place.{Place}
@@ -14,7 +13,7 @@ use Rattle.run.specs.Run.{RunLeft, run_left, leaving}
 use Rattle.troymantle.specs.Words.{left_in_words, in_words}
 use Rattle.troymantle.specs.LinkWords.{link_in_words, in_link_words}
 
-pub word_left : (a : Answer) (r : ℕ) → r ≡ parse_word a → (n x1 x2 x3 x4 x5 x6 : List ℕ) (y : Left)
+pub word_left : (a : ParseAnswer) (r : ℕ) → r ≡ parse_word a → (n x1 x2 x3 x4 x5 x6 : List ℕ) (y : Left)
     → left a n x1 x2 x3 x4 x5 x6 ≡ y → left_in_words r n x1 x2 x3 x4 x5 x6 ≡ in_words y
 word_left a r w n x1 x2 x3 x4 x5 x6 y e = ap (λ (k : ℕ). left_in_words k n x1 x2 x3 x4 x5 x6) w ∙ ap in_words e
 

@@ -3,13 +3,14 @@
 #![tactic(auto)]
 
 ghost use Rattle.std.specs.Prelude.{◌≡◌};
-ghost use Rattle.rules_section.specs.Phrases.{asked};
+ghost use Rattle.section.specs.Request.{asked};
 ghost use Rattle.parse.specs.Parse.{parse_call};
 ghost use Rattle.parse.specs.Phrases.{room_in};
 ghost use Rattle.troymantle.specs.Words.{in_words};
 ghost use Rattle.troymantle.specs.Phrases.{words_left_in};
 
 use parse::call::parse;
+use section::LexFile;
 use words::Word;
 
 pub mod linking;
@@ -34,8 +35,10 @@ pub fn troymantle_parse(
     ensures { words_left_in result counts area1 area2 area3 area4 area5 area6
         ≡ in_words (parse_call (asked src.now flags verdicts.now) (room_in area1 area2 area3 area4 area5 area6)) }
 {
-    let answer = parse(
-        src, flags, verdicts, counts, area1, area2, area3, area4, area5, area6,
-    );
-    Word::from(answer).0
+    let lex_file = LexFile {
+        source: src,
+        flags,
+        verdicts,
+    };
+    Word::from(parse(lex_file, counts, area1, area2, area3, area4, area5, area6)).0
 }

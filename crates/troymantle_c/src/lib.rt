@@ -3,7 +3,7 @@
 #![tactic(auto)]
 
 ghost use Rattle.std.specs.Prelude.{◌≡◌};
-ghost use Rattle.rules_section.specs.Phrases.{asked};
+ghost use Rattle.section.specs.Request.{asked};
 ghost use Rattle.parse.specs.Parse.{parse_call};
 ghost use Rattle.parse.specs.Phrases.{room_in};
 ghost use Rattle.troymantle.specs.Words.{in_words};

@@ -1,6 +1,6 @@
 -- The winner by the greatest length of a row. The weight of a rule is its length or 0, so that no weight is above the greatest length, and a
 -- live rule that has it wins; the rules of other lengths are passed over in the search for the first of them.
-use Rattle.std.specs.Prelude.{Some, None}
+use Rattle.std.specs.Prelude.{Option, Some, None}
 use mathlib.Core.Path.{◌≡◌, refl, sym, ap, subst, ◌∙◌}
 use mathlib.Core.Bool.{Bool, true, false, cond, ◌&&◌, and-true, and-false}
 use mathlib.Core.List.{List}
@@ -13,6 +13,7 @@ use Rattle.characters.proofs.Firsts.{first_passes}
 use Rattle.area.specs.Asked.{FirstFound}
 use Rattle.area.specs.Contents.{contents, entry_format}
 use Rattle.area.specs.Records.{nth_rule}
+use Rattle.characters.specs.Walk.{Below}
 use Rattle.winner.specs.declared.Best.{Best}
 use Rattle.winner.specs.Winner.{Lexer, live, length_in, weight, greatest, earliest, best, first_with}
 use Rattle.winner.specs.Phrases.{winning}
@@ -35,13 +36,13 @@ module _ (lexer : Lexer) (state : ℕ) (row : List ℕ) (top : ℕ) (some : 0 < 
       by false = ne_eqb 0 top (λ q. omega (arith, some, q)) ∙ sym (and-false (eqb (length_in row k) top))
 
   module _ (n : ℕ) {post : ℕ → ℕ → Bool → Type 0} {lengths : List ℕ} (are : lengths ≡ contents entry_format row n) where
-    pub longest_found : (r : ℕ) → FirstFound post 0 lengths 0 (length lengths) r
-        → ((k : ℕ) (l : ℕ) (b : Bool) → post k l b → b ≡ (eqb l top && live_at lexer state k)) → r ≡ first_with (weight lexer state row) top 0 n
+    pub longest_found : (r : Option ℕ) → FirstFound post 0 lengths 0 (length lengths) r
+        → ((k : ℕ) (l : ℕ) (b : Bool) → post k l b → b ≡ (eqb l top && live_at lexer state k)) → Below n (first_with (weight lexer state row) top 0 n) r
     longest_found r found answers =
-        found.is (λ k. eqb (weight lexer state row k) top) (λ k b _ h p.
+        subst (λ (m : ℕ). Below m (first_with (weight lexer state row) top 0 m) r) (lengths_count row n are)
+        (found.is (λ k. eqb (weight lexer state row k) top) (λ k b _ h p.
         let read : get_or lengths k 0 ≡ length_in row k = length_read row n are k (omega (arith, h, lengths_count row n are)) in
-        answers k (get_or lengths k 0) b p ∙ ap (λ (l : ℕ). eqb l top && live_at lexer state k) read ∙ sym (weight_is k))
-        ∙ ap (first_with (weight lexer state row) top 0) (lengths_count row n are)
+        answers k (get_or lengths k 0) b p ∙ ap (λ (l : ℕ). eqb l top && live_at lexer state k) read ∙ sym (weight_is k)))
 
 -- ---- the winner
 
@@ -90,6 +91,8 @@ module _ (lexer : Lexer) (state : ℕ) (row : List ℕ) (top n : ℕ) (is : top 
       let p : k ≡ earliest (weight lexer state row) n = e ∙ ap (λ (m : ℕ). first_with (weight lexer state row) m 0 n) q in
       λ i. record { length = q i; rule = p i }
 
-  pub winner_first : 0 < top → (k : ℕ) → k ≡ first_with (weight lexer state row) top 0 n → k < n
+  pub winner_first : 0 < top → {o : Option ℕ} → Below n (first_with (weight lexer state row) top 0 n) o → {k : ℕ} → o ≡ Some k
       → Some (record { length = top; rule = k }) ≡ winning (best (weight lexer state row) n)
-  winner_first some k e h = one_wins (best_first k e h) (λ z. omega (arith, some, z))
+  winner_first some found {k} q =
+      let b = subst (Below n (first_with (weight lexer state row) top 0 n)) q found in
+      one_wins (best_first k b.1 b.0) (λ z. omega (arith, some, z))

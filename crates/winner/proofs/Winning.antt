@@ -11,7 +11,9 @@ use borrow.Author.Rules.{rules}
 use borrow.Author.Tests.{lt-ltb, le-ltb, ltb-true, ltb-false, eq-eqb, ne_eqb, eqb-true, eqb-false}
 use lib.Dec.{eqb, ltb}
 use lib.ListN.{length, get_or}
+use Rattle.std.specs.Prelude.{Option, is_some}
 use Rattle.characters.specs.Walk.{first}
+use Rattle.characters.proofs.Below.{below_some}
 use Rattle.characters.proofs.Tests.{le_or_lt}
 use Rattle.characters.proofs.Walks.{first_none, first_to}
 use Rattle.area.specs.declared.State.{State}
@@ -54,14 +56,14 @@ module _ {states : List State} {rules : List Rule} {lists : List ℕ} {lexer : L
       → eqb s.exclusive 0 ≡ live lexer.states lexer.lists state (nth_rule lexer.rules k)
   rule_unlisted z s e = rule_live (eqb s.exclusive 0) (live_empty states lists state x z s e)
 
-  pub rule_listed : {post : ℕ → ℕ → Bool → Type 0} {i : ℕ} → (x.list_count ≡ 0 → ⊥) → FirstFound post 0 lists x.list_from (list_end x) i
+  pub rule_listed : {post : ℕ → ℕ → Bool → Type 0} {i : Option ℕ} → (x.list_count ≡ 0 → ⊥) → FirstFound post 0 lists x.list_from (list_end x) i
       → ((j id : ℕ) (b : Bool) → post j id b → b ≡ eqb id state)
-      → ltb i (list_end x) ≡ live lexer.states lexer.lists state (nth_rule lexer.rules k)
+      → is_some i ≡ live lexer.states lexer.lists state (nth_rule lexer.rules k)
   unfolding find_in_list
   rule_listed {i = i} z found answers =
-      let is : i ≡ find_in_list lists x.list_from (list_end x) state =
-      found.is (λ j. eqb (nth_entry lists j) state) (λ j b _ _ p. answers j (get_or lists j 0) b p) in
-      rule_live (ltb i (list_end x)) (live_listed states lists state x z i is)
+      let is : is_some i ≡ ltb (find_in_list lists x.list_from (list_end x) state) (list_end x) =
+      below_some (list_end x) _ i (found.is (λ j. eqb (nth_entry lists j) state) (λ j b _ _ p. answers j (get_or lists j 0) b p)) in
+      rule_live (is_some i) (is ∙ live_listed states lists state x z (find_in_list lists x.list_from (list_end x) state) refl)
 
 -- ---- the better of two
 

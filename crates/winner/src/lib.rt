@@ -4,6 +4,7 @@
 ghost use Rattle.std.specs.Prelude.{◌≡◌, ◌&&◌, eqb, cond, ◌+◌, ◌*◌, ◌≤◌, ◌<◌, length};
 ghost use Rattle.area.specs.Contents.{contents, entry_format};
 ghost use Rattle.area.specs.Records.{entry_width, nth_rule};
+ghost use Rattle.characters.specs.Walk.{Below};
 ghost use Rattle.winner.specs.Winner.{Lexer, live, length_in, weight, greatest, best, better, first_with};
 ghost use Rattle.winner.specs.Phrases.{lexer_in, Readable, winning};
 
@@ -120,7 +121,9 @@ impl<'a> LentLexer<'a> {
         }
         let from = x.list_from as usize;
         let end = from + x.list_count as usize;
-        self.entries.position_in(from, end, |_, id| id == state) < end
+        self.entries
+            .position_in(from, end, |_, id| id == state)
+            .is_some()
     }
 
     // The better of the best rule so far and rule k, whose list is read only where its length would win.
@@ -154,11 +157,11 @@ impl<'a> LentLexer<'a> {
     }
 
     // The first live rule that has the greatest length, which is not 0. A rule is read only where the row has that length.
-    fn first_longest(&self, state: u16, row: Row) -> usize
+    fn first_longest(&self, state: u16, row: Row) -> Option<usize>
         requires state_declared { state < length self.now.states }
         requires row_long { row.rules ≡ length self.now.rules }
         requires top_nonzero { 0 < row.top }
-        ensures { result ≡ first_with (weight self.now state row.entry.bytes.now) row.entry.top 0 row.entry.rules }
+        ensures { Below row.entry.rules (first_with (weight self.now state row.entry.bytes.now) row.entry.top 0 row.entry.rules) result }
     {
         row.lengths().position(
             |k, bytes|
@@ -178,11 +181,10 @@ impl<'a> LentLexer<'a> {
         if row.top == 0 {
             return None;
         }
-        let k = self.first_longest(state, row);
-        if k < row.rules as usize {
+        if let Some(rule) = self.first_longest(state, row) {
             return Some(Best {
                 length: row.top,
-                rule: k,
+                rule,
             });
         }
         let b = self.longest(state, row);

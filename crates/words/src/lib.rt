@@ -14,7 +14,7 @@ ghost use Rattle.lines.specs.Places.{SmallOffset};
 use answers::Number;
 use lines::{Byte, Place, PlaceError};
 use link::{LinkError, Linked};
-use parse::Answer;
+use parse::ParseError;
 use run::{StartRefused, Step, StepError};
 use sheet_check::Part;
 
@@ -37,18 +37,18 @@ impl Word {
 }
 
 // The word of a parse's answer.
-impl From<Answer> for Word {
+impl From<Result<(), ParseError>> for Word {
     ghost from_gives = { λ answer word. word.0 ≡ parse_word answer };
 
     #[tactic(auto, unfolding(parse::specs::Parse::parse_fields))]
-    fn from(answer: Answer) -> Word {
+    fn from(answer: Result<(), ParseError>) -> Word {
         match answer {
-            Answer::Accepted => Word::new(Number::Accepted, 0, 0, 0),
-            Answer::LongFile => Word::new(Number::LongFile, 0, 0, 0),
-            Answer::UnknownFlag => Word::new(Number::UnknownFlag, 0, 0, 0),
-            Answer::InvalidUtf8 => Word::new(Number::InvalidUtf8, 0, 0, 0),
-            Answer::AreaFull(n) => Word::new(Number::AreaFull, n, 0, 0),
-            Answer::FaultyFile(n) => Word::new(Number::FaultyFile, n, 0, 0),
+            Ok(_) => Word::new(Number::Accepted, 0, 0, 0),
+            Err(ParseError::LongFile) => Word::new(Number::LongFile, 0, 0, 0),
+            Err(ParseError::UnknownFlag) => Word::new(Number::UnknownFlag, 0, 0, 0),
+            Err(ParseError::InvalidUtf8) => Word::new(Number::InvalidUtf8, 0, 0, 0),
+            Err(ParseError::AreaFull(n)) => Word::new(Number::AreaFull, n, 0, 0),
+            Err(ParseError::FaultyFile(n)) => Word::new(Number::FaultyFile, n, 0, 0),
         }
     }
 }

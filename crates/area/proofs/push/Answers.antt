@@ -17,10 +17,10 @@ pub returns-then-has_room : goal.returns-then-has_room
 returns-then-has_room g c =
     let s = g.met.R.Record.sized in
     let t = sized_room s _ _ _ _ _ _ c.WIDTH-width.ensures c.MOST.ensures c.has_room.ensures in
-    push_next _ _ _ _ _ _ _ t _ c.if-has_room.true (rw (c.WIDTH-width.ensures, s.width_is) at c.write.ensures)
+    push_next _ _ _ _ _ _ _ _ t _ c.if-has_room.true (rw (c.WIDTH-width.ensures, s.width_is) at c.write.ensures)
 
 pub returns : goal.returns
 returns g c =
     let s = g.met.R.Record.sized in
     let t = sized_room s _ _ _ _ _ _ c.WIDTH-width.ensures c.MOST.ensures c.has_room.ensures in
-    push_full _ _ _ _ _ _ _ t c.if-has_room.false
+    rw (c.NAME.ensures, s.name_is) (push_full _ _ _ _ _ _ _ _ t c.if-has_room.false)

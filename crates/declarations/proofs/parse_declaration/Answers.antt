@@ -1,66 +1,23 @@
--- `declarations::parse_declaration` meets its contract: each return is an outcome of what the line says.
-use Rattle.declarations.proofs.Lines.{lining_up}
+-- `declarations::parse_declaration` meets its contract: what the line declares is declared.
+use Rattle.std.proofs.lemmas.Result.{err_from_is_err_and}
+use Rattle.declarations.proofs.Lines.{line_states, line_states_err, line_expected, line_expected_err}
 use Rattle.declarations.proofs.parse_declaration.Goals as goal
 
-pub declaration_of-requires : goal.declaration_of-requires
-declaration_of-requires c = search lining_up
+pub returns-in_err-declare_start_states-in-States : goal.returns-in_err-declare_start_states-in-States
+returns-in_err-declare_start_states-in-States c =
+    let p = err_from_is_err_and c.from_residual.result c.from_residual.ensures.1 in
+    rw (p.1, p.2) (line_states_err _ _ _ _ _ _ _ c.requires.held_declared _ c.declaration_of.ensures _ _ _ c.in-States.is _ _ c.declare_start_states.ensures _ c.in_err-declare_start_states-in-States.was)
 
-pub enum_known-exclusive : goal.enum_known-exclusive
-enum_known-exclusive c = search lining_up
+pub returns-in_err-expected_names-in-Expecting : goal.returns-in_err-expected_names-in-Expecting
+returns-in_err-expected_names-in-Expecting c =
+    let f = c.from_residual-in_err-expected_names-in-Expecting in
+    let p = err_from_is_err_and f.result f.ensures.1 in
+    rw (p.1, p.2) (line_expected_err _ _ _ _ _ _ _ c.requires.held_declared _ c.declaration_of.ensures _ c.in-Expecting.is _ _ c.expected_names.ensures _ c.in_err-expected_names-in-Expecting.was)
 
-pub declare_start_states-requires : goal.declare_start_states-requires
-declare_start_states-requires c = search lining_up
+pub returns-in_ok-declare_start_states-in-States : goal.returns-in_ok-declare_start_states-in-States
+returns-in_ok-declare_start_states-in-States c =
+    line_states _ _ _ _ _ _ _ c.requires.held_declared _ c.declaration_of.ensures _ _ _ c.in-States.is _ _ c.declare_start_states.ensures c.in_ok-declare_start_states-in-States.was
 
-pub enum_known-p : goal.enum_known-p
-enum_known-p c = search lining_up
-
-pub enum_known-kind : goal.enum_known-kind
-enum_known-kind c = search lining_up
-
-pub enum_known-n : goal.enum_known-n
-enum_known-n c = search lining_up
-
-pub enum_known-w : goal.enum_known-w
-enum_known-w c = search lining_up
-
-pub overflow_cast-i : goal.overflow_cast-i
-overflow_cast-i c = search lining_up
-
-pub expected_names-requires : goal.expected_names-requires
-expected_names-requires c = search lining_up
-
-pub enum_known-m : goal.enum_known-m
-enum_known-m c = search lining_up
-
-pub enum_known-kind-in-Bad-expected_names : goal.enum_known-kind-in-Bad-expected_names
-enum_known-kind-in-Bad-expected_names c = search lining_up
-
-pub enum_known-n-in-Full-expected_names : goal.enum_known-n-in-Full-expected_names
-enum_known-n-in-Full-expected_names c = search lining_up
-
-pub enum_told-1 : goal.enum_told-1
-enum_told-1 c = search lining_up
-
-pub overflow_cast-result : goal.overflow_cast-result
-overflow_cast-result c = search lining_up
-
-pub returns-in-Go : goal.returns-in-Go
-returns-in-Go c = search lining_up
-
-pub returns-in-Bad : goal.returns-in-Bad
-returns-in-Bad c = search lining_up
-
-pub returns-in-Full : goal.returns-in-Full
-returns-in-Full c = search lining_up
-
-pub returns-in-Go-expected_names : goal.returns-in-Go-expected_names
-returns-in-Go-expected_names c = search lining_up
-
-pub returns-in-Bad-expected_names : goal.returns-in-Bad-expected_names
-returns-in-Bad-expected_names c = search lining_up
-
-pub returns-in-Full-expected_names : goal.returns-in-Full-expected_names
-returns-in-Full-expected_names c = search lining_up
-
-pub returns-in-Unknown : goal.returns-in-Unknown
-returns-in-Unknown c = search lining_up
+pub returns-in_ok-expected_names-in-Expecting : goal.returns-in_ok-expected_names-in-Expecting
+returns-in_ok-expected_names-in-Expecting c =
+    line_expected _ _ _ _ _ _ _ c.requires.held_declared _ c.declaration_of.ensures _ c.in-Expecting.is _ _ c.expected_names.ensures c.in_ok-expected_names-in-Expecting.was

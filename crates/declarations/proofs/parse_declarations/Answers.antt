@@ -1,60 +1,33 @@
 -- `declarations::parse_declarations` meets its contract: the loop has come to the line `line`.
-use Rattle.declarations.proofs.Lines.{sectioning}
+use Rattle.std.proofs.lemmas.Result.{err_from_is_err_and}
+use Rattle.section.specs.Request.{options}
+use Rattle.declarations.proofs.Lines.{sections_start, sections_less, sections_next, section_ends, section_cut, section_err, percents_inside}
 use Rattle.declarations.proofs.parse_declarations.Goals as goal
 
-pub next_declaration-line-requires : goal.next_declaration-line-requires
-next_declaration-line-requires c = search sectioning
+pub loop-counts-init : goal.loop-counts-init
+loop-counts-init c = sections_start _ (options c.args.flags) _ _ _ _ _ _ c.requires.held_declared c.next_declaration-line.ensures
 
-pub loop-area1-init : goal.loop-area1-init
-loop-area1-init c = search sectioning
+pub returns-in_err-parse_declaration : goal.returns-in_err-parse_declaration
+returns-in_err-parse_declaration c =
+    let p = err_from_is_err_and c.from_residual.result c.from_residual.ensures.1 in
+    rw (p.1, p.2) (section_err _ _ _ _ _ c.loop-counts.invariant _ c.in_section.ensures c.loop-counts-test.true _ _ c.parse_declaration.ensures _ c.in_err-parse_declaration.was)
 
-pub in_section-requires : goal.in_section-requires
-in_section-requires c = search sectioning
+pub loop-counts-smaller : goal.loop-counts-smaller
+loop-counts-smaller c =
+    sections_less c.loop-counts.invariant _ c.in_section.ensures c.loop-counts-test.true _ _ c.parse_declaration.ensures c.in_ok-parse_declaration.was _ c.next_declaration-line-in-loop-counts.ensures
 
-pub parse_declaration-requires : goal.parse_declaration-requires
-parse_declaration-requires c = search sectioning
+pub loop-counts-preserved : goal.loop-counts-preserved
+loop-counts-preserved c =
+    let step = c.parse_declaration in
+    sections_next c.loop-counts.invariant _ c.in_section.ensures c.loop-counts-test.true _ _ step.ensures c.in_ok-parse_declaration.was _ c.next_declaration-line-in-loop-counts.ensures
+    step.auto.area1 step.auto.area5 step.auto.area6
 
-pub enum_known-p : goal.enum_known-p
-enum_known-p c = search sectioning
-
-pub next_declaration-line-requires-in-Go : goal.next_declaration-line-requires-in-Go
-next_declaration-line-requires-in-Go c = search sectioning
-
-pub loop-area1-smaller : goal.loop-area1-smaller
-loop-area1-smaller c = search sectioning
-
-pub loop-area1-preserved : goal.loop-area1-preserved
-loop-area1-preserved c = search sectioning
-
-pub enum_known-kind : goal.enum_known-kind
-enum_known-kind c = search sectioning
-
-pub returns-in-Bad : goal.returns-in-Bad
-returns-in-Bad c = search sectioning
-
-pub enum_known-n : goal.enum_known-n
-enum_known-n c = search sectioning
-
-pub returns-in-Full : goal.returns-in-Full
-returns-in-Full c = search sectioning
-
-pub lookahead_is-requires : goal.lookahead_is-requires
-lookahead_is-requires c = search sectioning
-
-pub enum_known-j : goal.enum_known-j
-enum_known-j c = search sectioning
+pub returns-in_default : goal.returns-in_default
+returns-in_default c = section_cut _ _ _ _ _ c.loop-counts.invariant _ c.in_section.ensures c.loop-counts-test.false _ c.lookahead_is.ensures c.in_default.is
 
 pub past_blanks-requires : goal.past_blanks-requires
-past_blanks-requires c = search sectioning
+past_blanks-requires c = percents_inside _ c.loop-counts.line.start _ c.lookahead_is.ensures c.loop-counts.invariant.within c.in-Some.is
 
-pub enum_told-1 : goal.enum_told-1
-enum_told-1 c = search sectioning
-
-pub overflow_cast-result : goal.overflow_cast-result
-overflow_cast-result c = search sectioning
-
-pub returns-in-Some : goal.returns-in-Some
-returns-in-Some c = search sectioning
-
-pub returns-in-None : goal.returns-in-None
-returns-in-None c = search sectioning
+pub returns : goal.returns
+returns c =
+    section_ends _ _ _ _ _ c.loop-counts.invariant _ c.in_section.ensures c.loop-counts-test.false _ c.lookahead_is.ensures _ _ c.in-Some.is c.past_blanks.ensures

@@ -1,39 +1,28 @@
--- `escape::is_rewritten_from` meets its contract: from where the loop stands the answer is the same.
-use borrow.Author.Rules.{rules}
+-- `escape::is_rewritten_from` meets its contract: it asks of each escape whether it does not stay.
+use Rattle.std.proofs.Common.{rules, not, refl}
+use Rattle.std.proofs.lemmas.Iterator.Adapters.{serves_from_places}
+use Rattle.std.proofs.lemmas.Iterator.Consumers.{YieldsList-from_first}
+use Rattle.std.proofs.lemmas.Iterator.Search.{any_from_yields_List}
 use Rattle.characters.proofs.Table.{table, class_table}
-use Rattle.escape.proofs.Passed.{asking}
+use Rattle.escape.specs.Escape.{escapes, is_kept}
+use Rattle.escape.proofs.Passed.{any_rewritten, start_inside}
 use Rattle.escape.proofs.is_rewritten_from.Goals as goal
 
-pub loop-classes-init : goal.loop-classes-init
+pub invariant_of-pattern : goal.invariant_of-pattern
 unfolding table
-loop-classes-init c = (class_table, search rules, search rules, search rules)
+invariant_of-pattern c = record { within = c.requires.1; class_table = class_table }
 
-pub find_byte-q-requires : goal.find_byte-q-requires
-find_byte-q-requires c = search asking
+pub any-requires-clause-callable : goal.any-requires-clause-callable
+any-requires-clause-callable c =
+    let src = c.args.src.now in
+    serves_from_places (YieldsList-from_first (λ x. x) (λ s. escapes s.pattern.source.now s.at s.pattern.end) (escapes src c.args.i c.args.c) refl)
+    (λ x q k. search rules)
+    (λ x k h e. let inside = start_inside src c.args.c c.args.i k x h e in search rules)
 
-pub overflow_add-q : goal.overflow_add-q
-overflow_add-q c = search asking
-
-pub returns-then-c-q : goal.returns-then-c-q
-returns-then-c-q c = search asking
-
-pub overflow_add-q-in-loop-classes : goal.overflow_add-q-in-loop-classes
-overflow_add-q-in-loop-classes c = search asking
-
-pub is_kept-requires : goal.is_kept-requires
-is_kept-requires c = search asking
-
-pub returns-then-not-is_kept : goal.returns-then-not-is_kept
-returns-then-not-is_kept c = search asking
-
-pub overflow_add-q-in-loop-classes-2 : goal.overflow_add-q-in-loop-classes-2
-overflow_add-q-in-loop-classes-2 c = search asking
-
-pub char_end-p-requires : goal.char_end-p-requires
-char_end-p-requires c = search asking
-
-pub loop-classes-smaller : goal.loop-classes-smaller
-loop-classes-smaller c = search asking
-
-pub loop-classes-preserved : goal.loop-classes-preserved
-loop-classes-preserved c = search asking
+pub returns : goal.returns
+returns c =
+    let src = c.args.src.now in
+    any_rewritten src c.args.i c.args.c _
+    (any_from_yields_List (λ e. not (is_kept src c.args.c e.start)) c.any.new.self _ c.any.result c.any.ensures.ran
+    (YieldsList-from_first (λ x. x) (λ s. escapes s.pattern.source.now s.at s.pattern.end) (escapes src c.args.i c.args.c) refl)
+    (λ x b q k. search rules))

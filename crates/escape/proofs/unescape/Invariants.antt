@@ -1,12 +1,12 @@
--- `escape::unescape` meets its contract: what is written, and what is left, make the whole text.
-use Prim.Native.Nat.{◌-◌}
-use Rattle.characters.specs.Class.{ClassTable}
-use Rattle.escape.specs.Escape.{unescaped}
-use Rattle.escape.proofs.Pieces.{Writing}
+-- `escape::unescape` meets its contract: what is appended, and the text from p on, make the whole text.
+use mathlib.Core.Path.{◌≡◌}
+use Prim.Native.Nat.{◌≤◌}
+use Rattle.escape.specs.Escape.{escapes, unescaped}
+use Rattle.escape.proofs.Writing.{Writing}
 use Rattle.escape.proofs.unescape.Given as goal
 
-abbrev pub invariant-loop-p : goal.invariant-loop-p
-invariant-loop-p l = ClassTable l.classes × Writing l.src l.flags l.c l.z (unescaped l.src l.flags l.i l.c) l.initial.area l.n l.p l.area l.count
-
-abbrev pub decreases-loop-p : goal.decreases-loop-p
-decreases-loop-p l = l.z - l.p
+abbrev pub invariant-loop-e : goal.invariant-loop-e
+invariant-loop-e l =
+    (goal.iterator-loop-e).can_next l.e-iterator × (goal.iterator-loop-e).is_finite l.e-iterator
+    × (escapes l.e-iterator.pattern.source.now l.e-iterator.at l.e-iterator.pattern.end ≡ escapes l.src l.p l.c) × (l.p ≤ l.c)
+    × Writing (unescaped l.src l.flags l.i l.c) l.initial.area l.n (unescaped l.src l.flags l.p l.c) l.area l.count

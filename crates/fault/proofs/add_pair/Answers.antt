@@ -1,30 +1,15 @@
 -- `fault::add_pair` meets its contract: both records have the next number.
-use Rattle.fault.proofs.Spans.{pairing}
+use Rattle.std.proofs.lemmas.Result.{err_from_is_err_and}
+use Rattle.fault.proofs.Spans.{pair_added, pair_refused, pair_fits}
 use Rattle.fault.proofs.add_pair.Goals as goal
 
-pub has_room-requires : goal.has_room-requires
-has_room-requires c = search pairing
+pub returns-in_err-m : goal.returns-in_err-m
+returns-in_err-m c =
+    let p = err_from_is_err_and c.from_residual.result c.from_residual.ensures.1 in
+    rw (p.1, p.2) (pair_fits c.requires _ c.has_room.ensures _ _ _ _ _ c.if-has_room.true _ c.next_number-number.ensures _ _ c.push.ensures c.in_err-m.was)
 
-pub next_number-number-requires : goal.next_number-number-requires
-next_number-number-requires c = search pairing
-
-pub push_fault-requires : goal.push_fault-requires
-push_fault-requires c = search pairing
-
-pub enum_known-m : goal.enum_known-m
-enum_known-m c = search pairing
-
-pub push_fault-requires-in-Next : goal.push_fault-requires-in-Next
-push_fault-requires-in-Next c = search pairing
-
-pub enum_told-1 : goal.enum_told-1
-enum_told-1 c = search pairing
-
-pub returns-in-Next : goal.returns-in-Next
-returns-in-Next c = search pairing
-
-pub returns-in-Full : goal.returns-in-Full
-returns-in-Full c = search pairing
+pub returns-then-has_room : goal.returns-then-has_room
+returns-then-has_room c = pair_added c.requires _ c.has_room.ensures _ _ _ _ _ c.if-has_room.true _ c.next_number-number.ensures _ _ c.push.ensures _ c.in_ok-m.was _ _ c.push-then-has_room.ensures
 
 pub returns : goal.returns
-returns c = search pairing
+returns c = pair_refused c.requires _ c.has_room.ensures _ _ _ _ _ c.if-has_room.false

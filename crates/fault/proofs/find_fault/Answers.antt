@@ -1,24 +1,12 @@
--- `fault::find_fault` meets its contract: from where the loop stands the first position is the same.
-use Rattle.fault.proofs.Spans.{finding}
+-- `fault::find_fault` meets its contract: the closure answers the test of a span.
+use borrow.Author.Rules.{rules}
+use Rattle.characters.proofs.Below.{below_by_find}
+use Rattle.area.specs.Contents.{contents, fault_format}
+use Rattle.fault.specs.Faults.{is_fault}
+use Rattle.fault.proofs.Spans.{fault_below}
 use Rattle.fault.proofs.find_fault.Goals as goal
 
-pub loop-j-init : goal.loop-j-init
-loop-j-init c = search finding
-
-pub is_fault-requires : goal.is_fault-requires
-is_fault-requires c = search finding
-
-pub returns-then-is_fault : goal.returns-then-is_fault
-returns-then-is_fault c = search finding
-
-pub overflow_add-j : goal.overflow_add-j
-overflow_add-j c = search finding
-
-pub loop-j-smaller : goal.loop-j-smaller
-loop-j-smaller c = search finding
-
-pub loop-j-preserved : goal.loop-j-preserved
-loop-j-preserved c = search finding
-
 pub returns : goal.returns
-returns c = search finding
+returns c =
+    let test = is_fault (contents fault_format c.args.area.now c.args.n) c.args.kind c.args.start c.args.end in
+    fault_below c.requires _ _ _ _ (below_by_find test c.args.n _ _ c.find.ensures.ran (λ x b q k. search rules))

@@ -1,24 +1,6 @@
--- `names::is_state` meets its contract: state 0 is INITIAL, and another state is read.
-use Rattle.names.proofs.Finds.{comparing_names}
+-- `names::is_state` meets its contract: the name of state 0, or the span of another's.
+use Rattle.names.proofs.Finds.{state_other}
 use Rattle.names.proofs.is_state.Goals as goal
 
-pub same_range-requires : goal.same_range-requires
-same_range-requires c = search comparing_names
-
-pub returns-then-j-eq0 : goal.returns-then-j-eq0
-returns-then-j-eq0 c = search comparing_names
-
-pub read_state-x-requires : goal.read_state-x-requires
-read_state-x-requires c = search comparing_names
-
-pub overflow_cast-x : goal.overflow_cast-x
-overflow_cast-x c = search comparing_names
-
-pub overflow_cast-x-2 : goal.overflow_cast-x-2
-overflow_cast-x-2 c = search comparing_names
-
-pub same_range-requires-2 : goal.same_range-requires-2
-same_range-requires-2 c = search comparing_names
-
 pub returns : goal.returns
-returns c = search comparing_names
+returns c xs is = state_other _ _ _ _ _ c.args.x c.if-j-eq0.false c.same_range-2.ensures xs is

@@ -1,27 +1,12 @@
--- `declarations::line::all_alphanumeric` meets its contract: from where the loop stands the first other byte is the same.
-use Rattle.declarations.proofs.Words.{bytes}
+-- `declarations::line::all_alphanumeric` meets its contract: the walk to the first byte that is neither letter nor digit.
+use borrow.Author.Rules.{rules}
+use mathlib.Core.Bool.{not}
+use Rattle.characters.specs.Whitespace.{byte}
+use Rattle.characters.proofs.Asking.{finds_first}
+use Rattle.names.proofs.Forms.{all_by_walk}
+use Rattle.declarations.specs.Declarations.{is_alphanumeric}
 use Rattle.declarations.proofs.line.all_alphanumeric.Goals as goal
 
-pub loop-k-init : goal.loop-k-init
-loop-k-init c = search bytes
-
-pub bounds-src-k : goal.bounds-src-k
-bounds-src-k c = search bytes
-
-pub is_alphanumeric-requires : goal.is_alphanumeric-requires
-is_alphanumeric-requires c = search bytes
-
-pub returns-then-not-is_alphanumeric : goal.returns-then-not-is_alphanumeric
-returns-then-not-is_alphanumeric c = search bytes
-
-pub overflow_add-k : goal.overflow_add-k
-overflow_add-k c = search bytes
-
-pub loop-k-smaller : goal.loop-k-smaller
-loop-k-smaller c = search bytes
-
-pub loop-k-preserved : goal.loop-k-preserved
-loop-k-preserved c = search bytes
-
 pub returns : goal.returns
-returns c = search bytes
+returns c =
+    all_by_walk is_alphanumeric _ _ _ _ (finds_first _ (λ k. not (is_alphanumeric (byte c.args.src.now k))) _ _ _ (λ k b i h q. search rules) c.find.ensures)

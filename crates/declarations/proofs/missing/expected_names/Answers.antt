@@ -1,36 +1,21 @@
 -- `declarations::missing::expected_names` meets its contract: the loop has come to the name at a.
-use Rattle.declarations.proofs.Expecting.{expecting_all}
+use mathlib.Core.Path.{refl}
+use Rattle.std.proofs.lemmas.Result.{err_from_is_err_and}
+use Rattle.area.specs.Contents.{expected_format, contents}
+use Rattle.declarations.specs.Declarations.{range, expected_names}
+use Rattle.declarations.proofs.Expecting.{expects_err, expects_less, expects_next, expects_done}
 use Rattle.declarations.proofs.missing.expected_names.Goals as goal
 
-pub skip_ascii_whitespace-a-requires : goal.skip_ascii_whitespace-a-requires
-skip_ascii_whitespace-a-requires c = search expecting_all
-
-pub loop-a-init : goal.loop-a-init
-loop-a-init c = search expecting_all
-
-pub next_expected-requires : goal.next_expected-requires
-next_expected-requires c = search expecting_all
-
-pub enum_known-next : goal.enum_known-next
-enum_known-next c = search expecting_all
+pub returns-in_err-a : goal.returns-in_err-a
+returns-in_err-a c =
+    let p = err_from_is_err_and c.from_residual.result c.from_residual.ensures.1 in
+    rw (p.1, p.2) (expects_err c.loop-a.invariant c.loop-a-test.true _ _ c.next_expected.ensures _ _ refl _ c.in_err-a.was)
 
 pub loop-a-smaller : goal.loop-a-smaller
-loop-a-smaller c = search expecting_all
+loop-a-smaller c = expects_less c.loop-a.invariant c.loop-a-test.true _ _ c.next_expected.ensures c.in_ok-a.was
 
 pub loop-a-preserved : goal.loop-a-preserved
-loop-a-preserved c = search expecting_all
-
-pub enum_known-kind : goal.enum_known-kind
-enum_known-kind c = search expecting_all
-
-pub returns-in-Bad : goal.returns-in-Bad
-returns-in-Bad c = search expecting_all
-
-pub enum_known-area_number : goal.enum_known-area_number
-enum_known-area_number c = search expecting_all
-
-pub returns-in-Full : goal.returns-in-Full
-returns-in-Full c = search expecting_all
+loop-a-preserved c = expects_next c.loop-a.invariant c.loop-a-test.true _ _ c.next_expected.ensures c.in_ok-a.was c.next_expected.auto.area
 
 pub returns : goal.returns
-returns c = search expecting_all
+returns c = expects_done _ _ c.loop-a.invariant c.loop-a-test.false

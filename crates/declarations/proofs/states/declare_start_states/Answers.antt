@@ -1,36 +1,20 @@
 -- `declarations::states::declare_start_states` meets its contract: the loop has come to the name at `at`.
-use Rattle.declarations.proofs.Declares.{declaring_all}
+use mathlib.Core.Path.{refl}
+use Rattle.std.proofs.lemmas.Result.{err_from_is_err_and}
+use Rattle.declarations.proofs.Declares.{declares_err, declares_less, declares_next, declares_done}
 use Rattle.declarations.proofs.states.declare_start_states.Goals as goal
 
-pub loop-at-init : goal.loop-at-init
-loop-at-init c = search declaring_all
-
-pub find_whitespace-e-requires : goal.find_whitespace-e-requires
-find_whitespace-e-requires c = search declaring_all
-
-pub declare_state-requires : goal.declare_state-requires
-declare_state-requires c = search declaring_all
-
-pub enum_known-next : goal.enum_known-next
-enum_known-next c = search declaring_all
+pub returns-in_err-at : goal.returns-in_err-at
+returns-in_err-at c =
+    let p = err_from_is_err_and c.from_residual.result c.from_residual.ensures.1 in
+    rw (p.1, p.2) (declares_err c.loop-at.invariant c.loop-at-test.true _ c.find_whitespace-e.ensures _ _ c.declare_state.ensures _ _ refl _ c.in_err-at.was)
 
 pub loop-at-smaller : goal.loop-at-smaller
-loop-at-smaller c = search declaring_all
+loop-at-smaller c = declares_less c.loop-at.invariant c.loop-at-test.true _ c.find_whitespace-e.ensures _ _ c.declare_state.ensures c.in_ok-at.was
 
 pub loop-at-preserved : goal.loop-at-preserved
-loop-at-preserved c = search declaring_all
-
-pub enum_known-kind : goal.enum_known-kind
-enum_known-kind c = search declaring_all
-
-pub returns-in-Bad : goal.returns-in-Bad
-returns-in-Bad c = search declaring_all
-
-pub enum_known-area_number : goal.enum_known-area_number
-enum_known-area_number c = search declaring_all
-
-pub returns-in-Full : goal.returns-in-Full
-returns-in-Full c = search declaring_all
+loop-at-preserved c =
+    declares_next c.loop-at.invariant c.loop-at-test.true _ c.find_whitespace-e.ensures _ _ c.declare_state.ensures c.in_ok-at.was c.declare_state.auto.area1 c.declare_state.auto.area6
 
 pub returns : goal.returns
-returns c = search declaring_all
+returns c = declares_done _ _ c.loop-at.invariant c.loop-at-test.false

@@ -11,13 +11,13 @@ loop-k-init c = (omega arith, matching_none _ _ _ _ _ _ _ c.requires.found_len c
 pub loop-k-preserved-then-x-ne1 : goal.loop-k-preserved-then-x-ne1
 loop-k-preserved-then-x-ne1 c = (
   omega arith,
-  matching_unnamed _ _ _ _ _ c.loop-k.invariant.1 c.loop-k-test.true _ c.read_rule-x.ensures c.if-x-ne1.true,
+  matching_unnamed _ _ _ _ _ c.loop-k.invariant.1 c.loop-k-test.true _ c.read-x.ensures c.if-x-ne1.true,
 )
 
 pub loop-k-preserved-in_default : goal.loop-k-preserved-in_default
 loop-k-preserved-in_default c = (
   omega arith,
-  matching_missing _ _ _ _ _ c.loop-k.invariant.1 c.loop-k-test.true _ c.read_rule-x.ensures c.args.index.now.index.different c.requires.count_le_most_rules.0
+  matching_missing _ _ _ _ _ c.loop-k.invariant.1 c.loop-k-test.true _ c.read-x.ensures c.args.index.now.index.different c.requires.count_le_most_rules.0
       c.if-x-ne1.false (sym c.in_default.is ∙ c.entry_of.ensures),
 )
 
@@ -36,7 +36,7 @@ bounds-used-j c =
 pub loop-k-preserved : goal.loop-k-preserved
 loop-k-preserved c = (
   omega arith,
-  matching_found _ _ _ _ _ c.loop-k.invariant.1 c.loop-k-test.true _ c.read_rule-x.ensures c.args.index.now.index.different c.requires.count_le_most_rules.0
+  matching_found _ _ _ _ _ c.loop-k.invariant.1 c.loop-k-test.true _ c.read-x.ensures c.args.index.now.index.different c.requires.count_le_most_rules.0
       c.if-x-ne1.false _ (sym c.in-Some.is ∙ c.entry_of.ensures) c.args.index.now.few,
 )
 

@@ -13,11 +13,11 @@ pub link_rule-requires : goal.link_rule-requires
 link_rule-requires c = λ named j is.
     let map = c.args.map.now in
     let inside = found_inside (name_of c.args.src.now) (map_in map) c.args.area.now c.loop-k.k c.args.count _ c.loop-k.invariant c.loop-k-test.true
-    c.args.found.now c.requires.entries_found _ c.read_rule-x.ensures named j is in
+    c.args.found.now c.requires.entries_found _ c.read-x.ensures named j is in
     omega (arith, inside, entries_count map.names.now map.entries.now)
 
 pub loop-k-preserved : goal.loop-k-preserved
 loop-k-preserved c =
     rules_next (name_of c.args.src.now) (map_in c.args.map.now) c.args.area.now c.loop-k.k c.args.count _ c.loop-k.invariant c.loop-k-test.true
-    c.args.found.now c.requires.entries_found _ c.read_rule-x.ensures c.requires.count_le_most_rules.0
-    (omega (arith, c.requires.count_le_most_rules.1, c.loop-k.auto.area)) _ _ _ c.link_rule.ensures c.push_rule.ensures
+    c.args.found.now c.requires.entries_found _ c.read-x.ensures
+    (omega (arith, c.requires.count_le_most_rules.1, c.loop-k.auto.area)) _ _ c.link_rule.ensures c.write.ensures

@@ -1,48 +1,57 @@
 -- `parse::call::parse_text` meets its contract: each return is what an outcome of the file leaves.
-use Rattle.parse.proofs.Calls.{text_clean, text_faulty, text_short}
+use mathlib.Core.Path.{sym, ◌∙◌}
+use Rattle.parse.proofs.Calls.{text_clean, text_faulty, text_refused}
 use Rattle.parse.proofs.call.parse_text.Goals as goal
 
-pub returns-in-Clean : goal.returns-in-Clean
-returns-in-Clean c =
+pub returns-in-Ok : goal.returns-in-Ok
+returns-in-Ok c =
     let done = c.parse_sections in
     text_clean _ _ _ _ _ _ _ _ _ _ _ _ _
     (record {
-      long1 = c.parse_sections.auto.area1;
-      long2 = c.parse_sections.auto.area2;
-      long3 = c.parse_sections.auto.area3;
-      long4 = c.parse_sections.auto.area4;
-      long5 = c.parse_sections.auto.area5;
-      long6 = c.parse_sections.auto.area6;
+      long1 = done.auto.area1;
+      long2 = done.auto.area2;
+      long3 = done.auto.area3;
+      long4 = done.auto.area4;
+      long5 = done.auto.area5;
+      long6 = done.auto.area6;
     })
-    done.result done.ensures _ c.in-Clean.is
+    done.result done.ensures _ c.in-Ok.is
 
-pub returns-in-Faulty : goal.returns-in-Faulty
-returns-in-Faulty c =
+pub returns-then-has_faults : goal.returns-then-has_faults
+returns-then-has_faults c =
     let done = c.parse_sections in
     text_faulty _ _ _ _ _ _ _ _ _ _ _ _ _
     (record {
-      long1 = c.parse_sections.auto.area1;
-      long2 = c.parse_sections.auto.area2;
-      long3 = c.parse_sections.auto.area3;
-      long4 = c.parse_sections.auto.area4;
-      long5 = c.parse_sections.auto.area5;
-      long6 = c.parse_sections.auto.area6;
+      long1 = done.auto.area1;
+      long2 = done.auto.area2;
+      long3 = done.auto.area3;
+      long4 = done.auto.area4;
+      long5 = done.auto.area5;
+      long6 = done.auto.area6;
     })
-    done.result done.ensures _ c.in-Faulty.is
-    c.clear.ensures c.clear-in-Faulty.ensures c.clear-in-Faulty-2.ensures
-    c.clear-in-Faulty-3.ensures c.clear-in-Faulty-4.ensures c.requires.counts_value
+    done.result done.ensures _ c.in-Err.is (sym c.has_faults.ensures ∙ c.if-has_faults.true)
+    c.clear.ensures c.clear-in-Err.ensures c.clear-in-Err-2.ensures
+    c.clear-in-Err-3.ensures c.clear-in-Err-4.ensures c.requires.counts_value
 
-pub returns-in-Short : goal.returns-in-Short
-returns-in-Short c =
+pub returns-else-has_faults : goal.returns-else-has_faults
+returns-else-has_faults c =
     let done = c.parse_sections in
-    text_short
+    text_refused
     (record {
-      long1 = c.parse_sections.auto.area1;
-      long2 = c.parse_sections.auto.area2;
-      long3 = c.parse_sections.auto.area3;
-      long4 = c.parse_sections.auto.area4;
-      long5 = c.parse_sections.auto.area5;
-      long6 = c.parse_sections.auto.area6;
+      long1 = done.auto.area1;
+      long2 = done.auto.area2;
+      long3 = done.auto.area3;
+      long4 = done.auto.area4;
+      long5 = done.auto.area5;
+      long6 = done.auto.area6;
     })
-    done.result done.ensures _ c.in-Short.is
-    c.clear_all.ensures c.requires.counts_value
+    done.result done.ensures _ c.in-Err.is (sym c.has_faults.ensures ∙ c.if-has_faults.false)
+    (record {
+      is1 = c.clear.ensures;
+      is2 = c.clear-in-Err.ensures;
+      is3 = c.clear-in-Err-2.ensures;
+      is4 = c.clear-in-Err-3.ensures;
+      is5 = c.clear-in-Err-4.ensures;
+      is6 = c.clear-in-Err-5.ensures;
+    })
+    c.requires.counts_value

@@ -1,21 +1,18 @@
 -- `parse::sections::parse_opening` meets its contract: the state that is pushed, then the declarations.
-use Rattle.parse.proofs.Files.{opening_up}
+use Rattle.std.proofs.lemmas.Result.{err_from_is_err_and}
+use Rattle.section.specs.Request.{options}
+use Rattle.parse.proofs.Files.{opening_full, opening_held, opening_on}
 use Rattle.parse.proofs.sections.parse_opening.Goals as goal
 
-pub push_state-requires : goal.push_state-requires
-push_state-requires c = search opening_up
+pub returns-in_err-counts : goal.returns-in_err-counts
+returns-in_err-counts c =
+    let p = err_from_is_err_and c.from_residual.result c.from_residual.ensures.1 in
+    rw (p.1, p.2) (opening_full _ (options c.args.lex_file.flags) _ _ _ _ c.requires.held_declared _ c.push.ensures c.args.counts.now c.in_err-counts.was)
 
-pub enum_known-n : goal.enum_known-n
-enum_known-n c = search opening_up
+pub parse_declarations-requires-clause-held_declared : goal.parse_declarations-requires-clause-held_declared
+parse_declarations-requires-clause-held_declared c =
+    opening_held c.args.lex_file.source.now (options c.args.lex_file.flags) _ _ _ _ c.requires.held_declared _ c.push.ensures c.in_ok-counts.was
 
-pub parse_declarations-requires : goal.parse_declarations-requires
-parse_declarations-requires c = search opening_up
-
-pub enum_told-1 : goal.enum_told-1
-enum_told-1 c = search opening_up
-
-pub returns-in-Next : goal.returns-in-Next
-returns-in-Next c = search opening_up
-
-pub returns-in-Full : goal.returns-in-Full
-returns-in-Full c = search opening_up
+pub returns : goal.returns
+returns c =
+    opening_on _ (options c.args.lex_file.flags) _ _ _ _ c.requires.held_declared _ c.push.ensures c.in_ok-counts.was c.parse_declarations.ensures

@@ -1,65 +1,46 @@
 -- `parse::sections::parse_sections` meets its contract: each return is an outcome of the file.
-use mathlib.Core.Path.{ap}
-use Rattle.section.specs.Request.{request, options}
-use Rattle.declarations.specs.Answers.{declaration_progress}
-use Rattle.rules_section.specs.Answers.{rule_progress}
-use Rattle.parse.proofs.Files.{no_names, file_short, file_closed, rules_inside, states_held, rules_held, rules_short, rules_closed, rules_judged}
+use Rattle.section.specs.Request.{asked_by}
+use Rattle.parse.proofs.Files.{nothing_held, no_names, opening_faults, file_stops, rules_inside, states_fit, rules_held, rules_faults, rules_stop, rules_judged}
 use Rattle.parse.proofs.sections.parse_sections.Goals as goal
 
-pub parse_rules-requires : goal.parse_rules-requires
-parse_rules-requires c =
-    let asked = request c.args.src.now (options c.args.flags) c.args.verdicts.now in
-    let opening = c.parse_opening in
-    let went = c.in-Go.is in
-    record {
-      i_in_bounds = (rules_inside asked _ _ _ _ _ _ c.requires.zeroed _ _ _ opening.result opening.ensures _ _ went, c.requires.src_len_bound);
-      held = states_held asked _ _ _ _ _ _ c.requires.zeroed _ _ _ opening.result opening.ensures _ _ went;
-      held_ruled = rules_held asked _ _ _ _ _ _ c.requires.zeroed _ _ _ opening.result opening.ensures _ _ went;
-      distinct_names = no_names _ _;
-    }
+pub parse_opening-requires-clause-held_declared : goal.parse_opening-requires-clause-held_declared
+parse_opening-requires-clause-held_declared c = nothing_held c.requires.zeroed
 
-pub add_fault-requires : goal.add_fault-requires
-add_fault-requires c = (c.parse_rules.ensures.ends _ _ _ (ap rule_progress c.in-Bad-parse_rules.is)).faults
+pub close-requires : goal.close-requires
+close-requires c = opening_faults (asked_by c.args.lex_file) _ _ _ _ _ _ c.requires.zeroed _ _ _ _ _ c.parse_opening.ensures _ c.in-Err.is
 
-pub add_fault-requires-in-Bad : goal.add_fault-requires-in-Bad
-add_fault-requires-in-Bad c = (c.parse_opening.ensures.ends _ _ _ (ap declaration_progress c.in-Bad.is)).faults
+pub new-states-requires : goal.new-states-requires
+new-states-requires c = states_fit (asked_by c.args.lex_file) _ _ _ _ _ _ c.requires.zeroed _ _ _ _ _ c.parse_opening.ensures c.in-Ok.is
 
-pub returns-in-Go-parse_rules : goal.returns-in-Go-parse_rules
-returns-in-Go-parse_rules c =
-    let asked = request c.args.src.now (options c.args.flags) c.args.verdicts.now in
-    let opening = c.parse_opening in
-    let rules = c.parse_rules in
-    rules_judged asked _ _ _ _ _ _ c.requires.zeroed _ _ _ opening.result opening.ensures _ _ c.in-Go.is
-    _ _ _ _ rules.result rules.ensures c.parse_opening.auto.area6 _ _ c.in-Go-parse_rules.is c.judge.result c.judge.ensures
+pub parse_rules-requires-clause-i_in_bounds : goal.parse_rules-requires-clause-i_in_bounds
+parse_rules-requires-clause-i_in_bounds c =
+    (rules_inside (asked_by c.args.lex_file) _ _ _ _ _ _ c.requires.zeroed _ _ _ _ _ c.parse_opening.ensures c.in-Ok.is, c.requires.source_len_bound)
 
-pub returns-in-Bad-parse_rules : goal.returns-in-Bad-parse_rules
-returns-in-Bad-parse_rules c =
-    let asked = request c.args.src.now (options c.args.flags) c.args.verdicts.now in
-    let opening = c.parse_opening in
-    let rules = c.parse_rules in
-    let added = c.add_fault in
-    rules_closed asked _ _ _ _ _ _ c.requires.zeroed _ _ _ opening.result opening.ensures _ _ c.in-Go.is
-    _ _ _ _ rules.result rules.ensures c.parse_opening.auto.area6 _ _ _ c.in-Bad-parse_rules.is c.parse_rules.auto.area6
-    added.result _ added.ensures c.close.result c.close.ensures
+pub parse_rules-requires-clause-held_ruled : goal.parse_rules-requires-clause-held_ruled
+parse_rules-requires-clause-held_ruled c =
+    rw c.no_rules-ruled.ensures (rules_held (asked_by c.args.lex_file) _ _ _ _ _ _ c.requires.zeroed _ _ _ _ _ c.parse_opening.ensures c.in-Ok.is)
 
-pub returns-in-Full-parse_rules : goal.returns-in-Full-parse_rules
-returns-in-Full-parse_rules c =
-    let asked = request c.args.src.now (options c.args.flags) c.args.verdicts.now in
-    let opening = c.parse_opening in
-    let rules = c.parse_rules in
-    rules_short asked _ _ _ _ _ _ c.requires.zeroed _ _ _ opening.result opening.ensures _ _ c.in-Go.is
-    _ _ _ _ rules.result rules.ensures c.parse_opening.auto.area6 _ c.in-Full-parse_rules.is
+pub parse_rules-requires-clause-distinct_names : goal.parse_rules-requires-clause-distinct_names
+parse_rules-requires-clause-distinct_names c = rw c.no_rules-ruled.ensures (no_names _ _)
 
-pub returns-in-Bad : goal.returns-in-Bad
-returns-in-Bad c =
-    let asked = request c.args.src.now (options c.args.flags) c.args.verdicts.now in
-    let opening = c.parse_opening in
-    let added = c.add_fault-in-Bad in
-    file_closed asked _ _ _ _ _ _ c.requires.zeroed _ _ _ opening.result opening.ensures _ _ _ c.in-Bad.is
-    c.parse_opening.auto.area6 added.result _ added.ensures c.close-in-Bad.result c.close-in-Bad.ensures
+pub close-requires-in-Err-parse_rules : goal.close-requires-in-Err-parse_rules
+close-requires-in-Err-parse_rules c =
+    rules_faults (asked_by c.args.lex_file) _ _ _ _ _ _ c.requires.zeroed _ _ _ _ _ c.parse_opening.ensures c.in-Ok.is
+    _ _ _ _ _ _ (rw (c.new-states.ensures, c.no_rules-ruled.ensures) at c.parse_rules.ensures) c.parse_opening.auto.area6 _ c.in-Err-parse_rules.is
 
-pub returns-in-Full : goal.returns-in-Full
-returns-in-Full c =
-    let asked = request c.args.src.now (options c.args.flags) c.args.verdicts.now in
-    let opening = c.parse_opening in
-    file_short asked _ _ _ _ _ _ c.requires.zeroed _ _ _ opening.result opening.ensures _ c.in-Full.is
+pub returns-in-Err : goal.returns-in-Err
+returns-in-Err c =
+    file_stops (asked_by c.args.lex_file) _ _ _ _ _ _ c.requires.zeroed _ _ _ _ _ c.parse_opening.ensures _ c.in-Err.is c.parse_opening.auto.area6
+    c.close.ensures
+
+pub returns-in-Err-parse_rules : goal.returns-in-Err-parse_rules
+returns-in-Err-parse_rules c =
+    rules_stop (asked_by c.args.lex_file) _ _ _ _ _ _ c.requires.zeroed _ _ _ _ _ c.parse_opening.ensures c.in-Ok.is
+    _ _ _ _ _ _ (rw (c.new-states.ensures, c.no_rules-ruled.ensures) at c.parse_rules.ensures) c.parse_opening.auto.area6 _ c.in-Err-parse_rules.is
+    c.parse_rules.auto.area6 c.close-in-Err-parse_rules.ensures
+
+pub returns-in-Ok-parse_rules : goal.returns-in-Ok-parse_rules
+returns-in-Ok-parse_rules c =
+    rules_judged (asked_by c.args.lex_file) _ _ _ _ _ _ c.requires.zeroed _ _ _ _ _ c.parse_opening.ensures c.in-Ok.is
+    _ _ _ _ _ _ (rw (c.new-states.ensures, c.no_rules-ruled.ensures) at c.parse_rules.ensures) c.parse_opening.auto.area6 c.in-Ok-parse_rules.is
+    _ c.judge.ensures

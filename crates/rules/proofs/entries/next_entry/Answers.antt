@@ -1,33 +1,16 @@
--- `rules::entries::next_entry` meets its contract: each return is an outcome of the step.
-use Rattle.rules.proofs.Listing.{listing}
+-- `rules::entries::next_entry` meets its contract: an entry is appended, or the area is full.
+use Rattle.std.proofs.lemmas.Result.{err_from_is_err_and}
+use Rattle.rules.proofs.Listing.{entry_next, entry_full}
 use Rattle.rules.proofs.entries.next_entry.Goals as goal
 
-pub find_byte-e-requires : goal.find_byte-e-requires
-find_byte-e-requires c = search listing
-
-pub state_between-j-requires : goal.state_between-j-requires
-state_between-j-requires c = search listing
-
-pub overflow_cast-j : goal.overflow_cast-j
-overflow_cast-j c = search listing
-
-pub push_entry-requires : goal.push_entry-requires
-push_entry-requires c = search listing
-
-pub enum_known-m : goal.enum_known-m
-enum_known-m c = search listing
-
-pub overflow_add-result : goal.overflow_add-result
-overflow_add-result c = search listing
-
-pub enum_told-1 : goal.enum_told-1
-enum_told-1 c = search listing
-
-pub returns-in-Next : goal.returns-in-Next
-returns-in-Next c = search listing
-
-pub returns-in-Full : goal.returns-in-Full
-returns-in-Full c = search listing
+pub returns-in_err-count : goal.returns-in_err-count
+returns-in_err-count c =
+    let p = err_from_is_err_and c.from_residual.result c.from_residual.ensures.1 in
+    rw (p.1, p.2)
+    (entry_full _ _ _ _ _ _ _ c.requires.held _ c.find_byte-e.ensures _ c.state_between.ensures c.in-Some.is _ c.number.ensures _ _ c.push.ensures 0
+    c.in_err-count.was)
 
 pub returns : goal.returns
-returns c = search listing
+returns c =
+    entry_next _ _ _ _ _ _ _ c.requires.held _ c.find_byte-e.ensures _ c.state_between.ensures c.in-Some.is _ c.number.ensures _ _ c.push.ensures
+    c.in_ok-count.was

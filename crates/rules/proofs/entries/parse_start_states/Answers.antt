@@ -1,39 +1,19 @@
 -- `rules::entries::parse_start_states` meets its contract: the loop has come to the name at a.
-use Rattle.rules.proofs.Listing.{listing_all}
+use mathlib.Core.Path.{refl}
+use Rattle.std.proofs.lemmas.Result.{err_from_is_err_and}
+use Rattle.rules.proofs.Listing.{lists_err, lists_less, lists_next, lists_done}
 use Rattle.rules.proofs.entries.parse_start_states.Goals as goal
 
-pub overflow_add-a : goal.overflow_add-a
-overflow_add-a c = search listing_all
-
-pub loop-a-init : goal.loop-a-init
-loop-a-init c = search listing_all
-
-pub overflow_cast-i : goal.overflow_cast-i
-overflow_cast-i c = search listing_all
-
-pub next_entry-requires : goal.next_entry-requires
-next_entry-requires c = search listing_all
-
-pub enum_known-next : goal.enum_known-next
-enum_known-next c = search listing_all
+pub returns-in_err-a : goal.returns-in_err-a
+returns-in_err-a c =
+    let p = err_from_is_err_and c.from_residual.result c.from_residual.ensures.1 in
+    rw (p.1, p.2) (lists_err c.loop-a.invariant c.loop-a-test.true _ _ c.next_entry.ensures _ _ refl _ c.in_err-a.was)
 
 pub loop-a-smaller : goal.loop-a-smaller
-loop-a-smaller c = search listing_all
+loop-a-smaller c = lists_less c.loop-a.invariant c.loop-a-test.true _ _ c.next_entry.ensures c.in_ok-a.was
 
 pub loop-a-preserved : goal.loop-a-preserved
-loop-a-preserved c = search listing_all
-
-pub enum_known-kind : goal.enum_known-kind
-enum_known-kind c = search listing_all
-
-pub returns-in-Bad : goal.returns-in-Bad
-returns-in-Bad c = search listing_all
-
-pub enum_known-area_number : goal.enum_known-area_number
-enum_known-area_number c = search listing_all
-
-pub returns-in-Full : goal.returns-in-Full
-returns-in-Full c = search listing_all
+loop-a-preserved c = lists_next c.loop-a.invariant c.loop-a-test.true _ _ c.next_entry.ensures c.in_ok-a.was c.next_entry.auto.area3
 
 pub returns : goal.returns
-returns c = search listing_all
+returns c = lists_done _ _ c.loop-a.invariant c.loop-a-test.false

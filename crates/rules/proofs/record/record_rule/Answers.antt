@@ -1,24 +1,12 @@
--- `rules::record::record_rule` meets its contract: each return is an outcome of the step.
-use Rattle.rules.proofs.Recording.{recording}
+-- `rules::record::record_rule` meets its contract: the record is appended, or the area is full.
+use Rattle.std.proofs.lemmas.Result.{err_from_is_err_and}
+use Rattle.rules.proofs.Recording.{rule_next, rule_full}
 use Rattle.rules.proofs.record.record_rule.Goals as goal
 
-pub refuses-requires : goal.refuses-requires
-refuses-requires c = search recording
+pub returns-in_err-count : goal.returns-in_err-count
+returns-in_err-count c =
+    let p = err_from_is_err_and c.from_residual.result c.from_residual.ensures.1 in
+    rw (p.1, p.2) (rule_full _ _ _ _ _ _ c.requires _ c.refuses.ensures c.if-refuses.false _ _ c.push.ensures 0 c.in_err-count.was)
 
-pub returns-then-refuses : goal.returns-then-refuses
-returns-then-refuses c = search recording
-
-pub push_rule-requires : goal.push_rule-requires
-push_rule-requires c = search recording
-
-pub enum_known-m : goal.enum_known-m
-enum_known-m c = search recording
-
-pub enum_told-1 : goal.enum_told-1
-enum_told-1 c = search recording
-
-pub returns-in-Next : goal.returns-in-Next
-returns-in-Next c = search recording
-
-pub returns-in-Full : goal.returns-in-Full
-returns-in-Full c = search recording
+pub returns : goal.returns
+returns c = rule_next _ _ _ _ _ _ c.requires _ c.refuses.ensures c.if-refuses.false _ _ c.push.ensures c.in_ok-count.was

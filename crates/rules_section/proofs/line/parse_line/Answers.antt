@@ -1,27 +1,16 @@
--- `rules_section::line::parse_line` meets its contract: each return is an outcome of the line.
-use Rattle.rules_section.proofs.RuleLines.{lining}
+-- `rules_section::line::parse_line` meets its contract: text that starts with whitespace is a fault.
+use Rattle.std.proofs.lemmas.Result.{err_from_is_err_and}
+use Rattle.section.specs.Request.{asked_by}
+use Rattle.rules_section.proofs.RuleLines.{line_verbatim, line_no_room}
 use Rattle.rules_section.proofs.line.parse_line.Goals as goal
 
-pub matches_whitespace-requires : goal.matches_whitespace-requires
-matches_whitespace-requires c = search lining
-
-pub overflow_cast-i : goal.overflow_cast-i
-overflow_cast-i c = search lining
-
-pub overflow_cast-e : goal.overflow_cast-e
-overflow_cast-e c = search lining
-
-pub add_fault-requires : goal.add_fault-requires
-add_fault-requires c = search lining
-
-pub on_with_faults-requires : goal.on_with_faults-requires
-on_with_faults-requires c = search lining
+pub returns-in_err-counts : goal.returns-in_err-counts
+returns-in_err-counts c =
+    let p = err_from_is_err_and c.from_residual.result c.from_residual.ensures.1 in
+    rw (p.1, p.2) (line_no_room (asked_by c.args.file) _ _ _ _ _ _ _ _ c.requires.held_ruled _ c.matches_whitespace.ensures c.if-matches_whitespace.true _
+    c.add_fault.ensures c.args.counts.now c.in_err-counts.was)
 
 pub returns-then-matches_whitespace : goal.returns-then-matches_whitespace
-returns-then-matches_whitespace c = search lining
-
-pub parse_rule-requires : goal.parse_rule-requires
-parse_rule-requires c = search lining
-
-pub returns : goal.returns
-returns c = search lining
+returns-then-matches_whitespace c =
+    line_verbatim (asked_by c.args.file) _ _ _ _ _ _ _ _ c.requires.held_ruled _ c.matches_whitespace.ensures c.if-matches_whitespace.true _
+    c.add_fault.ensures c.in_ok-counts.was

@@ -3,13 +3,13 @@ use native.Mathlib.Omega.{arith}
 use Rattle.sheet_check.proofs.Patterns.{rule_bytes_lem, rule_located, rule_past, sheet_broken}
 use Rattle.sheet_check.proofs.pattern.locate.Goals as goal
 
-pub read_rule-x-requires : goal.read_rule-x-requires
-read_rule-x-requires c = rule_bytes_lem _ _ _ c.check.ensures c.if-check.true (omega (arith, c.if-rule-wide.true, c.wide.ensures))
+pub read-x-requires : goal.read-x-requires
+read-x-requires c = rule_bytes_lem _ _ _ c.check.ensures c.if-check.true (omega (arith, c.if-rule-wide.true, c.wide.ensures))
 
 pub returns-then-rule-wide : goal.returns-then-rule-wide
 returns-then-rule-wide c =
     rule_located _ _ _ c.check.ensures _ c.if-check.true (omega (arith, c.if-rule-wide.true, c.wide.ensures))
-    c.read_rule-x.ensures
+    c.read-x.ensures
 
 pub returns-else-rule-wide : goal.returns-else-rule-wide
 returns-else-rule-wide c = rule_past _ _ _ c.check.ensures c.if-check.true (omega (arith, c.if-rule-wide.false, c.wide.ensures))
