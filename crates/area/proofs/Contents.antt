@@ -10,7 +10,6 @@ use lib.Dec.{leb}
 use lib.ListN.{length, get_or, take, length-append, get_or-append}
 use lib.Seq.{take-suc, take-length, get_or_at}
 use Rattle.std.specs.Prelude.{Result, Ok, Err}
-use Rattle.area.specs.declared.AreaName.{AreaName}
 use Rattle.area.specs.declared.AreaFull.{AreaFull}
 use Rattle.area.specs.Areas.{Area, Pushed, room, insert_at, inserted}
 use mathlib.Core.Option.{none, some}

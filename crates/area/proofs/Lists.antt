@@ -2,11 +2,11 @@
 -- after some turns is a concatenation of parts of the lists at its start; its laws say so before the first turn, for one turn more, and at the end.
 -- Assumes nothing.
 use mathlib.Core.Path.{◌≡◌, sym, ap, ap₂, ◌∙◌}
-use mathlib.Core.List.{List, [], ◌∷◌, ◌++◌, append_assoc, append-nil}
+use mathlib.Core.List.{List, ◌++◌, append_assoc, append-nil}
 use Prim.Native.Nat.{ℕ, zero, suc, ◌+◌, ◌*◌, ◌-◌, ◌≤◌}
-use native.Mathlib.Nat.{add-zero, zero-add, zero-sub, sub-zero, suc-sub-suc}
+use native.Mathlib.Nat.{zero-add, zero-sub, sub-zero, suc-sub-suc}
 use native.Mathlib.Omega.{arith}
-use lib.ListN.{length, take, drop, set, length-append, length-replicate, length-drop}
+use lib.ListN.{length, take, drop, length-append, length-replicate, length-drop}
 use lib.Seq.{sets, sets-eq, drop-drop, take-append_seam, drop-append-add, drop-append_seam, length-take-le, drop-length, take-length}
 use borrow.Rule.Slice.PartMut.{put_mid, mid_of}
 use Rattle.std.specs.List.{copy_within}
@@ -14,15 +14,6 @@ use Rattle.area.specs.Bytes.{pad, zeros}
 use Rattle.area.specs.Areas.{move_up, inserted}
 
 -- ---- stores
-
-sets_sets : (us l : List ℕ) (i : ℕ) (vs : List ℕ) → sets (sets l i us) (i + length us) vs ≡ sets l i (us ++ vs)
-sets_sets [] l i vs = ap (λ (j : ℕ). sets l j vs) (add-zero i)
-sets_sets (u ∷ us) l i vs =
-    ap (λ (j : ℕ). sets (sets (set l i u) (suc i) us) j vs) (omega arith) ∙ sets_sets us (set l i u) (suc i) vs
-
--- a run of stores behind another
-pub sets_then : (l : List ℕ) {m e : List ℕ} (i j : ℕ) (us vs : List ℕ) → m ≡ sets l i us → e ≡ sets m j vs → j ≡ i + length us → e ≡ sets l i (us ++ vs)
-sets_then l i j us vs p q r = q ∙ ap₂ (λ (t : List ℕ) (k : ℕ). sets t k vs) p r ∙ sets_sets us l i vs
 
 -- a run of stores over the front
 pub sets_front : (v u t : List ℕ) → length u ≡ length v → sets (u ++ t) 0 v ≡ v ++ t
@@ -32,10 +23,9 @@ sets_front v u t h =
     ∙ ap (λ (r : List ℕ). v ++ r) (drop-append_seam u t)
 
 -- a part of a list, written over as a whole
-pub put_part : (a k : ℕ) (l v t : List ℕ) → t ≡ v → length v ≡ k → a + k ≤ length l → put_mid a k l t ≡ sets l a v
-put_part a k l v t e q h =
-    ap (λ (r : List ℕ). take a l ++ (r ++ drop k (drop a l))) e
-    ∙ ap (λ (r : List ℕ). take a l ++ (v ++ r)) (drop-drop k a l ∙ ap (λ (j : ℕ). drop (a + j) l) (sym q))
+pub put_part : (a k : ℕ) (l v : List ℕ) → length v ≡ k → a + k ≤ length l → put_mid a k l v ≡ sets l a v
+put_part a k l v q h =
+    ap (λ (r : List ℕ). take a l ++ (v ++ r)) (drop-drop k a l ∙ ap (λ (j : ℕ). drop (a + j) l) (sym q))
     ∙ sym (append_assoc (take a l) v (drop (a + length v) l))
     ∙ sym (sets-eq v l a (omega (arith, q)))
 

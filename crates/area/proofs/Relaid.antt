@@ -1,22 +1,17 @@
 -- Records that are written back over the front of an area, one after the other: the bytes in front are those of the new records, the bytes behind are
 -- untouched, and a record is read as it was. A record depends on its own bytes only (`Local`).
 use mathlib.Core.Path.{◌≡◌, refl, sym, ap, ap₂, ◌∙◌}
-use mathlib.Core.Bool.{Bool, true, cond}
 use mathlib.Core.List.{List, ◌∷◌, [], ◌++◌, map, map-append}
 use Prim.Native.Nat.{ℕ, ◌+◌, ◌*◌, ◌-◌, ◌≤◌, ◌<◌}
-use native.Mathlib.Nat.{suc-mul, mul-le-mul_right, add_assoc, le_refl}
+use native.Mathlib.Nat.{suc-mul, add_assoc, le_refl}
 use native.Mathlib.Numerals.{add-one}
 use native.Mathlib.Omega.{arith}
 use lib.ListN.{length, get_or, take, drop, length-map}
 use lib.Seq.{sets, sets-eq, take_at, drop-append-add, drop-drop, get_or-append-add, get_or-drop}
-use Rattle.std.specs.Prelude.{Result, Ok, Err}
-use Rattle.area.specs.declared.AreaName.{AreaName}
-use Rattle.area.specs.declared.AreaFull.{AreaFull}
 use Rattle.area.specs.Bytes.{bytes, pad, zeros, field_at, field_from}
 use Rattle.area.specs.Records.{rule_width, rule_of, rule_at}
-use Rattle.area.specs.Areas.{Area, Pushed, room}
+use Rattle.area.specs.Areas.{Area, room}
 use Rattle.area.specs.Contents.{Format, contents, list_of, rule_format, relaid}
-use Rattle.area.proofs.Rooms.{room_yes}
 use Rattle.area.proofs.Fields.{bytes-append, bytes_single, bytes-length, bytes-at}
 use Rattle.area.proofs.Contents.{Sound, list_of_is, contents_count}
 

@@ -1,20 +1,19 @@
 -- What the tests for room say of `room`, and what an append says on each of its ways out. `room` is two tests joined, so each law
 -- takes the first one apart and leaves the second.
 -- Assumes nothing.
-use mathlib.Core.Path.{◌≡◌, refl, sym, ap, ap₂, ◌∙◌, subst}
+use mathlib.Core.Path.{◌≡◌, refl, sym, ap₂, ◌∙◌}
 use mathlib.Core.Bool.{Bool, true, false, ◌&&◌}
 use mathlib.Core.List.{List}
-use Prim.Native.Nat.{ℕ, suc, ◌+◌, ◌*◌, ◌-◌, ◌<◌, ◌≤◌}
-use native.Mathlib.Nat.{add_assoc, mul-le-mul, mul-le-mul_right, mul-one, suc-mul}
+use Prim.Native.Nat.{ℕ, suc, ◌+◌, ◌*◌, ◌<◌, ◌≤◌}
+use native.Mathlib.Nat.{add_assoc, mul-le-mul, mul-le-mul_right, suc-mul}
 use native.Mathlib.Omega.{arith}
 use native.Mathlib.Numerals.{add-one}
-use borrow.Author.Rules.{rules}
-use borrow.Author.Tests.{le-leb, lt-leb, leb-true}
+use borrow.Author.Tests.{le-leb, leb-true}
 use lib.Dec.{leb}
 use mir.Syntax.{w16}
 use mir.Val.{Fits}
-use lib.ListN.{length, take, drop, length-drop}
-use lib.Seq.{sets, length-take-le}
+use lib.ListN.{length}
+use lib.Seq.{sets}
 use Rattle.std.specs.Prelude.{Ok, Err}
 use Rattle.area.specs.declared.AreaName.{AreaName}
 use Rattle.area.specs.Areas.{room, Pushed, full}
@@ -25,16 +24,9 @@ both true b e = (refl, e)
 both false b e = (e, cc)
 
 module _ (w limit cap n m : ℕ) where
-  pub room_over : limit < n + m → false ≡ room w limit cap n m
-  unfolding room
-  room_over h = rw (lt-leb (n + m) limit h)
-
-  pub room_test : n + m ≤ limit → leb ((n + m) * w) cap ≡ room w limit cap n m
-  unfolding room
-  room_test h = rw (le-leb (n + m) limit h)
-
   pub room_yes : n + m ≤ limit → (n + m) * w ≤ cap → room w limit cap n m ≡ true
-  room_yes h f = sym (room_test h) ∙ le-leb ((n + m) * w) cap f
+  unfolding room
+  room_yes h f = rw (le-leb (n + m) limit h, le-leb ((n + m) * w) cap f)
 
   pub room_few : room w limit cap n m ≡ true → n + m ≤ limit
   unfolding room
@@ -93,41 +85,7 @@ module _ (name : AreaName) (w limit m : ℕ) (v l : List ℕ) (n : ℕ) (t : Boo
       let y : room w limit (length l) n m ≡ false = sym is ∙ h in
       record { says = rw y; leaves = rw y }
 
-pub ruleset pushes = (rules, was_small, was_next, push_next, push_full)
-
--- ---- the same for a part of a text
-
-abbrev pub cut : List ℕ → ℕ → ℕ → List ℕ
-cut s from to = take (to - from) (drop from s)
-
-module _ (s : List ℕ) (from to : ℕ) (ordered : from ≤ to) (inside : to ≤ length s) where
-  cut_length : length (cut s from to) ≡ to - from
-  cut_length = length-take-le (to - from) (drop from s) (omega (arith, length-drop from s))
-
-  module _ (name : AreaName) (limit : ℕ) (l : List ℕ) (n : ℕ) (t : Bool) (is : t ≡ room 1 limit (length l) n (to - from)) where
-    room_cut : t ≡ room 1 limit (length l) n (length (cut s from to))
-    room_cut = is ∙ ap (room 1 limit (length l) n) (sym cut_length)
-
-    pub text_fits : t ≡ true → n + length (cut s from to) ≤ length l
-    text_fits e = omega (arith, cut_length, was_fit 1 limit (length l) n (to - from) t is e)
-
-    pub text_next : (e : List ℕ) → t ≡ true → e ≡ sets l n (cut s from to)
-        → Pushed name 1 limit (length (cut s from to)) (cut s from to) l n (Ok (n + (to - from))) e
-    text_next e h p =
-        let v : List ℕ = cut s from to in
-        let q : e ≡ sets l (n * 1) v = p ∙ ap (λ (i : ℕ). sets l i v) (sym (mul-one n)) in
-        subst (λ (k : ℕ). Pushed name 1 limit (length v) v l n (Ok (n + k)) e) cut_length (push_next name 1 limit (length v) v l n t room_cut e h q)
-
-    pub text_full : t ≡ false → Pushed name 1 limit (length (cut s from to)) (cut s from to) l n (Err (full name)) l
-    text_full h = push_full name 1 limit (length (cut s from to)) (cut s from to) l n t room_cut h
-
 -- the test that the code makes by its own numbers
 pub sized_room : {A : Type 0} {F : Format A} {w most : ℕ} {name : AreaName} (s : Sized F name w most) (cap n m u v : ℕ) (t : Bool) → u ≡ w → v ≡ most → t ≡ room u v cap n m
     → t ≡ room F.width F.most cap n m
 sized_room s cap n m u v t p q is = is ∙ ap₂ (λ (a b : ℕ). room a b cap n m) (p ∙ s.width_is) (q ∙ s.most_is)
-
--- room for bytes
-pub was_inside : (limit cap n m : ℕ) (t : Bool) → t ≡ room 1 limit cap n m → t ≡ true → n + m ≤ cap
-was_inside limit cap n m t is e = omega (arith, was_fit 1 limit cap n m t is e)
-
-pub ruleset texts = (rules, was_small, text_fits, text_next, text_full)

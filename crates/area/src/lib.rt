@@ -98,32 +98,22 @@ pub struct Fault {
 
 // ---- fields: two bytes, the low one first
 
+#[tactic(auto, unfolding(crate::specs::Bytes::two))]
 pub fn write_field(area: &mut [u8], at: usize, value: u16)
     requires { at + 2 ≤ length area.old }
     ensures { area.new ≡ sets area.old at (two value) }
 {
-    area[at] = (value % 256) as u8;
-    area[at + 1] = (value / 256) as u8;
+    let [low, high] = value.to_le_bytes();
+    area[at] = low;
+    area[at + 1] = high;
 }
 
+#[tactic(auto, unfolding(crate::specs::Bytes::field_at))]
 pub fn read_field(area: &[u8], at: usize) -> u16
     requires { at + 2 ≤ length area.now }
     ensures { result ≡ field_at area.now at }
 {
-    let low = area[at] as u16;
-    let high = area[at + 1] as u16;
-    low + high * 256
-}
-
-// Wide records are written by fours, so that no proof has to join more than five facts.
-fn write_four(area: &mut [u8], at: usize, a: u16, b: u16, c: u16, d: u16)
-    requires { at + 8 ≤ length area.old }
-    ensures { area.new ≡ sets area.old at (bytes two (a ∷ b ∷ c ∷ d ∷ [])) }
-{
-    write_field(area, at, a);
-    write_field(area, at + 2, b);
-    write_field(area, at + 4, c);
-    write_field(area, at + 6, d);
+    u16::from_le_bytes([area[at], area[at + 1]])
 }
 
 // ---- records
@@ -175,6 +165,7 @@ impl Record for State {
 
     const MOST: usize = MOST_STATES;
 
+    #[tactic(auto, unfolding(crate::specs::Records::state_at, crate::specs::Records::state_of, crate::specs::Bytes::field_from))]
     fn read(area: &[u8], k: usize) -> State {
         let at = k * STATE_WIDTH;
         State {
@@ -184,6 +175,7 @@ impl Record for State {
         }
     }
 
+    #[tactic(auto, unfolding(crate::specs::Bytes::two, crate::specs::Bytes::bytes, crate::specs::Records::state_fields))]
     fn write(self, area: &mut [u8], at: usize) {
         write_field(area, at, self.start);
         write_field(area, at + 2, self.end);
@@ -208,6 +200,7 @@ impl Record for Rule {
 
     const MOST: usize = MOST_RULES;
 
+    #[tactic(auto, unfolding(crate::specs::Records::rule_at, crate::specs::Records::rule_of, crate::specs::Bytes::field_from))]
     fn read(area: &[u8], k: usize) -> Rule {
         let at = k * RULE_WIDTH;
         Rule {
@@ -228,24 +221,20 @@ impl Record for Rule {
         }
     }
 
+    #[tactic(auto, unfolding(crate::specs::Bytes::two, crate::specs::Bytes::bytes, crate::specs::Records::rule_fields))]
     fn write(self, area: &mut [u8], at: usize) {
-        write_four(area, at, self.has_id, self.id, self.named, self.span_start);
-        write_four(
-            area,
-            at + 8,
-            self.span_end,
-            self.name_from,
-            self.name_length,
-            self.place,
-        );
-        write_four(
-            area,
-            at + 16,
-            self.text_from,
-            self.text_length,
-            self.list_from,
-            self.list_count,
-        );
+        write_field(area, at, self.has_id);
+        write_field(area, at + 2, self.id);
+        write_field(area, at + 4, self.named);
+        write_field(area, at + 6, self.span_start);
+        write_field(area, at + 8, self.span_end);
+        write_field(area, at + 10, self.name_from);
+        write_field(area, at + 12, self.name_length);
+        write_field(area, at + 14, self.place);
+        write_field(area, at + 16, self.text_from);
+        write_field(area, at + 18, self.text_length);
+        write_field(area, at + 20, self.list_from);
+        write_field(area, at + 22, self.list_count);
         write_field(area, at + 24, self.operation);
         write_field(area, at + 26, self.target);
     }
@@ -269,10 +258,12 @@ impl Record for u16 {
 
     const MOST: usize = MOST_OTHERS;
 
+    #[tactic(auto, unfolding(crate::specs::Records::entry_at, crate::specs::Bytes::field_from))]
     fn read(area: &[u8], k: usize) -> u16 {
         read_field(area, k * ENTRY_WIDTH)
     }
 
+    #[tactic(auto, unfolding(crate::specs::Bytes::two, crate::specs::Bytes::bytes, crate::specs::Records::entry_fields))]
     fn write(self, area: &mut [u8], at: usize) {
         write_field(area, at, self);
     }
@@ -295,6 +286,7 @@ impl Record for Expected {
 
     const MOST: usize = MOST_OTHERS;
 
+    #[tactic(auto, unfolding(crate::specs::Records::expected_at, crate::specs::Records::expected_of, crate::specs::Bytes::field_from))]
     fn read(area: &[u8], k: usize) -> Expected {
         let at = k * EXPECTED_WIDTH;
         Expected {
@@ -303,6 +295,7 @@ impl Record for Expected {
         }
     }
 
+    #[tactic(auto, unfolding(crate::specs::Bytes::two, crate::specs::Bytes::bytes, crate::specs::Records::expected_fields))]
     fn write(self, area: &mut [u8], at: usize) {
         write_field(area, at, self.start);
         write_field(area, at + 2, self.end);
@@ -326,6 +319,7 @@ impl Record for Fault {
 
     const MOST: usize = MOST_OTHERS;
 
+    #[tactic(auto, unfolding(crate::specs::Records::fault_at, crate::specs::Records::fault_of, crate::specs::Bytes::field_from))]
     fn read(area: &[u8], k: usize) -> Fault {
         let at = k * FAULT_WIDTH;
         Fault {
@@ -336,8 +330,12 @@ impl Record for Fault {
         }
     }
 
+    #[tactic(auto, unfolding(crate::specs::Bytes::two, crate::specs::Bytes::bytes, crate::specs::Records::fault_fields))]
     fn write(self, area: &mut [u8], at: usize) {
-        write_four(area, at, self.number, self.kind, self.start, self.end);
+        write_field(area, at, self.number);
+        write_field(area, at + 2, self.kind);
+        write_field(area, at + 4, self.start);
+        write_field(area, at + 6, self.end);
     }
 }
 
@@ -353,6 +351,7 @@ pub fn read<R: Record>(area: &[u8], k: usize) -> R
 
 // Whether m records more, behind n, fit the length and do not pass the limit. The limit comes first, so that the product
 // cannot wrap.
+#[tactic(auto, unfolding(crate::specs::Areas::room))]
 pub fn has_room(length: usize, width: usize, limit: usize, n: usize, m: usize) -> bool
     requires { (width ≤ 28) × (limit ≤ 65535) }
     ensures { result ≡ room width limit length n m }
@@ -382,6 +381,7 @@ pub fn push<R: Record>(area: &mut [u8], n: u16, x: R) -> Result<u16, AreaFull>
 // ---- text, appended
 
 // The bytes of the source from a place up to another, behind n bytes: all of them or none.
+#[tactic(auto, using(crate::proofs::Lists::put_part), unfolding(crate::specs::Areas::room))]
 pub fn push_text(
     area: &mut [u8],
     n: u16,

@@ -5,12 +5,11 @@ use mathlib.Core.List.{List}
 use mathlib.Core.Logic.{⊎_elim}
 use Prim.Native.Nat.{ℕ, ◌+◌, ◌-◌, ◌≤◌, ◌<◌}
 use native.Mathlib.Omega.{arith}
-use borrow.Author.Rules.{rules}
 use borrow.Author.Tests.{lt-ltb, le-ltb, le-leb, lt-leb}
 use lib.ListN.{length}
-use Rattle.characters.specs.Whitespace.{byte, Width}
+use Rattle.characters.specs.Whitespace.{Width}
 use Rattle.characters.specs.Utf8.{two_bytes, three_bytes, four_bytes, char_of, char_at, char_len}
-use Rattle.characters.proofs.Tests.{le_or_lt, answer}
+use Rattle.characters.proofs.Tests.{le_or_lt}
 
 module _ (a b c d : ℕ) where
   pub char_one : a < 0x80 → 1 ≡ char_of a b c d
@@ -29,10 +28,6 @@ module _ (a b c d : ℕ) where
   unfolding char_of
   char_four h e f g = simp (le-ltb a 0x80 h, e, f, g)
 
-  pub char_none : 0x80 ≤ a → two_bytes a b ≡ false → three_bytes a b c ≡ false → four_bytes a b c d ≡ false → 0 ≡ char_of a b c d
-  unfolding char_of
-  char_none h e f g = simp (le-ltb a 0x80 h, e, f, g)
-
 module _ (s : List ℕ) (k : ℕ) where
   pub char_fits : k + char_at s k ≤ length s → char_at s k ≡ char_len s k
   unfolding char_len
@@ -46,15 +41,12 @@ module _ (s : List ℕ) (k : ℕ) where
   char_inside p =
       ⊎_elim (λ h. omega (arith, char_fits h)) (λ h. absurd (omega (arith, char_cut h))) (le_or_lt (k + char_at s k) (length s))
 
--- the character at k, from what is answered of the bytes there
-module _ (s : List ℕ) (k n a b c d : ℕ) (e : n ≡ char_of a b c d) (ea : a ≡ byte s k) (eb : b ≡ byte s (k + 1)) (ec : c ≡ byte s (k + 2)) (ed : d ≡ byte s (k + 3)) where
-  at_k : n ≡ char_at s k
-  at_k = cc
+-- the character at k, from what is known of the bytes there
+module _ (s : List ℕ) (k : ℕ) (h : k ≤ length s) where
+  pub char_width : (n : ℕ) → n ≡ char_at s k → n ≤ length s - k → Width s k (char_len s k) n
+  char_width n e f = record { is = e ∙ char_fits s k (omega arith); fits = omega arith }
 
-  pub char_width : n ≤ length s - k → k ≤ length s → Width s k (char_len s k) n
-  char_width h g = record { is = at_k ∙ char_fits s k (omega (arith, at_k)); fits = omega arith }
+  pub char_cut_width : (n : ℕ) → n ≡ char_at s k → length s - k < n → Width s k (char_len s k) 0
+  char_cut_width n e f = record { is = char_cut s k (omega arith); fits = omega arith }
 
-  pub char_cut_width : length s - k < n → k ≤ length s → Width s k (char_len s k) 0
-  char_cut_width h g = record { is = char_cut s k (omega (arith, at_k)); fits = omega arith }
-
-pub ruleset measuring_chars = (rules, answer, char_one, char_two, char_three, char_four, char_none, char_width, char_cut_width)
+pub ruleset measuring_chars = (char_width, char_cut_width)

@@ -400,6 +400,4 @@ ascii_block s k r f e = record { none = λ z. none_of (λ j. out_of_place_behind
 pub one_of_three : (x y z p q r : Bool) → x ≡ p → y ≡ q → z ≡ r → x || (y || z) ≡ p || (q || r)
 one_of_three x y z p q r e f g = cc
 
-pub ruleset looking_for_out_of_place = (rules, one_of_three)
-
 pub ruleset passing_blocks = (rules, none_yet, block_passed, rest_rules_out, rules_out_nothing)

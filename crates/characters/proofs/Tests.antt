@@ -61,9 +61,6 @@ range_of lo hi b e =
 pub answer : (r b x : Bool) → r ≡ b → r ≡ x → b ≡ x
 answer r b x e f = sym e ∙ f
 
-pub answer_or : (p r b x : Bool) → r ≡ b → p || r ≡ x → p || b ≡ x
-answer_or p r b x e f = ap (λ (t : Bool). p || t) (sym e) ∙ f
-
 -- the same of a test that the definition negates, where the code does too and where it does not
 pub answer_not : (r b x : Bool) → r ≡ b → not r ≡ x → not b ≡ x
 answer_not r b x e f = ap not (sym e) ∙ f

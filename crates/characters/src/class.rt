@@ -389,6 +389,7 @@ pub fn is_always_kept_in(classes: &[u8; 256], b: u8) -> bool
 }
 
 // Whether a byte is a whitespace character by itself.
+#[tactic(auto, using(crate::proofs::Shortcuts::settling))]
 pub fn is_whitespace_byte(b: u8) -> bool
     ensures { result ≡ is_whitespace_byte b }
 {

@@ -62,6 +62,7 @@ fn four_bytes(a: u8, b: u8, c: u8, d: u8) -> bool
 }
 
 // Of the bytes a b c d, how many make a character, or 0.
+#[tactic(auto, unfolding(crate::specs::Utf8::char_of))]
 fn char_of(a: u8, b: u8, c: u8, d: u8) -> usize
     ensures { result ≡ char_of a b c d }
 {
@@ -81,6 +82,7 @@ fn char_of(a: u8, b: u8, c: u8, d: u8) -> usize
 }
 
 // How many bytes the character has that starts at k and ends within the text, or 0.
+#[tactic(auto, using(crate::proofs::Chars::measuring_chars))]
 pub fn char_len(s: &[u8], k: usize) -> usize
     requires { k ≤ length s.now }
     ensures { Width s.now k (char_len s.now k) result }
@@ -127,6 +129,7 @@ fn is_out_of_place(a: u8, b: u8, c: u8, d: u8) -> bool
 }
 
 // Whether one of the first three bytes a b c of a text is out of place.
+#[tactic(auto, unfolding(crate::specs::Shortcuts::starts_out_of_place))]
 fn starts_out_of_place(a: u8, b: u8, c: u8) -> bool
     ensures { result ≡ starts_out_of_place a b c }
 {
@@ -134,6 +137,7 @@ fn starts_out_of_place(a: u8, b: u8, c: u8) -> bool
 }
 
 // Whether a text whose last three bytes are a b c ends inside a character.
+#[tactic(auto, unfolding(crate::specs::Shortcuts::ends_out_of_place))]
 fn ends_out_of_place(a: u8, b: u8, c: u8) -> bool
     ensures { result ≡ ends_out_of_place a b c }
 {
@@ -163,6 +167,7 @@ fn block_out_of_place(s: &[u8], k: usize) -> bool
 }
 
 // Whether one of the n bytes from position 3 on is out of place, with a way out at the first block that has one.
+#[tactic(auto, using(crate::proofs::InPlace::passing_blocks))]
 fn is_any_out_of_place(s: &[u8], n: usize) -> bool
     requires { n + 3 ≤ length s.now }
     ensures { RulesOut (any (out_of_place_behind s.now) n) result }

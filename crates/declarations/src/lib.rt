@@ -1,4 +1,5 @@
 // The declarations of a lex file: start states and expected names (01, Declarations).
+// The areas that are lent for writing stay parameters beside their counts: a struct of them, lent again, has no proof (tried).
 #![tactic(auto)]
 
 mod line; // what a declaration's line says
@@ -15,12 +16,12 @@ ghost use Rattle.declarations.specs.Phrases.{DoesDeclared};
 use fault::{LexErrorKind, Stop};
 use line::declaration_of;
 use missing::expected_names;
-use section::in_section;
 use section::reader::{next_declaration, past_blanks};
+use section::{LexFile, in_section};
 use states::declare_start_states;
 use text::range::lookahead_is;
 
-// A declaration's line: names of states (exclusive, from, to); expected names (from); or neither.
+// A declaration's line: names of states (exclusive, from, to); expected names (from); or neither, which the definition names too.
 #[derive(Clone, Copy, PartialEq, Eq, Debug)]
 pub enum Declaration {
     States(u16, usize, usize),
@@ -45,7 +46,7 @@ pub struct DeclarationCounts {
 // The declaration in the line from i to e.
 #[tactic(auto, using(crate::proofs::Lines::lining_up))]
 fn parse_declaration(
-    src: &[u8],
+    file: LexFile,
     i: usize,
     e: usize,
     counts: &mut DeclarationCounts,
@@ -53,45 +54,44 @@ fn parse_declaration(
     area5: &mut [u8],
     area6: &mut [u8],
 ) -> Result<usize, Stop>
-    requires i_le_e { ((i ≤ e) × (e ≤ length src.now)) × (length src.now ≤ 65535) }
+    requires i_le_e { (i ≤ e) × (e ≤ length file.source.now) }
     requires held_declared { HeldDeclared area1.old area5.old area6.old counts.old }
-    ensures { DoesDeclared (λ k. declaration src.now k i e) area1 area5 area6 counts result }
+    ensures { DoesDeclared (λ k. declaration file.entry.source.now k i e) area1 area5 area6 counts result }
 {
-    match declaration_of(src, i, e) {
+    match declaration_of(file.source, i, e) {
         Declaration::States(exclusive, a, t) => {
-            declare_start_states(src, exclusive, a, t, &mut counts.names, area1, area6)?;
+            declare_start_states(file, exclusive, a, t, &mut counts.names, area1, area6)?;
             Ok(e)
         }
         Declaration::Expecting(w) => {
-            expected_names(src, i as u16, e, w, area5, &mut counts.expected)?;
+            expected_names(file, i as u16, e, w, area5, &mut counts.expected)?;
             Ok(e)
         }
         Declaration::Unknown => Err(Stop::Fault(LexErrorKind::UnknownDeclaration, i as u16)),
     }
 }
 
-// The declarations from i on, up to the `%%` and the blanks behind it.
+// The declarations from i on, up to the `%%` and the blanks behind it. It goes from line to line and counts no index.
 #[tactic(auto, using(crate::proofs::Lines::sectioning))]
 pub fn parse_declarations(
-    src: &[u8],
-    flags: u64,
+    file: LexFile,
     i: usize,
     counts: &mut DeclarationCounts,
     area1: &mut [u8],
     area5: &mut [u8],
     area6: &mut [u8],
 ) -> Result<usize, Stop>
-    requires i_in_bounds { (i ≤ length src.now) × (length src.now ≤ 65535) }
+    requires i_in_bounds { i ≤ length file.source.now }
     requires held_declared { HeldDeclared area1.old area5.old area6.old counts.old }
-    ensures { DoesDeclared (λ k. declarations src.now (options flags) k i) area1 area5 area6 counts result }
+    ensures { DoesDeclared (λ k. declarations file.entry.source.now (options file.entry.flags) k i) area1 area5 area6 counts result }
 {
-    let mut line = next_declaration(src, flags, i);
-    while in_section(src, line.start) {
-        parse_declaration(src, line.start, line.end, counts, area1, area5, area6)?;
-        line = next_declaration(src, flags, line.end);
+    let mut line = next_declaration(file.source, file.flags, i);
+    while in_section(file.source, line.start) {
+        parse_declaration(file, line.start, line.end, counts, area1, area5, area6)?;
+        line = next_declaration(file.source, file.flags, line.end);
     }
-    let Some(j) = lookahead_is(src, b"%%", line.start) else {
+    let Some(j) = lookahead_is(file.source, b"%%", line.start) else {
         return Err(Stop::Fault(LexErrorKind::PrematureEnd, line.start as u16));
     };
-    Ok(past_blanks(src, j))
+    Ok(past_blanks(file.source, j))
 }

@@ -1,4 +1,4 @@
-// What a declaration's line says: its first word decides (01, Declarations).
+// What a declaration's line says: its first word decides (01, Declarations). A part of the line is two places of the source, as in the definitions.
 ghost use Rattle.std.specs.Prelude.{◌≡◌, ◌+◌, ◌≤◌, length};
 ghost use Rattle.area.specs.Phrases.{before};
 ghost use Rattle.names.specs.Names.{all_bytes};

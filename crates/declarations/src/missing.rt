@@ -8,6 +8,7 @@ ghost use Rattle.declarations.specs.Declarations.{range, is_quoted, declare_expe
 
 use area::{Expected, push};
 use fault::{LexErrorKind, Stop};
+use section::LexFile;
 use text::scan::{find_ascii_whitespace, skip_ascii_whitespace};
 
 #[tactic(auto, using(crate::proofs::Expecting::quoting))]
@@ -24,46 +25,48 @@ fn is_quoted(src: &[u8], a: usize, e: usize) -> bool
 // The next name from a on, in the line from i to e.
 #[tactic(auto, using(crate::proofs::Expecting::expecting))]
 fn next_expected(
-    src: &[u8],
+    file: LexFile,
     i: u16,
     e: usize,
     a: usize,
     area: &mut [u8],
     count: &mut u16,
 ) -> Result<usize, Stop>
-    requires a_lt_e { ((a < e) × (e ≤ length src.now)) × (length src.now ≤ 65535) }
+    requires a_lt_e { (a < e) × (e ≤ length file.source.now) }
     requires held { Held expected_format area.old count.old }
-    ensures { DoesRecords expected_format (λ c5. declare_expected src.now c5 (range i e) (range a (find_ascii_whitespace src.now a e))) area count result }
+    ensures { DoesRecords expected_format
+        (λ c5. declare_expected file.entry.source.now c5 (range i e) (range a (find_ascii_whitespace file.entry.source.now a e)))
+        area count result }
 {
-    let end = find_ascii_whitespace(src, a, e);
-    if is_quoted(src, a, end) {
+    let end = find_ascii_whitespace(file.source, a, e);
+    if is_quoted(file.source, a, end) {
         let name = Expected {
             start: (a + 1) as u16,
             end: (end - 1) as u16,
         };
         *count = push(area, *count, name)?;
-        return Ok(skip_ascii_whitespace(src, end, e));
+        return Ok(skip_ascii_whitespace(file.source, end, e));
     }
     Err(Stop::Fault(LexErrorKind::InvalidName, i))
 }
 
-// The names from w to the line's end e.
+// The names from w to the line's end e, each as far as it goes: no index is counted.
 #[tactic(auto, using(crate::proofs::Expecting::expecting_all))]
 pub fn expected_names(
-    src: &[u8],
+    file: LexFile,
     i: u16,
     e: usize,
     w: usize,
     area: &mut [u8],
     count: &mut u16,
 ) -> Result<usize, Stop>
-    requires w_le_e { ((w ≤ e) × (e ≤ length src.now)) × (length src.now ≤ 65535) }
+    requires w_le_e { (w ≤ e) × (e ≤ length file.source.now) }
     requires held { Held expected_format area.old count.old }
-    ensures { DoesRecords expected_format (λ c5. expected_names src.now c5 (range i e) w) area count result }
+    ensures { DoesRecords expected_format (λ c5. expected_names file.entry.source.now c5 (range i e) w) area count result }
 {
-    let mut a = skip_ascii_whitespace(src, w, e);
+    let mut a = skip_ascii_whitespace(file.source, w, e);
     while a < e {
-        a = next_expected(src, i, e, a, area, count)?;
+        a = next_expected(file, i, e, a, area, count)?;
     }
     Ok(a)
 }

@@ -1,4 +1,4 @@
-// The states that a line declares (01, Declarations).
+// The states that a line declares (01, Declarations). `exclusive` is a field of their records, and chooses no step.
 ghost use Rattle.std.specs.Prelude.{◌≡◌, ◌+◌, ◌≤◌, ◌<◌, length};
 ghost use Rattle.area.specs.Contents.{state_format, contents, Held};
 ghost use Rattle.area.specs.Phrases.{before};
@@ -13,6 +13,7 @@ use area::{State, push};
 use characters::whitespace::whitespace_len;
 use fault::{LexErrorKind, Span, Stop, add_duplicate_occurrence};
 use names::{get_start_state_by_name, validate_start_state_name};
+use section::LexFile;
 use text::scan::find_whitespace;
 
 // The span of the state that has the name from a to e, if there is one.
@@ -42,7 +43,7 @@ fn validate_start_state(
 // Declares the name from a to e.
 #[tactic(auto, using(crate::proofs::Declares::declaring))]
 fn declare_state(
-    src: &[u8],
+    file: LexFile,
     exclusive: u16,
     a: usize,
     e: usize,
@@ -50,14 +51,14 @@ fn declare_state(
     area1: &mut [u8],
     area6: &mut [u8],
 ) -> Result<usize, Stop>
-    requires a_le_e { ((a ≤ e) × (e ≤ length src.now)) × (length src.now ≤ 65535) }
+    requires a_le_e { (a ≤ e) × (e ≤ length file.source.now) }
     requires held_names { HeldNames area1.old area6.old counts.old }
-    ensures { DoesNames (λ k. declare_state src.now k (state a e exclusive)) area1 area6 counts result }
+    ensures { DoesNames (λ k. declare_state file.entry.source.now k (state a e exclusive)) area1 area6 counts result }
 {
-    let next = e + whitespace_len(src, e);
+    let next = e + whitespace_len(file.source, e);
     let start = a as u16;
     let end = e as u16;
-    match validate_start_state(src, a, e, &Records::new(area1, counts.states)) {
+    match validate_start_state(file.source, a, e, &Records::new(area1, counts.states)) {
         Err(kind) => Err(Stop::Fault(kind, start)),
         Ok(Some(first)) => {
             let kind = LexErrorKind::DuplicateStartState;
@@ -77,10 +78,10 @@ fn declare_state(
     }
 }
 
-// Declares the names from a to t.
+// Declares the names from a to t, each as far as it goes: no index is counted.
 #[tactic(auto, using(crate::proofs::Declares::declaring_all))]
 pub fn declare_start_states(
-    src: &[u8],
+    file: LexFile,
     exclusive: u16,
     a: usize,
     t: usize,
@@ -88,14 +89,14 @@ pub fn declare_start_states(
     area1: &mut [u8],
     area6: &mut [u8],
 ) -> Result<usize, Stop>
-    requires t_in_bounds { (t ≤ length src.now) × (length src.now ≤ 65535) }
+    requires t_in_bounds { t ≤ length file.source.now }
     requires held_names { HeldNames area1.old area6.old counts.old }
-    ensures { DoesNames (λ k. state_names src.now k exclusive (range a t)) area1 area6 counts result }
+    ensures { DoesNames (λ k. state_names file.entry.source.now k exclusive (range a t)) area1 area6 counts result }
 {
     let mut at = a;
     while at < t {
-        let e = find_whitespace(src, at, t);
-        at = declare_state(src, exclusive, at, e, counts, area1, area6)?;
+        let e = find_whitespace(file.source, at, t);
+        at = declare_state(file, exclusive, at, e, counts, area1, area6)?;
     }
     Ok(at)
 }

@@ -2,6 +2,5 @@ pub mod Kept
 pub mod Backslashes
 pub mod Steps
 pub mod Passed
-pub mod Pushing
 pub mod Writing
 pub mod Characters

@@ -1,4 +1,6 @@
 // A pattern's escapes: whether one of them is rewritten, and the rewritten text, appended to the text area (01, Rules).
+// Functions take the source and places in it, as the definitions do: a part of the source would move each place. The area goes with its count,
+// for a struct of a `&mut` slice and a count that is lent again gets no proof.
 #![tactic(auto)]
 
 ghost use Rattle.std.specs.Prelude.{◌≡◌, [], ◌+◌, ◌≤◌, ◌<◌, length};
@@ -178,6 +180,7 @@ fn posix_escapes(flags: u64) -> bool
 }
 
 // What `\b` becomes.
+#[tactic(auto, unfolding(crate::specs::Escape::backspace))]
 fn push_backspace(flags: u64, area: &mut [u8], n: u16) -> Result<u16, AreaFull>
     ensures { PushedText (backspace flags) area.old n result area.new }
 {
@@ -189,7 +192,7 @@ fn push_backspace(flags: u64, area: &mut [u8], n: u16) -> Result<u16, AreaFull>
 
 impl<'a> Pattern<'a> {
     // Where what an escape but `\b` becomes starts: at its backslash if it stays.
-    #[tactic(auto, using(crate::proofs::Pushing::starting))]
+    #[tactic(auto, unfolding(crate::specs::Escape::escape_from))]
     fn escape_from(&self, e: Escape) -> usize
         requires { (e.backslash ≤ e.start) × (e.start < self.now.end) }
         ensures { Between e.backslash e.start (escape_from self.now.source.now self.now.end e) result }
@@ -201,6 +204,7 @@ impl<'a> Pattern<'a> {
     }
 
     // What the escape becomes.
+    #[tactic(auto, unfolding(crate::specs::Escape::escaped, text::specs::Range::part))]
     fn push_escape(&self, flags: u64, e: Escape, area: &mut [u8], n: u16) -> Result<u16, AreaFull>
         requires { (e.backslash ≤ e.start) × (e.start < e.end) × (e.end ≤ self.now.end) }
         ensures { PushedText (escaped self.now.source.now flags self.now.end e) area.old n result area.new }

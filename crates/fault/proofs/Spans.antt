@@ -1,7 +1,7 @@
 -- The spans of the fault area, read back from its bytes. Each law turns what the code reads and writes into what the definitions say of the
 -- list that the area holds; that numbers stay low goes along.
 use mathlib.Core.Path.{◌≡◌, refl, sym, ap, subst, ◌∙◌}
-use mathlib.Core.Bool.{Bool, true, false, cond, not, ◌&&◌, true≢false}
+use mathlib.Core.Bool.{Bool, true, false, cond, true≢false}
 use mathlib.Core.List.{List, [], ◌∷◌, ◌++◌, append_assoc}
 use mathlib.Core.Logic.{⊎_elim}
 use mathlib.Core.Option.{none, some}
@@ -9,27 +9,27 @@ use mathlib.Core.Option as Math
 use Prim.Native.Nat.{ℕ, zero, suc, ◌+◌, ◌*◌, ◌-◌, ◌≤◌, ◌<◌}
 use native.Mathlib.Omega.{arith}
 use borrow.Author.Rules.{rules}
-use borrow.Author.Tests.{eq-eqb, ne_eqb, eqb-false, lt-ltb, le-ltb}
+use borrow.Author.Tests.{eq-eqb, eqb-false, lt-ltb, le-ltb}
 use lib.Dec.{eqb}
 use mir.Syntax.{w16}
 use mir.Val.{Fits}
 use lib.ListN.{length, take, drop, length-append, length-drop, get_or-append}
 use lib.Seq.{get_or-append-add, get_or-take, get_or-drop, length-take-le}
 use Rattle.std.specs.Prelude.{Option, Some, None, Result, Ok, Err}
-use Rattle.characters.specs.Walk.{first, last, Between, Below, FindsLast}
+use Rattle.characters.specs.Walk.{last, Between, Below, FindsLast}
 use Rattle.characters.proofs.Asking.{Answers, finds_last}
-use Rattle.characters.proofs.Walks.{first_found, first_again, first_ended, last_found, last_again, last_ended, last_passed}
-use Rattle.characters.proofs.Tests.{answer, le_or_lt}
+use Rattle.characters.proofs.Walks.{last_passed}
+use Rattle.characters.proofs.Tests.{le_or_lt}
 use Rattle.area.specs.declared.Fault.{Fault}
 use Rattle.area.specs.declared.AreaFull.{AreaFull}
 use Rattle.area.specs.declared.AreaName.TheVariants.{Faults}
 use Rattle.area.specs.Areas.{Pushed, room, insert_at, inserted, full}
-use Rattle.area.specs.Records.{fault_at, fault_bytes, fault_width, most_others, nth_fault}
+use Rattle.area.specs.Records.{fault_bytes, fault_width, most_others, nth_fault}
 use Rattle.area.specs.Contents.{append, contents, fault_format, Grows, left_by}
 use Rattle.area.proofs.Rooms.{room_few, room_fits, room_fewer, room_later}
 use Rattle.area.proofs.Areas.{full_says, next_says}
-use Rattle.area.proofs.Contents.{contents-at, contents-length, fault_sound, held_insert, held_push}
-use Rattle.fault.specs.Faults.{fault, Numbered, HeldFaults, GrowsFaults, next_number, add_fault, starts_fault, is_fault, find_fault, behind, fault_end, add_span, add_pair, repeat_at, add_repeat}
+use Rattle.area.proofs.Contents.{contents-length, fault_sound, held_insert, held_push}
+use Rattle.fault.specs.Faults.{fault, Numbered, HeldFaults, GrowsFaults, next_number, add_fault, find_fault, behind, fault_end, add_span, add_pair, repeat_at, add_repeat}
 
 abbrev spans : List ℕ → ℕ → List Fault
 spans l n = contents fault_format l n
@@ -38,32 +38,12 @@ module _ {l : List ℕ} {n : ℕ} (h : HeldFaults l n) where
   pub span_count : length (spans l n) ≡ n
   span_count = contents-length fault_sound h.held
 
-  pub span_read : (j : ℕ) → j < n → nth_fault (spans l n) j ≡ fault_at l j
-  span_read j g = contents-at fault_sound h.held j g
+-- ---- the next number
 
-  span_few : n ≤ 65535
-  span_few = h.held.area.few
-
-  -- ---- the next number
-
-  pub number_first : n ≡ 0 → 0 ≡ next_number (spans l n)
-  unfolding next_number
-  number_first z = rw (eq-eqb (length (spans l n)) 0 (span_count ∙ z))
-
-  module _ (x : Fault) (is : x ≡ fault_at l (n - 1)) (some : n ≡ 0 → ⊥) where
-    last_span : nth_fault (spans l n) (length (spans l n) - 1) ≡ x
-    last_span = ap (λ (m : ℕ). nth_fault (spans l n) (m - 1)) span_count ∙ span_read (n - 1) (omega arith) ∙ sym is
-
-    pub number_next : x.number + 1 ≡ next_number (spans l n)
-    unfolding next_number
-    number_next = rw (ne_eqb (length (spans l n)) 0 (λ z. some (sym span_count ∙ z)), last_span)
-
-    pub number_fits : Fits w16 (x.number + 1)
-    number_fits =
-        let q : nth_fault (spans l n) (n - 1) ≡ x = span_read (n - 1) (omega arith) ∙ sym is in
-        record { fits = omega (arith, ap (λ (y : Fault). y.number) q, h.numbered.low (n - 1) (omega (arith, span_count)), span_few) }
-
-pub ruleset numbering = (rules, number_first, number_next, number_fits)
+module _ (fs : List Fault) (few : length fs ≤ 65535) (h : Numbered fs) (x : Fault) (is : x ≡ nth_fault fs (length fs - 1))
+    (some : length fs ≡ 0 → ⊥) where
+  pub number_fits : Fits w16 (x.number + 1)
+  number_fits = record { fits = omega (arith, ap (λ (y : Fault). y.number) is, h.low (length fs - 1) (omega arith)) }
 
 -- ---- numbers stay low
 
@@ -160,58 +140,32 @@ module _ {l : List ℕ} {n : ℕ} (h : HeldFaults l n) where
         low zero b = omega (arith, number_low)
         low (suc k) b = absurd (omega arith)
 
-pub ruleset adding = (rules, fault_added)
-
--- ---- a fault looked for
-
-module _ {l : List ℕ} {n : ℕ} (h : HeldFaults l n) (j : ℕ) (g : j < n) where
-  pub starts_first : j ≡ 0 → true ≡ starts_fault (spans l n) j
-  unfolding starts_fault
-  starts_first z = rw (eq-eqb j 0 z)
-
-  pub starts_other : (x y : Fault) → (j ≡ 0 → ⊥) → x ≡ fault_at l (j - 1) → y ≡ fault_at l j
-      → not (eqb x.number y.number) ≡ starts_fault (spans l n) j
-  unfolding starts_fault
-  starts_other x y z ex ey =
-      rw (ne_eqb j 0 z, span_read h (j - 1) (omega arith), span_read h j g, ← ex, ← ey)
-
-  pub is_the_fault : (x : Fault) (t : Bool) (kind a e : ℕ) → x ≡ fault_at l j → t ≡ starts_fault (spans l n) j
-      → eqb x.kind kind && (eqb x.start a && (eqb x.end e && t)) ≡ is_fault (spans l n) kind a e j
-  unfolding is_fault
-  is_the_fault x t kind a e ex et = rw (span_read h j g, ← ex, ← et)
-
-pub ruleset looking = (rules, starts_first, starts_other, is_the_fault)
-
-module _ {l : List ℕ} {n : ℕ} (h : HeldFaults l n) (kind a e : ℕ) where
-  pub fault_below : (r : Option ℕ) → Below n (first (is_fault (spans l n) kind a e) 0 n) r → Below n (find_fault (spans l n) kind a e) r
-  unfolding find_fault
-  fault_below r b = rw (span_count h) b
-
 -- ---- the end of a fault
 
-abbrev pub numbers : List Fault → ℕ → ℕ → Bool
+abbrev numbers : List Fault → ℕ → ℕ → Bool
 numbers fs number j = eqb (nth_fault fs j).number number
 
-module _ {l : List ℕ} {n : ℕ} (h : HeldFaults l n) (number : ℕ) where
-  ends_behind_last : (f : Option ℕ) → f ≡ last (numbers (spans l n) number) 0 n → behind f ≡ fault_end (spans l n) number
+module _ (fs : List Fault) (number : ℕ) where
+  ends_behind_last : (f : Option ℕ) → f ≡ last (numbers fs number) 0 (length fs) → behind f ≡ fault_end fs number
   unfolding fault_end
-  ends_behind_last f q = ap behind (q ∙ ap (last (numbers (spans l n) number) 0) (sym (span_count h)))
+  ends_behind_last f q = ap behind q
 
   -- the last span that a search from the end finds, by a closure that answers whether a span has the number
-  pub end_as : {answers : ℕ → Bool → Type 0} {o : Option ℕ} (f : Option ℕ) → o ≡ f → FindsLast answers 0 n o → Answers answers (numbers (spans l n) number) 0 n
-      → Between 0 n (fault_end (spans l n) number) (behind f)
-  end_as {answers} None q d is =
-      record { is = ends_behind_last None (sym q ∙ finds_last answers (numbers (spans l n) number) 0 n _ is d); from = omega arith; to = omega arith }
-  end_as {answers} (Some k) q d is =
-      record {
-        is = ends_behind_last (Some k) (sym q ∙ finds_last answers (numbers (spans l n) number) 0 n _ is d);
-        from = omega arith;
-        to = omega (arith, (subst (FindsLast answers 0 n) q d).is.to);
-      }
-
-  -- the closure's answer for a span
-  pub has_number : (j : ℕ) (x : Fault) → j < n → x ≡ fault_at l j → eqb x.number number ≡ numbers (spans l n) number j
-  has_number j x g is = ap (λ (y : Fault). eqb y.number number) (is ∙ sym (span_read h j g))
+  module _ {answers : ℕ → Bool → Type 0} {n : ℕ} (all : n ≡ length fs) where
+    pub end_as : {o : Option ℕ} (f : Option ℕ) → o ≡ f → FindsLast answers 0 n o → Answers answers (numbers fs number) 0 n
+        → Between 0 (length fs) (fault_end fs number) (behind f)
+    end_as None q d is =
+        record {
+          is = ends_behind_last None (sym q ∙ finds_last answers (numbers fs number) 0 n _ is d ∙ ap (last (numbers fs number) 0) all);
+          from = omega arith;
+          to = omega arith;
+        }
+    end_as (Some k) q d is =
+        record {
+          is = ends_behind_last (Some k) (sym q ∙ finds_last answers (numbers fs number) 0 n _ is d ∙ ap (last (numbers fs number) 0) all);
+          from = omega arith;
+          to = omega (arith, all, (subst (FindsLast answers 0 n) q d).is.to);
+        }
 
 -- ---- a span more
 
@@ -241,9 +195,9 @@ module _ {l : List ℕ} {n : ℕ} (h : HeldFaults l n) (t : Bool) (tested : t �
   unfolding add_span
   span_refused q = unchanged (rw (room_of h t 1 tested q))
 
-  module _ (x : Fault) (is : x ≡ fault_at l j) where
+  module _ (fs : List Fault) (made : fs ≡ spans l n) (x : Fault) (is : x ≡ nth_fault fs j) where
     the_fault : nth_fault (spans l n) j ≡ x
-    the_fault = span_read h j g ∙ sym is
+    the_fault = ap (λ (ys : List Fault). nth_fault ys j) (sym made) ∙ sym is
 
     -- the span is inserted behind the span j, whose number is low
     ends_behind : x.number ≤ fault_end (spans l n) x.number
@@ -253,12 +207,18 @@ module _ {l : List ℕ} {n : ℕ} (h : HeldFaults l n) (t : Bool) (tested : t �
         let found = last_passed (numbers (spans l n) x.number) 0 j (length (spans l n)) (omega arith) (rw (span_count h) g) (eq-eqb _ _ (ap (λ (y : Fault). y.number) the_fault)) in
         rw found.is (omega (arith, found.from, low, ap (λ (y : Fault). y.number) the_fault))
 
-    pub span_inserted : (p : ℕ) (v : List ℕ) → t ≡ true → Between 0 n (fault_end (spans l n) x.number) p
+    pub span_inserted : (p : ℕ) (v : List ℕ) → t ≡ true → Between 0 (length fs) (fault_end fs x.number) p
         → v ≡ inserted fault_width p n (fault_bytes (fault x.number x.kind a e)) l → GrowsFaults (add_span (length l) j a e) l n (Ok (n + 1)) v
     unfolding add_span
-    span_inserted p v q b is-v =
+    span_inserted p v q found is-v =
         let r = room_of h t 1 tested q in
         let more = fault x.number x.kind a e in
+        let b : Between 0 n (fault_end (spans l n) x.number) p =
+        record {
+          is = found.is ∙ ap (λ (ys : List Fault). fault_end ys x.number) made;
+          from = found.from;
+          to = omega (arith, found.to, ap length made, span_count h);
+        } in
         let made = held_insert fault_sound h.held p more v b.to r is-v in
         let low : x.number ≤ p = omega (arith, b.is, ends_behind) in
         record {
@@ -277,7 +237,7 @@ room_count l n t e q = record { fits = omega (arith, room_few fault_width most_o
 pub room_bytes : (l : List ℕ) (n : ℕ) (t : Bool) → t ≡ room fault_width most_others (length l) n 1 → t ≡ true → n * fault_width + fault_width ≤ length l
 room_bytes l n t e q = omega (arith, room_fits fault_width most_others (length l) n 1 (sym e ∙ q))
 
-pub ruleset inserting = (rules, room_count, room_bytes, span_refused, span_inserted)
+pub ruleset inserting = (rules, room_count, room_bytes, span_refused)
 
 -- ---- a fault of two spans
 
@@ -334,24 +294,29 @@ module _ {l : List ℕ} {n : ℕ} (h : HeldFaults l n) (t : Bool) (tested : t �
           low zero b = omega (arith, number_low h number kind is, grown)
           low (suc k) b = absurd (omega arith)
 
-pub ruleset pairing = (rules, pair_refused, pair_fits, pair_added)
-
 -- ---- a name repeated
 
-module _ {l : List ℕ} {n : ℕ} (h : HeldFaults l n) (kind c d a e : ℕ) {o : Option ℕ} (found : Below n (find_fault (spans l n) kind c d) o) where
-  pub repeat_within : {j : ℕ} → o ≡ Some j → j < n
-  repeat_within q = (subst (Below n (find_fault (spans l n) kind c d)) q found).0
+module _ {l : List ℕ} {n : ℕ} (h : HeldFaults l n) (kind c d a e : ℕ) (fs : List Fault) (made : fs ≡ spans l n) {o : Option ℕ}
+    (found : Below (length fs) (find_fault fs kind c d) o) where
+  found_below : (is : Option ℕ) → o ≡ is → Below n (find_fault (spans l n) kind c d) is
+  found_below is q =
+      subst (Below n (find_fault (spans l n) kind c d)) q
+      (subst (λ (m : ℕ). Below m (find_fault (spans l n) kind c d) o) (span_count h)
+      (subst (λ (ys : List Fault). Below (length ys) (find_fault ys kind c d) o) made found))
 
-  pub repeat_again : {j : ℕ} {r : Result ℕ AreaFull} {v : List ℕ} → o ≡ Some j → GrowsFaults (add_span (length l) j a e) l n r v → GrowsFaults (add_repeat (length l) kind c d a e) l n r v
+  pub repeat_within : {j : ℕ} → o ≡ Some j → j < n
+  repeat_within {j} q = (found_below (Some j) q).0
+
+  pub repeat_again : {j : ℕ} {r : Result ℕ AreaFull} {v : List ℕ} → o ≡ Some j
+      → GrowsFaults (add_span (length l) j a e) l n r v → GrowsFaults (add_repeat (length l) kind c d a e) l n r v
   unfolding add_repeat repeat_at
   repeat_again {j} q p =
-      let b = subst (Below n (find_fault (spans l n) kind c d)) q found in
+      let b = found_below (Some j) q in
       grows_as (rw (← b.1, lt-ltb j (length (spans l n)) (rw (span_count h) b.0))) p
 
-  pub repeat_first : {r : Result ℕ AreaFull} {v : List ℕ} → o ≡ None → GrowsFaults (add_pair (length l) kind c d a e) l n r v → GrowsFaults (add_repeat (length l) kind c d a e) l n r v
+  pub repeat_first : {r : Result ℕ AreaFull} {v : List ℕ} → o ≡ None
+      → GrowsFaults (add_pair (length l) kind c d a e) l n r v → GrowsFaults (add_repeat (length l) kind c d a e) l n r v
   unfolding add_repeat repeat_at
   repeat_first q p =
-      let b = subst (Below n (find_fault (spans l n) kind c d)) q found in
+      let b = found_below None q in
       grows_as (rw (← b, le-ltb n (length (spans l n)) (rw (span_count h) (omega arith)))) p
-
-pub ruleset repeating = (rules, repeat_within, repeat_again, repeat_first)

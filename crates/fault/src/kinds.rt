@@ -2,7 +2,7 @@
 ghost use Rattle.std.specs.Prelude.{◌≡◌};
 ghost use Rattle.fault.specs.Kinds.{kind_number};
 
-// In the order of their numbers, from 0 on.
+// In the order of their numbers, from 0 on, which the host reads in a record's field.
 #[derive(Clone, Copy, PartialEq, Eq, Debug)]
 pub enum LexErrorKind {
     PrematureEnd,

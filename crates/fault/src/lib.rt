@@ -1,20 +1,22 @@
 // The fault area: a fault appended, and the span of a repeated name inserted behind the last span of its fault (01, Areas, 6).
+// A `kind` that is a number is a field of a record: it is compared or written, and chooses no step.
 #![tactic(auto)]
 
 mod kinds; // the kinds of faults
 
-ghost use Rattle.std.specs.Prelude.{◌≡◌, ◌<◌, length};
+ghost use Rattle.std.specs.Prelude.{◌≡◌, ◌≤◌, ◌<◌, length};
 ghost use Rattle.characters.specs.Walk.{Between, Below};
 ghost use Rattle.area.specs.Phrases.{before, after};
-ghost use Rattle.area.specs.Contents.{fault_format, contents};
 ghost use Rattle.fault.specs.Kinds.{kind_number};
-ghost use Rattle.fault.specs.Faults.{HeldFaults, GrowsFaults, next_number, add_fault, starts_fault, is_fault, find_fault, fault_end, add_span, add_pair, add_repeat};
+ghost use Rattle.fault.specs.Faults.{Numbered, HeldFaults, GrowsFaults};
+ghost use Rattle.fault.specs.Faults.{next_number, add_fault, starts_fault, is_fault, find_fault, fault_end, add_span, add_pair, add_repeat};
 
 pub use crate::kinds::LexErrorKind;
-use area::{AreaFull, AreaName, FAULT_WIDTH, Fault, MOST_OTHERS, has_room, insert, push, read};
+use area::list::Records;
+use area::{AreaFull, AreaName, FAULT_WIDTH, Fault, MOST_OTHERS, has_room, insert, push};
 use characters::walk::find_last;
 
-// What ends a parse: a fault of a kind at a place, or an area that is full.
+// What ends a parse, as the error of a step's Result: a fault of a kind at a place, or an area that is full.
 #[derive(Clone, Copy, PartialEq, Eq, Debug)]
 pub enum Stop {
     Fault(LexErrorKind, u16),
@@ -39,20 +41,21 @@ pub struct Span {
 }
 
 // The number of the next fault: one above that of the last span.
-#[tactic(auto, using(crate::proofs::Spans::numbering))]
-fn next_number(area: &[u8], n: u16) -> u16
-    requires { HeldFaults area.now n }
-    ensures { result ≡ next_number (contents fault_format area.now n) }
+#[tactic(auto, using(crate::proofs::Spans::number_fits), unfolding(crate::specs::Faults::next_number))]
+fn next_number(spans: &Records<Fault>) -> u16
+    requires few { length spans.now ≤ 65535 }
+    requires numbered { Numbered spans.now }
+    ensures { result ≡ next_number spans.now }
 {
-    let count = n as usize;
+    let count = spans.count();
     if count == 0 {
         return 0;
     }
-    let last = read::<Fault>(area, count - 1);
+    let last = spans.get(count - 1);
     last.number + 1
 }
 
-// A fault of one span behind the others.
+// A fault of one span behind the others. What writes takes the area beside its count: a struct of both that is lent again gets no proof.
 pub fn add_fault(
     area: &mut [u8],
     n: u16,
@@ -63,7 +66,7 @@ pub fn add_fault(
     requires { HeldFaults area.old n }
     ensures { GrowsFaults (add_fault (length area.old) (kind_number kind) start end) area.old n result area.new }
 {
-    let number = next_number(area, n);
+    let number = next_number(&Records::new(area, n));
     let code = u16::from(kind);
     push(
         area,
@@ -78,45 +81,42 @@ pub fn add_fault(
 }
 
 // Whether the span j is the first of its fault.
-#[tactic(auto, using(crate::proofs::Spans::looking))]
-fn starts_fault(area: &[u8], n: u16, j: usize) -> bool
-    requires held_faults { HeldFaults area.now n }
-    requires j_lt_n { j < n }
-    ensures { result ≡ starts_fault (contents fault_format area.now n) j }
+#[tactic(auto, unfolding(crate::specs::Faults::starts_fault))]
+fn starts_fault(spans: &Records<Fault>, j: usize) -> bool
+    requires { j < length spans.now }
+    ensures { result ≡ starts_fault spans.now j }
 {
     if j == 0 {
         return true;
     }
-    let before = read::<Fault>(area, j - 1);
-    let here = read::<Fault>(area, j);
-    !(before.number == here.number)
+    let before = spans.get(j - 1);
+    let here = spans.get(j);
+    before.number != here.number
 }
 
-#[tactic(auto, using(crate::proofs::Spans::looking))]
-fn is_fault(area: &[u8], n: u16, kind: u16, start: u16, end: u16, j: usize) -> bool
-    requires held_faults { HeldFaults area.now n }
-    requires j_lt_n { j < n }
-    ensures { result ≡ is_fault (contents fault_format area.now n) kind start end j }
+// Whether the span j is `first`, and starts a fault of the kind.
+#[tactic(auto, unfolding(crate::specs::Faults::is_fault))]
+fn is_fault(spans: &Records<Fault>, kind: u16, first: Span, j: usize) -> bool
+    requires { j < length spans.now }
+    ensures { result ≡ is_fault spans.now kind first.start first.end j }
 {
-    let x = read::<Fault>(area, j);
-    let starts = starts_fault(area, n, j);
-    (x.kind == kind) & ((x.start == start) & ((x.end == end) & starts))
+    let x = spans.get(j);
+    let starts = starts_fault(spans, j);
+    (x.kind == kind) & ((x.start == first.start) & ((x.end == first.end) & starts))
 }
 
-// The fault of the kind whose first span goes from start to end, by the number of that span.
-fn find_fault(area: &[u8], n: u16, kind: u16, start: u16, end: u16) -> Option<usize>
-    requires { HeldFaults area.now n }
-    ensures { Below n (find_fault (contents fault_format area.now n) kind start end) result }
+// The fault of the kind whose first span is `first`, by the number of that span.
+fn find_fault(spans: &Records<Fault>, kind: u16, first: Span) -> Option<usize>
+    ensures { Below (length spans.now) (find_fault spans.now kind first.start first.end) result }
 {
-    (0..n as usize).find(|j| is_fault(area, n, kind, start, end, *j))
+    spans.position(|j, _| is_fault(spans, kind, first, j))
 }
 
 // Behind the last span of the fault of a number. From the end, since a fault that grows is mostly the last one.
-fn fault_end(area: &[u8], n: u16, number: u16) -> usize
-    requires { HeldFaults area.now n }
-    ensures { Between 0 n (fault_end (contents fault_format area.now n) number) result }
+fn fault_end(spans: &Records<Fault>, number: u16) -> usize
+    ensures { Between 0 (length spans.now) (fault_end spans.now number) result }
 {
-    match find_last(0, n as usize, |k| read::<Fault>(area, k).number == number) {
+    match find_last(0, spans.count(), |k| spans.get(k).number == number) {
         Some(k) => k + 1,
         None => 0,
     }
@@ -124,21 +124,21 @@ fn fault_end(area: &[u8], n: u16, number: u16) -> usize
 
 // A span more of the fault that the span j starts, after its last one.
 #[tactic(auto, using(crate::proofs::Spans::inserting))]
-fn add_span(area: &mut [u8], n: u16, j: usize, start: u16, end: u16) -> Result<u16, AreaFull>
+fn add_span(area: &mut [u8], n: u16, j: usize, second: Span) -> Result<u16, AreaFull>
     requires held_faults { HeldFaults area.old n }
     requires j_lt_n { j < n }
-    ensures { GrowsFaults (add_span (length area.old) j start end) area.old n result area.new }
+    ensures { GrowsFaults (add_span (length area.old) j second.start second.end) area.old n result area.new }
 {
     let count = n as usize;
     if has_room(area.len(), FAULT_WIDTH, MOST_OTHERS, count, 1) {
-        let x = read::<Fault>(area, j);
-        let number = x.number;
-        let p = fault_end(area, n, number);
+        let spans = Records::<Fault>::new(area, n);
+        let x = spans.get(j);
+        let p = fault_end(&spans, x.number);
         let more = Fault {
-            number,
+            number: x.number,
             kind: x.kind,
-            start,
-            end,
+            start: second.start,
+            end: second.end,
         };
         insert(area, p, count, more);
         return Ok(n + 1);
@@ -154,7 +154,7 @@ fn add_pair(area: &mut [u8], n: u16, kind: u16, first: Span, second: Span) -> Re
 {
     let count = n as usize;
     if has_room(area.len(), FAULT_WIDTH, MOST_OTHERS, count, 2) {
-        let number = next_number(area, n);
+        let number = next_number(&Records::new(area, n));
         let one = Fault {
             number,
             kind,
@@ -174,6 +174,7 @@ fn add_pair(area: &mut [u8], n: u16, kind: u16, first: Span, second: Span) -> Re
 }
 
 // The name at `first` is repeated at `second`: a span more of its fault, or a new fault of both spans.
+#[tactic(auto, using(crate::proofs::Spans::repeat_within))]
 pub fn add_duplicate_occurrence(
     area: &mut [u8],
     n: u16,
@@ -185,11 +186,9 @@ pub fn add_duplicate_occurrence(
     ensures { GrowsFaults (add_repeat (length area.old) (kind_number kind) first.start first.end second.start second.end)
         area.old n result area.new }
 {
-    let start = first.start;
-    let end = first.end;
     let code = u16::from(kind);
-    match find_fault(area, n, code, start, end) {
-        Some(j) => add_span(area, n, j, second.start, second.end),
+    match find_fault(&Records::new(area, n), code, first) {
+        Some(j) => add_span(area, n, j, second),
         None => add_pair(area, n, code, first, second),
     }
 }

@@ -12,6 +12,7 @@ fn show(rt: &impl Print, s: &[u8]) {
     say(rt, out.as_slice());
 }
 
+// Each program has a `main` of its own.
 fn main(rt: HostRuntime) {
     let mut buffer = [0u8; 4096];
     let n = read_full(&mut rt.stdin(), &mut buffer);

@@ -8,14 +8,13 @@ use Prim.Native.Nat.{ℕ, ◌+◌, ◌*◌, ◌≤◌, ◌<◌}
 use native.Mathlib.Nat.{eq-or-lt_of_le}
 use native.Mathlib.Omega.{arith}
 use borrow.Author.Tests.{le-leb, leb-true, eq-eqb, ne_eqb, eqb-true}
-use borrow.Author.Rules.{rules}
 use lib.Dec.{eqb, leb}
 use lib.ListN.{length}
 use Rattle.characters.specs.Utf8.{is_continuation, is_edge}
 use Rattle.characters.specs.Walk.{any}
 use Rattle.characters.specs.Whitespace.{byte}
 use Rattle.characters.proofs.Tests.{and_left, and_right}
-use Rattle.characters.proofs.Runs.{none_passes, none_ruled_out, rules_out_again, rules_out_ended, answer_rules_out}
+use Rattle.characters.proofs.Runs.{none_passes}
 use Rattle.area.specs.Records.{entry_at, entry_width}
 use Rattle.area.specs.Contents.{contents, entry_format}
 use Rattle.area.specs.Lists.{all}
@@ -26,9 +25,6 @@ use Rattle.winner.specs.Winner.{length_in, greatest}
 use Rattle.winner.proofs.Winning.{below_greatest, greatest_low, of_row}
 use Rattle.input_check.specs.InputCheck.{length_fits, good_row}
 use Rattle.input_check.specs.Top.{RowFits}
-
--- the loop that looks for a byte inside a character
-pub ruleset looking_inside = (rules, none_ruled_out, rules_out_again, rules_out_ended, answer_rules_out)
 
 -- ---- the lengths of a row, and a test of each
 

@@ -1,11 +1,11 @@
 // Whether what a start and a step are given fits: the entry's text, and the row (01, Numbers given at the counter, 10; 02, 2/13).
+// Lengths count from a place in the text, and what they end at is asked of the text: a part of it would move that place.
 #![tactic(auto)]
 
 ghost use Rattle.std.specs.Prelude.{◌≡◌, ◌+◌, ◌*◌, ◌≤◌, length};
 ghost use Rattle.area.specs.Contents.{contents, entry_format};
 ghost use Rattle.area.specs.Lists.{all};
 ghost use Rattle.area.specs.Records.{entry_width};
-ghost use Rattle.characters.specs.Shortcuts.{RulesOut};
 ghost use Rattle.characters.specs.Utf8.{is_continuation, is_edge};
 ghost use Rattle.characters.specs.Walk.{any};
 ghost use Rattle.characters.specs.Whitespace.{byte};
@@ -15,9 +15,11 @@ ghost use Rattle.input_check.specs.Top.{RowTopIs};
 use area::ENTRY_WIDTH;
 use area::list::Records;
 use characters::utf8::{is_continuation, is_edge, utf8};
+use characters::walk::any_of;
 use winner::Row;
 
 // The length first, so that a text of another length is not read.
+#[tactic(auto, unfolding(crate::specs::InputCheck::good_text))]
 pub fn good_text(n: u64, text: &[u8]) -> bool
     ensures { result ≡ good_text n text.now }
 {
@@ -28,15 +30,12 @@ pub fn good_text(n: u64, text: &[u8]) -> bool
 }
 
 // Whether one of the n bytes from k on stands inside a character. It looks at all of them, so that the compiler can take many at once.
+#[tactic(auto, using(characters::proofs::Asking::asks_any))]
 fn has_inside(text: &[u8], k: usize, n: usize) -> bool
     requires { k + n ≤ length text.now }
-    ensures { RulesOut (any (λ j. is_continuation (byte text.now (k + j))) n) result }
+    ensures { result ≡ any (λ j. is_continuation (byte text.now (k + j))) n }
 {
-    let mut found = false;
-    for j in 0..n {
-        found |= is_continuation(text[k + j]);
-    }
-    found
+    any_of(n, |j| is_continuation(text[k + j]))
 }
 
 // Whether each length ends at an edge, rule by rule.
@@ -61,6 +60,7 @@ fn all_at_edge(text: &[u8], position: u16, row: Row) -> bool
 }
 
 // The row, where it fits. Every length is at most the bytes left where the greatest is; then the edges.
+// Its five parameters come from three sides: text and row from the host (C interface), the numbers from the run and the sheet.
 pub fn row_top<'a>(
     text: &[u8],
     left: u16,

@@ -5,7 +5,7 @@ use Rattle.std.specs.List.{fold}
 use borrow.Author.Tests.{eqb-false}
 use lib.Bits.{bit_and, bit_or, or_add_and, and_le_l, and_le_r, and_zero_r, or_zero_l, or_zero_r}
 use Rattle.characters.proofs.Tests.{le_or_lt}
-use Rattle.area.specs.Bytes.{field_at, field_from}
+use Rattle.area.specs.Bytes.{field_from}
 use Rattle.area.specs.Records.{rule_at, rule_of, rule_width, entry_at}
 use Rattle.lanes.specs.declared.Lane.{Lane}
 use Rattle.lanes.specs.declared.Limits.{Limits}
@@ -16,17 +16,6 @@ use Rattle.lanes.specs.Lanes.{RuleWithin, RulesWithin, EntriesWithin}
 
 or_none : (a b : ℕ) → bit_or a b ≡ 0 → (a ≡ 0) × (b ≡ 0)
 or_none a b e = (omega (arith, e, or_add_and a b, and_le_r a b), omega (arith, e, or_add_and a b, and_le_l a b))
-
-pub lane_made : (l : List ℕ) (at j here next place from last : ℕ) → here ≡ field_at l (at + 2 * j) → next ≡ field_at l (at + 2 * j + 2)
-    → place ≡ field_at l (at + 2 * j + 8) → from ≡ field_at l (at + 2 * j + 10) → last ≡ field_at l (at + 2 * j + 12)
-    → record { here = here; next = next; place = place; from = from; last = last } ≡ lane_at l at j
-unfolding lane_at field_from
-lane_made l at j here next place from last e0 e1 e4 e5 e6 =
-    let n : next ≡ field_from l at (j + 1) = e1 ∙ ap (field_at l) (omega arith) in
-    let p : place ≡ field_from l at (j + 4) = e4 ∙ ap (field_at l) (omega arith) in
-    let f : from ≡ field_from l at (j + 5) = e5 ∙ ap (field_at l) (omega arith) in
-    let s : last ≡ field_from l at (j + 6) = e6 ∙ ap (field_at l) (omega arith) in
-    λ i. record { here = e0 i; next = n i; place = p i; from = f i; last = s i }
 
 module _ (x : Lane) where
   pub fields_within : (heres order lasts a b : ℕ) → a ≡ x.here - bit_or heres (bit_and x.next order) → b ≡ x.last - lasts

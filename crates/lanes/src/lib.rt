@@ -39,6 +39,7 @@ struct Limits<'a> {
 
 // ---- a lane
 
+#[tactic(auto, unfolding(crate::specs::Lanes::lane_at, area::specs::Bytes::field_from))]
 fn read_lane(area: &[u8], at: usize, j: usize) -> Lane
     requires { at + 2 * j + 14 ≤ length area.now }
     ensures { result ≡ lane_at area.now at j }

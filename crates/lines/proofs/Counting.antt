@@ -1,16 +1,17 @@
--- The loops over the bytes of a block: what is counted of them, and the search for the last line end, which goes back from the block's end.
+-- The loops over the bytes of a block: what is counted of them, and how many stand up to the last line end.
 use mathlib.Core.Path.{◌≡◌, refl, sym, ap, ◌∙◌}
-use mathlib.Core.Bool.{Bool, true, false}
+use mathlib.Core.Bool.{Bool, true, false, cond}
 use mathlib.Core.List.{List}
-use Prim.Native.Nat.{ℕ, ◌+◌, ◌-◌, ◌≤◌, ◌<◌}
+use Prim.Native.Nat.{ℕ, ◌+◌, ◌-◌, ◌≤◌, ◌<◌, max}
 use mir.Val.{bool_byte}
 use native.Mathlib.Omega.{arith}
+use borrow.Author.Tests.{eq-eqb, ne_eqb}
 use lib.Dec.{eqb}
 use lib.ListN.{length, take, drop}
 use Rattle.std.proofs.lemmas.List.{get_or-take, get_or-drop, length-take, length-drop}
 use Rattle.characters.specs.Walk.{one_if, last, count}
 use Rattle.characters.specs.Whitespace.{byte}
-use Rattle.characters.proofs.Walks.{last_found, last_again, last_ended}
+use Rattle.characters.proofs.Walks.{last_here, last_next, last_none}
 use Rattle.characters.proofs.Counts.{count_none, counted_next, counted_ended}
 use Rattle.lines.specs.Lines.{line_feed, ends_line, behind_end}
 
@@ -57,32 +58,55 @@ module _ (s : List ℕ) (passes : ℕ → Bool) (i : ℕ) where
     counted_all h l g k =
         counted_ended at i (i + j) n 0 before e (omega (arith, block_long s i e h l, g, h)) (omega (arith, block_long s i e h l, k, h))
 
--- ---- the search for the last line end has come down to the first j bytes
+-- ---- of the first k bytes, n stand up to the last line end
 
-module _ (s : List ℕ) (i e : ℕ) where
-  pub line_start_begins : i ≤ e → e ≤ length s → last (ends_line s) i e ≡ last (ends_line s) i (i + length (block s i e))
-  line_start_begins h l =
-      let q : e ≡ i + length (block s i e) = omega (arith, block_long s i e h l, h) in
-      ap (last (ends_line s) i) q
+pub record LastEnd (s : List ℕ) (i k n : ℕ) : Type 0 where
+  pub few : n ≤ k
+  pub is : behind_end (last (ends_line s) i (i + k)) ≡ cond (eqb n 0) 0 (i + n)
 
-  module _ (j : ℕ) (before : last (ends_line s) i e ≡ last (ends_line s) i (i + j)) where
-    module _ (h : 0 < j) (l : j ≤ length (block s i e)) (t : Bool) (is : t ≡ eqb (byte (block s i e) (j - 1)) line_feed) where
-      ends : t ≡ ends_line s (i + j - 1)
-      ends =
-          let q : i + (j - 1) ≡ i + j - 1 = omega arith in
-          is ∙ ap (λ (x : ℕ). eqb x line_feed) (block_byte s i e (j - 1) (omega (arith, h, l))) ∙ ap (ends_line s) q
+module _ (s : List ℕ) (i : ℕ) where
+  pub no_end : LastEnd s i 0 0
+  unfolding behind_end
+  no_end = record { few = omega arith; is = sym (ap behind_end (last_none (ends_line s) i (i + 0) (omega arith))) }
 
-      pub line_start_found : t ≡ true → i + (j - 1) + 1 ≡ behind_end (last (ends_line s) i e)
-      unfolding behind_end
-      line_start_found p =
-          let q : i + (j - 1) + 1 ≡ i + j - 1 + 1 = omega (arith, h) in
-          q ∙ ap behind_end (last_found (ends_line s) i (i + j) e before (omega (arith, h)) (sym ends ∙ p))
-
-      pub line_start_again : t ≡ false → last (ends_line s) i e ≡ last (ends_line s) i (i + (j - 1))
-      line_start_again p =
-          let q : i + j - 1 ≡ i + (j - 1) = omega (arith, h) in
-          last_again (ends_line s) i (i + j) e before (omega (arith, h)) (sym ends ∙ p) ∙ ap (last (ends_line s) i) q
-
-    pub line_start_none : j ≤ 0 → 0 ≡ behind_end (last (ends_line s) i e)
+  module _ {k n : ℕ} (L : LastEnd s i k n) (e : ℕ) where
+    pub next_end : (r m : ℕ) → r ≡ cond (eqb (byte (block s i e) k) line_feed) (k + 1) 0 → m ≡ max r n → k < length (block s i e)
+        → LastEnd s i (k + 1) m
     unfolding behind_end
-    line_start_none h = ap behind_end (last_ended (ends_line s) i (i + j) e before (omega (arith, h)))
+    next_end r m is larger h = by (ends_line s (i + k)) refl
+      where
+        ends : eqb (byte (block s i e) k) line_feed ≡ ends_line s (i + k)
+        ends = ap (λ (x : ℕ). eqb x line_feed) (block_byte s i e k h)
+
+        back : i + (k + 1) - 1 ≡ i + k
+        back = omega arith
+
+        by : (t : Bool) → ends_line s (i + k) ≡ t → LastEnd s i (k + 1) m
+        by true q =
+            let one : r ≡ k + 1 = is ∙ ap (λ (t : Bool). cond t (k + 1) 0) (ends ∙ q) in
+            let behind : m ≡ k + 1 = omega (arith, one, larger, L.few) in
+            record {
+              few = omega (arith, behind);
+              is = sym (ap behind_end (last_here (ends_line s) i (i + (k + 1)) (omega arith) (ap (ends_line s) back ∙ q)))
+                  ∙ rw (ne_eqb m 0 (λ z. omega (arith, z, behind))) (omega (arith, behind));
+            }
+        by false q =
+            let none : r ≡ 0 = is ∙ ap (λ (t : Bool). cond t (k + 1) 0) (ends ∙ q) in
+            let same : m ≡ n = omega (arith, none, larger) in
+            record {
+              few = omega (arith, same, L.few);
+              is = ap behind_end (last_next (ends_line s) i (i + (k + 1)) (omega arith) (ap (ends_line s) back ∙ q) ∙ ap (last (ends_line s) i) back)
+                  ∙ L.is ∙ ap (λ (x : ℕ). cond (eqb x 0) 0 (i + x)) (sym same);
+            }
+
+    module _ (h : i ≤ e) (l : e ≤ length s) (g : length (block s i e) ≤ k) (j : k ≤ length (block s i e)) where
+      whole : i + k ≡ e
+      whole = omega (arith, block_long s i e h l, g, j, h)
+
+      pub line_start_none : n ≡ 0 → 0 ≡ behind_end (last (ends_line s) i e)
+      line_start_none z = sym (ap (λ (x : ℕ). behind_end (last (ends_line s) i x)) (sym whole) ∙ L.is ∙ rw (eq-eqb n 0 z))
+
+      pub line_start_found : (n ≡ 0 → ⊥) → i + n ≡ behind_end (last (ends_line s) i e)
+      line_start_found d = sym (ap (λ (x : ℕ). behind_end (last (ends_line s) i x)) (sym whole) ∙ L.is ∙ rw (ne_eqb n 0 d))
+
+pub ruleset seeking_line_start = (no_end, next_end, line_start_none, line_start_found)

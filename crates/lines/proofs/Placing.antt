@@ -4,7 +4,6 @@ use mathlib.Core.Bool.{Bool, true, false, not}
 use mathlib.Core.List.{List}
 use Prim.Native.Nat.{ℕ, ◌≤◌, ◌<◌}
 use native.Mathlib.Omega.{arith}
-use borrow.Author.Rules.{rules}
 use borrow.Author.Tests.{le-leb, lt-leb}
 use lib.ListN.{length}
 use Rattle.std.specs.Prelude.{Ok, Err}
@@ -45,4 +44,4 @@ module _ (s : List ℕ) (b : ℕ) where
     unfolding place_in place_at
     place_known p t is = rw (le-leb b (length s) h, edge_answer, t) (ap Ok is)
 
-pub ruleset judging_offset = (rules, place_above, place_inside, place_known)
+pub ruleset judging_offset = (place_above, place_inside, place_known)

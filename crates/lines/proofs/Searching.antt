@@ -6,7 +6,6 @@ use mathlib.Core.Logic.{◌⊎◌, inl, inr, ⊎_elim}
 use Prim.Native.Nat.{ℕ, ◌+◌, ◌≤◌, ◌<◌}
 use native.Mathlib.Nat.{eq-or-lt_of_le}
 use native.Mathlib.Omega.{arith}
-use borrow.Author.Rules.{rules}
 use borrow.Author.Tests.{le-leb, lt-leb}
 use lib.ListN.{length}
 use Rattle.std.specs.Prelude.{Ok, Err}
@@ -96,4 +95,4 @@ module _ (s : List ℕ) (q : Place) where
 pub passed_reaches : (s : List ℕ) (q : Place) (w : ℕ) (r : Reached) → Passes s q w r → Reaches s q r
 passed_reaches s q w r h = h.reaches
 
-pub ruleset searching = (rules, search_begins_past, search_begins, passed_reaches, search_passes, search_finds)
+pub ruleset searching = (search_begins_past, search_begins, passed_reaches, search_passes, search_finds)

@@ -40,7 +40,7 @@ pub fn offset_at(src: &[u8], place: Place) -> Result<Byte, PlaceError>
     source.offset_of(place)
 }
 
-// Writes the line and column that are known; where they are not, what is lent stays as it was.
+// Writes the line and column that are known, as the C interface has them; where they are not, what is lent stays as it was.
 #[tactic(auto, unfolding(crate::specs::Lines::place_left))]
 pub fn write_place(found: Result<Place, PlaceError>, place: &mut [u32; 2])
     requires { SmallPlace found }

@@ -1,5 +1,5 @@
 // What is counted in a block. The counts look at every byte, so that the compiler can take many at once, and are one byte wide.
-ghost use Rattle.std.specs.Prelude.{◌≡◌, ◌≤◌, ◌+◌, not, eqb, length};
+ghost use Rattle.std.specs.Prelude.{◌≡◌, ◌≤◌, ◌<◌, ◌+◌, not, eqb, cond, length};
 ghost use Rattle.answers.specs.Numbers.{most_source};
 ghost use Rattle.characters.specs.Utf8.{is_continuation, at_edge};
 ghost use Rattle.characters.specs.Walk.{last, count};
@@ -16,6 +16,14 @@ fn ends_line(b: u8) -> bool
     ensures { result ≡ eqb b line_feed }
 {
     b == LINE_FEED
+}
+
+// How many bytes of a block come up to the end of a line at byte k, with that byte; 0 where no line ends there.
+fn up_to_end(b: u8, k: u8) -> u8
+    requires { k < 64 }
+    ensures { result ≡ cond (eqb b line_feed) (k + 1) 0 }
+{
+    if ends_line(b) { k + 1 } else { 0 }
 }
 
 fn starts_character(b: u8) -> bool
@@ -68,17 +76,21 @@ impl Block<'_> {
         self.count(starts_character)
     }
 
-    // Where the line starts that follows the last line end there; 0 where no line ends there.
+    // Where the line starts that follows the last line end there; 0 where no line ends there. Every byte is looked at, as for the counts: a search
+    // from the block's end back took an eighth more instructions on short lines.
+    #[tactic(auto, using(crate::proofs::Counting::seeking_line_start))]
     pub fn line_byte(&self) -> LineByte
         ensures { result.0 ≡ behind_end (last (ends_line self.now.source.bytes.now) self.now.from.0 self.now.to.0) }
     {
         let bytes = &self.source.bytes[self.from.0..self.to.0];
-        for k in (0..bytes.len()).rev() {
-            if ends_line(bytes[k]) {
-                return LineByte(self.from.0 + k + 1);
-            }
+        let mut passed = 0;
+        for k in 0..bytes.len() {
+            passed = up_to_end(bytes[k], k as u8).max(passed);
         }
-        LineByte(0)
+        if passed == 0 {
+            return LineByte(0);
+        }
+        LineByte(self.from.0 + usize::from(passed))
     }
 
     // The column of the block's end, where its line starts with the block.

@@ -30,7 +30,7 @@ pub struct Place {
     pub col_num: ColNum,
 }
 
-// Why no place, or no offset, is answered.
+// Why no place, or no offset, is answered. Each reason has a number of its own for the caller, which None would not tell.
 #[derive(Clone, Copy, PartialEq, Eq, Debug)]
 pub enum PlaceError {
     LongFile,

@@ -58,6 +58,7 @@ impl Place {
 
 impl Source<'_> {
     // The place of an offset.
+    #[tactic(auto, using(crate::proofs::Placing::place_begins))]
     fn place_of(&self, byte: Byte) -> Place
         requires { byte.0 ≤ length self.now.bytes.now }
         ensures { result ≡ place_at self.now.bytes.now byte.0 }
@@ -79,6 +80,7 @@ impl Source<'_> {
     }
 
     // The place of an offset of a text; number 11 above its length and inside a character.
+    #[tactic(auto, using(crate::proofs::Placing::judging_offset))]
     pub fn place_in(&self, byte: Byte) -> Result<Place, PlaceError>
         ensures { result ≡ place_in self.now.bytes.now byte.0 }
     {

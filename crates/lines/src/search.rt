@@ -37,7 +37,7 @@ impl Reached {
         Some(Reached { byte, place })
     }
 
-    // Goes on by WIDTH bytes at a time, as long as the place is not past what is sought.
+    // Goes on by WIDTH bytes at a time, as long as the place is not past what is sought: where that ends only `next` knows, so it is no `for`.
     fn pass_by<const WIDTH: usize>(self, source: &Source, sought: Place) -> Reached
         requires width_nonzero { (0 < WIDTH) × (WIDTH ≤ 64) }
         requires reaches { Reaches source.now.bytes.now sought self }
@@ -53,6 +53,7 @@ impl Reached {
 
 impl Source<'_> {
     // The offset that stands at a place.
+    #[tactic(auto, using(crate::proofs::Searching::searching))]
     pub fn offset_of(&self, sought: Place) -> Result<Byte, PlaceError>
         ensures { result ≡ offset_in self.now.bytes.now sought }
     {

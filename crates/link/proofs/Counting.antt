@@ -7,8 +7,9 @@ use native.Mathlib.Omega.{arith}
 use borrow.Author.Rules.{rules}
 use borrow.Author.Tests.{leb-true}
 use lib.Dec.{eqb}
-use lib.ListN.{length, get_or}
+use lib.ListN.{length, get_or, length-replicate}
 use Rattle.area.specs.declared.Rule.{Rule}
+use Rattle.area.specs.Bytes.{zeros}
 use Rattle.area.specs.Records.{entry_width, rule_at}
 use Rattle.area.specs.Contents.{contents, rule_format}
 use Rattle.area.specs.Lists.{numbers}
@@ -18,6 +19,10 @@ use Rattle.link.specs.Matches.{unmarked}
 use mir.Val.{bool_byte}
 use Rattle.name_map.specs.Map.{Entry}
 use Rattle.link.specs.Link.{is_unmapped, is_unlinked, unmapped, unlinked, fits}
+
+-- an area that is cleared is as long as it was
+pub cleared-length : (l c : List ℕ) → c ≡ zeros (length l) → length c ≡ length l
+cleared-length l c e = ap length e ∙ length-replicate (length l) 0
 
 -- whether the list fits, as a fact about numbers
 fits_says : (ns l : List ℕ) → fits ns l ≡ true → length ns * entry_width ≤ length l

@@ -5,14 +5,13 @@ use mathlib.Core.Path.{◌≡◌, refl, sym, ap, ◌∙◌}
 use mathlib.Core.Bool.{Bool, true, false, cond, ◌&&◌}
 use mathlib.Core.List.{List, map}
 use mathlib.Core.Option.{Option, none, some}
-use Prim.Native.Nat.{ℕ, ◌*◌, ◌%◌, ◌≤◌, ◌<◌}
-use borrow.Author.Tests.{le-leb, lt-leb, leb-true}
+use Prim.Native.Nat.{ℕ, ◌*◌, ◌%◌, ◌≤◌}
+use borrow.Author.Tests.{leb-true}
 use lib.Dec.{eqb, leb}
-use lib.ListN.{length, get_or, length-map, length-replicate, get_or-map}
+use lib.ListN.{length, get_or, length-map, get_or-map}
 use Rattle.characters.proofs.Tests.{and_left, and_right}
 use Rattle.area.specs.declared.Rule.{Rule}
-use Rattle.area.specs.Bytes.{zeros}
-use Rattle.area.specs.Records.{rule_width, entry_width, most_rules, rule_of, nth_rule}
+use Rattle.area.specs.Records.{rule_width, most_rules, rule_of, nth_rule}
 use Rattle.area.specs.Contents.{contents, rule_format, entry_format, relaid, laid}
 use Rattle.area.proofs.Contents.{rule_sound, contents_count}
 use Rattle.sheet_check.specs.SheetCheck.{SheetBytes, name_in, count, decoded, sheet_check}
@@ -67,17 +66,6 @@ module _ (name : Rule → List ℕ) (es : List Entry) where
 
 -- ---- the three areas
 
-module _ (l c : List ℕ) (cleared : c ≡ zeros (length l)) where
-  cleared-length : length c ≡ length l
-  cleared-length = ap length cleared ∙ length-replicate (length l) 0
-
-  pub cleared_fits : (ns : List ℕ) → fits ns l ≡ true → fits ns c ≡ true
-  unfolding fits
-  cleared_fits ns e = ap (leb (length ns * entry_width)) cleared-length ∙ e
-
-  pub cleared_laid : (ns e : List ℕ) → e ≡ laid entry_format (length c) ns → e ≡ laid entry_format (length l) ns
-  cleared_laid ns e q = q ∙ ap (λ (n : ℕ). laid entry_format n ns) cleared-length
-
 module _ (name : Rule → List ℕ) (es : List Entry) (x2 : List ℕ) (n : ℕ) (e2 : List ℕ)
     (is : e2 ≡ relaid rule_format x2 (link_rules name es (contents rule_format x2 n))) where
   pub rules_read_back : contents rule_format e2 n ≡ link_rules name es (contents rule_format x2 n)
@@ -89,25 +77,15 @@ module _ (name : Rule → List ℕ) (es : List Entry) (x2 : List ℕ) (n : ℕ) 
   pub unlinked_left : unlinked (contents rule_format e2 n) ≡ unmapped name es (contents rule_format x2 n)
   unlinked_left = ap unlinked rules_read_back ∙ unlinked_rules name es (contents rule_format x2 n)
 
-  pub all_written : (r : LinkAnswer) (x7 x8 c7 c8 e7 e8 : List ℕ) → c7 ≡ zeros (length x7) → c8 ≡ zeros (length x8)
-      → e7 ≡ laid entry_format (length c7) (unlinked (contents rule_format e2 n)) → e8 ≡ laid entry_format (length c8) (unused name es (contents rule_format x2 n))
+  pub all_written : (r : LinkAnswer) (x7 x8 e7 e8 : List ℕ)
+      → e7 ≡ laid entry_format (length x7) (unlinked (contents rule_format e2 n)) → e8 ≡ laid entry_format (length x8) (unused name es (contents rule_format x2 n))
       → link_left r e2 e7 e8 ≡ link_all name r (contents rule_format x2 n) es x2 x7 x8
   unfolding link_all
-  all_written r x7 x8 c7 c8 e7 e8 z7 z8 q7 q8 =
-      let p7 = cleared_laid x7 c7 z7 (unlinked (contents rule_format e2 n)) e7 q7 ∙ ap (laid entry_format (length x7)) unlinked_left in
-      let p8 = cleared_laid x8 c8 z8 (unused name es (contents rule_format x2 n)) e8 q8 in
-      λ i. link_left r (is i) (p7 i) (p8 i)
+  all_written r x7 x8 e7 e8 q7 q8 =
+      let p7 = q7 ∙ ap (laid entry_format (length x7)) unlinked_left in
+      λ i. link_left r (is i) (p7 i) (q8 i)
 
 -- ---- areas 7 and 8 have room, or one of them has not
-
-module _ (l : List ℕ) (m area : ℕ) where
-  pub room_short : length l < m * entry_width → Err (AreaFull area) ≡ room_for m l area
-  unfolding room_for
-  room_short h = rw (lt-leb (m * entry_width) (length l) h)
-
-  pub room_enough : m * entry_width ≤ length l → Ok tt ≡ room_for m l area
-  unfolding room_for
-  room_enough h = rw (le-leb (m * entry_width) (length l) h)
 
 module _ (ns l : List ℕ) (m area : ℕ) (counted : m ≡ length ns) where
   room_is : room_for m l area ≡ cond (fits ns l) (Ok tt) (Err (AreaFull area))

@@ -1,4 +1,5 @@
-// The link call (01, Linking). Everything is counted before a byte is written, so that a refusal changes nothing.
+// The link call (01, Linking). Everything is counted before a byte is written, so that a refusal changes nothing. The areas are those of the C
+// interface; those that are lent for writing go on one by one, since a struct of `&mut` slices that is lent again gets no proof.
 ghost use Rattle.std.specs.Prelude.{◌≡◌, true, ◌*◌, ◌≤◌, length, Ok};
 ghost use Rattle.area.specs.Records.{rule_width, most_rules};
 ghost use Rattle.area.specs.Contents.{contents, rule_format};
@@ -15,18 +16,19 @@ use crate::matches::match_rules;
 use crate::numbers::{NUMBER_WIDTH, count_unused, write_unlinked, write_unused};
 use crate::rule_ids::link_rules;
 use crate::{LinkError, Linked};
-use area::{MOST_RULES, clear};
+use area::MOST_RULES;
 use name_map::index::{MOST_ENTRIES, NameIndex, SLOTS, check_map};
 use name_map::map::NameMap;
 use sheet_check::Sheet;
 use sheet_check::check::check;
 
-// The numbers of the two areas, for number 4.
+// The numbers of the two areas, for number 4: the caller's, where an `AreaName` has those of a parse, 1 to 6.
 const UNMAPPED_AREA: u16 = 7;
 
 const UNUSED_AREA: u16 = 8;
 
-// Whether an area, by its number, has room for so many numbers.
+// Whether an area, by its number, has room for so many numbers, of which none is written yet.
+#[tactic(auto, unfolding(crate::specs::Link::room_for))]
 fn check_room(area: &[u8], count: u16, number: u16) -> Result<(), LinkError>
     ensures { result ≡ room_for count area.now number }
 {
@@ -56,10 +58,8 @@ fn write_all(
     ensures { link_left (Ok linked) area2.new area7.new area8.new
         ≡ link_all (rule_names_in src.now) (Ok linked) (rules_in area2.old rules) (map_in map.now) area2.old area7.old area8.old }
 {
-    clear(area8);
     write_unused(used, map.count() as u16, area8);
     link_rules(src, area2, rules, map, found);
-    clear(area7);
     write_unlinked(area2, rules, area7);
 }
 

@@ -11,6 +11,7 @@ use area::{Rule, read};
 use name_map::index::NameIndex;
 
 // The entry with a rule's name.
+#[tactic(auto, unfolding(names::specs::Names::name_of))]
 fn entry_of(src: &[u8], index: &NameIndex, x: Rule) -> Option<usize>
     ensures { result ≡ found_entry (map_in index.now.map) (rule_names_in src.now x) }
 {
@@ -18,7 +19,8 @@ fn entry_of(src: &[u8], index: &NameIndex, x: Rule) -> Option<usize>
     index.find(src, from, from + x.name_length as usize)
 }
 
-// How many rules are unmapped. The entry of each named rule is kept, and marked by 1.
+// How many rules are unmapped. The entry of each named rule is kept, and marked by 1. The rules are bytes and a count as for `link_rules`, which
+// writes them: what was found is said of both alike.
 pub fn match_rules(
     src: &[u8],
     area: &[u8],

@@ -13,6 +13,7 @@ ghost use Rattle.link.specs.Phrases.{rules_in, rule_names_in};
 use area::{RULE_WIDTH, Record, Rule, read};
 use name_map::map::NameMap;
 
+#[tactic(auto, unfolding(crate::specs::Link::with_id, crate::specs::Link::with_found))]
 fn with_id(x: Rule, id: Option<u16>) -> Rule
     ensures { result ≡ with_found (option_of id) x }
 {
@@ -41,7 +42,7 @@ fn link_rule(map: &NameMap, found: Option<u16>, x: Rule) -> Rule
 }
 
 // The rules by the entries that were found. Every rule is written back whole, so that an area holds the linked rules. The source stands for the
-// contract alone.
+// contract alone, and the count for the rules in use, which fill a part of the area.
 pub fn link_rules(src: &[u8], area: &mut [u8], count: u16, map: &NameMap, found: &[Option<u16>])
     requires count_le_most_rules { (count ≤ most_rules) × (count * rule_width ≤ length area.old) }
     requires entries_found { EntriesFound (name_of src.now) (map_in map.now) area.old count found.now }

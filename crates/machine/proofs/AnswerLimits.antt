@@ -13,7 +13,8 @@ use Rattle.characters.proofs.Tests.{le_or_lt, by_test, and_left, and_right}
 use Rattle.area.specs.declared.Rule.{Rule}
 use Rattle.area.specs.Records.{rule_width, entry_width, rule_of, rule_at, entry_at, nth_rule}
 use Rattle.area.specs.Contents.{contents, rule_format}
-use Rattle.answers.specs.Numbers.{accepted_number, area_full_number, broken_map_number, start_refused_number, broken_sheet_number, broken_run_number, row_mismatch_number, done_number, stopped_number, unlinked_number, skip_number, token_number}
+use Rattle.answers.specs.Numbers.{accepted_number, area_full_number, broken_map_number, start_refused_number, broken_sheet_number}
+use Rattle.answers.specs.Numbers.{broken_run_number, row_mismatch_number, done_number, stopped_number, unlinked_number, skip_number, token_number}
 use Rattle.answers.specs.Words.{TwoBytes}
 use Rattle.area.specs.Bytes.{AllBytes}
 use Rattle.answers.proofs.Words.{two_bytes, no_values}
@@ -32,7 +33,8 @@ use Rattle.name_map.proofs.Maps.{entries_count}
 use Rattle.winner.specs.Winner.{Lexer, length_in, weight, greatest}
 use Rattle.winner.proofs.Winning.{weights_low}
 use Rattle.std.specs.Prelude.{Ok, Err, Option, Some, None}
-use Rattle.run.specs.Run.{StartAnswer, start_accepted, start_refused, StepAnswer, Running, current, Input, RunLeft, good_run, fits_in, good_row, won_by, choose, step_row, step_run, lexer_of, step_call, start_fields, view, view_fields, step_fields}
+use Rattle.run.specs.Run.{StartAnswer, start_accepted, start_refused, StepAnswer, Running, current, Input, RunLeft, good_run, fits_in}
+use Rattle.run.specs.Run.{good_row, won_by, choose, step_row, step_run, lexer_of, step_call, start_fields, view, view_fields, step_fields}
 use Rattle.run.proofs.Fitting.{run_is}
 
 -- ---- the pattern call

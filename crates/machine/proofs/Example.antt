@@ -109,7 +109,8 @@ met r = record { parsed = refl; unmapped = 0; unused = 0; linked = refl; started
 
 -- and these are the answers
 pub met_answers : (r : Run) → answers (given (session r)) fresh entry_rows
-    ≡ Ok (Token 300 0 2) ∷ (Ok Skip) ∷ (Err RowMismatch) ∷ (Ok Skip) ∷ Ok (Token 301 4 1) ∷ Ok (Token 302 5 1) ∷ Ok (Token 300 6 1) ∷ (Ok Stopped) ∷ Ok (Token 302 7 1) ∷ (Ok Done) ∷ []
+    ≡ Ok (Token 300 0 2) ∷ (Ok Skip) ∷ (Err RowMismatch) ∷ (Ok Skip) ∷ Ok (Token 301 4 1) ∷ Ok (Token 302 5 1) ∷ Ok (Token 300 6 1)
+    ∷ (Ok Stopped) ∷ Ok (Token 302 7 1) ∷ (Ok Done) ∷ []
 unfolding computing answers
 met_answers r = refl
 

@@ -20,7 +20,8 @@ use Rattle.run.specs.declared.StepError.TheVariants.{RowMismatch}
 use Rattle.run.specs.declared.Step.TheVariants.{Done, Stopped}
 use Rattle.run.specs.Run.{Input}
 use Rattle.machine.specs.File.{FileState, FileRule}
-use Rattle.machine.specs.Machine.{Given, Machine, current_state, lengths, fits, not_above, has, is_empty, is_live, Winner, winner, first_or_longer, winner_of, id_in, Answered, answered, token, wins, chooses, step}
+use Rattle.machine.specs.Machine.{Given, Machine, current_state, lengths, fits, not_above, has, is_empty, is_live, Winner}
+use Rattle.machine.specs.Machine.{winner, first_or_longer, winner_of, id_in, Answered, answered, token, wins, chooses, step}
 use Rattle.machine.specs.Means.{length_at, Fitting, Misfit, Has, Live, Won, EntryOf, Means}
 use Rattle.machine.proofs.Options.{some_is, none_some, place_inside}
 
@@ -162,7 +163,8 @@ module _ (live : FileRule → Bool) (x : FileRule) (xs : List FileRule) (l : ℕ
       early zero y h q t = absurd (true≢false (sym t ∙ sym (ap live (some_is x y q)) ∙ e))
       early (suc k) y h q t = p.earliest k y (omega arith) q t
 
-  first_found : live x ≡ true → ((k : ℕ) (y : FileRule) → get_elem? xs k ≡ some y → live y ≡ true → get_or ls k 0 ≤ l) → Found live (x ∷ xs) (l ∷ ls) (winner x l)
+  first_found : live x ≡ true → ((k : ℕ) (y : FileRule) → get_elem? xs k ≡ some y → live y ≡ true → get_or ls k 0 ≤ l)
+      → Found live (x ∷ xs) (l ∷ ls) (winner x l)
   first_found e low = record { place = 0; rule = refl; is_live = e; has = refl; greatest = by; earliest = λ k y h q t. absurd (omega arith) }
     where
       by : (k : ℕ) (y : FileRule) → get_elem? (x ∷ xs) k ≡ some y → live y ≡ true → get_or (l ∷ ls) k 0 ≤ l
@@ -194,8 +196,9 @@ picked states state [] ls h = λ k x e t. none_some x e
 picked states state (x ∷ xs) [] h = absurd (omega arith)
 picked states state (x ∷ xs) (l ∷ ls) h =
     let p = picked states state xs ls (omega arith) in
-    by_test (Picks (is_live states state) (x ∷ xs) (l ∷ ls)) (is_live states state x) (first_or_longer x l (winner_of states state xs ls)) (winner_of states state xs ls)
-    (λ e. alive (is_live states state) x xs l ls e (winner_of states state xs ls) p) (λ e. dead (is_live states state) x xs l ls e (winner_of states state xs ls) p)
+    by_test (Picks (is_live states state) (x ∷ xs) (l ∷ ls)) (is_live states state x) (first_or_longer x l (winner_of states state xs ls))
+    (winner_of states state xs ls) (λ e. alive (is_live states state) x xs l ls e (winner_of states state xs ls) p)
+    (λ e. dead (is_live states state) x xs l ls e (winner_of states state xs ls) p)
 
 -- ---- ids
 

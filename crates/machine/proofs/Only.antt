@@ -110,7 +110,8 @@ module _ (g : Given) (m : Machine) (i : Input) where
     only (Ok (Token id start bytes)) x (Ok Unlinked) y (w, qw, k, nw, (j, e, at, is, id_is), from, long, ew) (v, pv, n, nv, nobody, ev) =
         absurd (nobody id (j, e, at, is ∙ sym (same_name v w pv qw n k nv nw), id_is))
     only (Ok (Token id start bytes)) x (Ok Skip) y p q = absurd (name_not q.0 p.0 q.1 p.1 q.2 p.2 p.3)
-    only (Ok (Token id start bytes)) x (Ok (Token id2 start2 bytes2)) y (v, pv, n, nv, (j, e, at, is, id_is), from, long, ev) (w, qw, k, nw, en, from2, long2, ew) =
+    only (Ok (Token id start bytes)) x (Ok (Token id2 start2 bytes2)) y (v, pv, n, nv, (j, e, at, is, id_is), from, long, ev)
+        (w, qw, k, nw, en, from2, long2, ew) =
         let ids : id ≡ id2 = distinct.one k id id2 (j, e, at, is ∙ same_name v w pv qw n k nv nw, id_is) en in
         let starts : start ≡ start2 = from ∙ sym from2 in
         let lengths : bytes ≡ bytes2 = long ∙ ap (λ (z : Winner). z.bytes) (same_winner v w pv qw) ∙ sym long2 in

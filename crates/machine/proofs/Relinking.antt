@@ -42,13 +42,15 @@ module _ (b : SheetBytes) (names entries x7 x8 : List ℕ) (p q : ℕ) (accepted
       done =
           let name : Rule → List ℕ = name_in b in
           let es : List Entry = entries_of names entries in
-          link_all name (linked_answer (length (unmapped name es (decoded b).rules)) (length (unused name es (decoded b).rules))) (decoded b).rules es b.area2 x7 x8
+          link_all name (linked_answer (length (unmapped name es (decoded b).rules)) (length (unused name es (decoded b).rules)))
+          (decoded b).rules es b.area2 x7 x8
 
       left : LinkAnswer → LinkLeft
       left a = link_left a b.area2 x7 x8
 
       go : (t u v w : Bool)
-          → (cond t (cond u (cond v (cond w done (left (Err (AreaFull 8)))) (left (Err (AreaFull 7)))) (left (Err BrokenMap))) (left (Err BrokenSheet))).answer ≡ linked_answer p q
+          → (cond t (cond u (cond v (cond w done (left (Err (AreaFull 8)))) (left (Err (AreaFull 7)))) (left (Err BrokenMap))) (left (Err BrokenSheet))).answer
+          ≡ linked_answer p q
           → (cond t (cond u (cond v (cond w done (left (Err (AreaFull 8)))) (left (Err (AreaFull 7)))) (left (Err BrokenMap))) (left (Err BrokenSheet))).area2
           ≡ relaid rule_format b.area2 (link_rules (name_in b) (entries_of names entries) (decoded b).rules)
       go true true true true e = refl
@@ -79,7 +81,8 @@ module _ (b : SheetBytes) (names entries x7 x8 : List ℕ) (p q : ℕ) (accepted
       checked : LinkLeft
       checked = link_checked (name_in b) (decoded b).rules (entries_of names entries) b.area2 x7 x8
 
-      go : (t u : Bool) → (cond t (cond u checked (link_left (Err BrokenMap) b.area2 x7 x8)) (link_left (Err BrokenSheet) b.area2 x7 x8)).answer ≡ linked_answer p q → u ≡ true
+      go : (t u : Bool) → (cond t (cond u checked (link_left (Err BrokenMap) b.area2 x7 x8)) (link_left (Err BrokenSheet) b.area2 x7 x8)).answer
+          ≡ linked_answer p q → u ≡ true
       go t true e = refl
       go true false e = absurd (omega (arith, ap is_linked e))
       go false false e = absurd (omega (arith, ap is_linked e))

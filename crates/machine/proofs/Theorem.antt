@@ -52,8 +52,8 @@ module _ (n : ℕ) (x : Running) (started : (start_call n x).answer ≡ start_ac
 -- ---- the calls
 
 -- the calls on a sheet with the linked rules follow the machine, from an accepted start on
-module _ (name : Rule → List ℕ) (c : Contents) (es : List Entry) (limit : ℕ) (sound : Sound c) (differ : Distinct es) (b : SheetBytes) (sheet : Sheet name c es b)
-    (n : ℕ) (x : Running) (started : (start_call n x).answer ≡ start_accepted) (is : List Input) where
+module _ (name : Rule → List ℕ) (c : Contents) (es : List Entry) (limit : ℕ) (sound : Sound c) (differ : Distinct es)
+    (b : SheetBytes) (sheet : Sheet name c es b) (n : ℕ) (x : Running) (started : (start_call n x).answer ≡ start_accepted) (is : List Input) where
   abbrev Followed : File → List Entry → RunLeft StartAnswer → Type 0
   Followed f map left =
       let g : Given = record { file = f; map = map; limit = limit; n = n } in

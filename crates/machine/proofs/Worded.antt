@@ -20,7 +20,8 @@ use Rattle.link.specs.Link.{LinkAnswer, linked_answer, link_fields, link_word}
 use Rattle.std.specs.Prelude.{Ok, Err}
 use Rattle.run.specs.declared.StepError.TheVariants.{BrokenSheet, BrokenRun, RowMismatch}
 use Rattle.run.specs.declared.Step.TheVariants.{Done, Stopped, Unlinked, Skip, Token}
-use Rattle.run.specs.Run.{StartAnswer, start_accepted, start_refused, StepAnswer, Running, Input, RunLeft, step_call, start_fields, start_word, view, view_fields, step_fields, step_word}
+use Rattle.run.specs.Run.{StartAnswer, start_accepted, start_refused, StepAnswer, Running, Input, RunLeft}
+use Rattle.run.specs.Run.{step_call, start_fields, start_word, view, view_fields, step_fields, step_word}
 use Rattle.run.proofs.RunWords.{step_tells}
 use Rattle.run_laws.specs.Calls.{calls}
 use Rattle.troymantle.specs.RunWords.{step_in_words}
@@ -81,7 +82,8 @@ ids_low names (a ∷ b ∷ c ∷ d ∷ e ∷ f ∷ l) h (suc j) x q = ids_low na
 
 -- ---- the machine's answers
 
-means_small : (g : Given) (m : Machine) (i : Input) (a : StepAnswer) (next : Machine) → g.n < 65536 → LowIds g.map → Means g m i a next → TwoBytes (step_fields a)
+means_small : (g : Given) (m : Machine) (i : Input) (a : StepAnswer) (next : Machine) → g.n < 65536 → LowIds g.map → Means g m i a next
+    → TwoBytes (step_fields a)
 unfolding view view_fields
 means_small g m i (Err BrokenSheet) next h l e = absurd e
 means_small g m i (Err BrokenRun) next h l e = absurd e

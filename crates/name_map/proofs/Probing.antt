@@ -19,7 +19,7 @@ use Rattle.name_map.specs.declared.index.Probed.TheVariants.{Free, Found}
 use Rattle.name_map.specs.Map.{map_entry_at, entry_count, Entry, entries_of, nth, find_entry, found_entry, distinct, map_check}
 use Rattle.name_map.specs.Home.{home_of}
 use Rattle.name_map.specs.Index.{slot_count, Taken, HasSlot, EntrySlots, FreeFor, Probes, EntryIndexed, EntriesIndexed, MapChecked}
-use Rattle.name_map.proofs.Maps.{entries_count, name-at, has, entry_missing, entry_first, distinct_read, found_some}
+use Rattle.name_map.proofs.Maps.{entries_count, name-at, has, entry_missing, entry_first, distinct_read, found_some, map_ragged, map_large, map_outside, map_inside}
 
 -- ---- the search; the loop stands at p
 
@@ -235,3 +235,9 @@ module _ (names entries l : List ℕ) where
         let found : (j < n) × (same_bytes (nth es j).name name ≡ true) = subst (Probes es n l name) e P in
         let inside : j < length es = omega (arith, found.0, whole, entries_count names entries) in
         found_some es name j inside (sym (ap (find_entry es) (sym (same_equal (nth es j).name name found.1)) ∙ entry_first es different j inside))
+
+-- the map check: each test that fails makes it false, and a map that passes has its slots
+pub ruleset checking_map = (map_ragged, map_large, map_outside, map_inside, checked_no, checked_yes)
+
+-- by each answer of the search
+pub ruleset finding = (find_free, find_found)

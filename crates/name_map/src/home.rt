@@ -1,5 +1,6 @@
 // The home of a name: the slot of the index at which the search for it begins. Equal names have the same home, and nothing else is used of it.
-// It is made of Fletcher's checksum of the bytes: over a long name, additions are quicker than multiplications one after the other.
+// It is made of Fletcher's checksum of the bytes: over a long name, additions are quicker than multiplications one after the other. A name is a
+// text and two places in it, whose range may pass the text's end, as no slice does.
 ghost use Rattle.std.specs.Prelude.{◌≡◌, ℕ, ◌+◌, ◌<◌, ◌≤◌, length};
 ghost use Rattle.text.specs.Range.{part};
 ghost use Rattle.name_map.specs.Home.{word_at, add_number, add_numbers, mixed, Home};
@@ -14,6 +15,7 @@ struct Checksum {
 }
 
 impl Checksum {
+    #[tactic(auto, unfolding(crate::specs::Home::add_number))]
     fn add_number(self, number: u32) -> Checksum
         ensures { result ≡ add_number self number }
     {
@@ -38,6 +40,7 @@ impl Checksum {
 }
 
 // Four bytes as a number, the low one first.
+#[tactic(auto, using(crate::proofs::Homes::word_read))]
 fn word_at(text: &[u8], i: usize) -> u32
     requires { i + 4 ≤ length text.now }
     ensures { result ≡ word_at text.now i }

@@ -17,7 +17,7 @@ pub const SLOTS: usize = 4608;
 // How many entries a map may have.
 pub const MOST_ENTRIES: usize = 2048;
 
-// A slot that the search for a name comes to: it is free for the name, or has the entry of that name.
+// A slot that the search for a name comes to: it is free for the name, or has the entry of that name. Neither is an error, so it is no Result.
 #[derive(Clone, Copy)]
 enum Probed {
     Free(usize),
@@ -25,6 +25,7 @@ enum Probed {
 }
 
 // Where the search for the name that stands in a text from a to e comes to, in the slots of the first n entries. None where the slots end before.
+// While the index is made there are fewer entries than the map has, so they are counted beside it.
 fn probe(map: &NameMap, slots: &[u16], n: usize, text: &[u8], a: usize, e: usize) -> Option<Probed>
     requires n_bound { n ≤ entry_count map.now.entries.now }
     requires entry_slots { EntrySlots (map_in map.now) n slots.now }
@@ -80,6 +81,7 @@ fn index_entries(map: &NameMap, slots: &mut [u16]) -> bool
 }
 
 // The map check, and the slots of a map that passes. The number of entries first, so that few names are compared.
+#[tactic(auto, using(crate::proofs::Probing::checking_map))]
 pub fn check_map(map: &NameMap, slots: &mut [u16]) -> bool
     requires { slots.old ≡ replicate slot_count 0 }
     ensures { MapChecked map.now.names.now map.now.entries.now result slots.new }
@@ -109,6 +111,7 @@ pub struct NameIndex<'a> {
 
 impl<'a> NameIndex<'a> {
     // The entry with the name that stands in a text from a to e.
+    #[tactic(auto, using(crate::proofs::Probing::finding))]
     pub fn find(&self, text: &[u8], a: usize, e: usize) -> Option<usize>
         ensures { result ≡ found_entry (map_in self.now.map) (part text.now a e) }
     {

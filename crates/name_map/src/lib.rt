@@ -25,6 +25,7 @@ impl MapEntry {
     }
 
     // Whether its name lies inside n bytes of names.
+    #[tactic(auto, unfolding(crate::specs::Map::name_inside))]
     fn name_inside(self, n: usize) -> bool
         ensures { result ≡ name_inside n self }
     {

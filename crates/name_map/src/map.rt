@@ -1,4 +1,5 @@
-// A map: the entry of a name, and the map check (01, Linking, and Numbers given at the counter, 7).
+// A map: the entry of a name, and the map check (01, Linking, and Numbers given at the counter, 7). A name is looked for by a text and two places in
+// it, here and in the index: its range may pass the text's end, as that of an entry not yet checked may, and no slice does.
 ghost use Rattle.std.specs.Prelude.{◌≡◌, ◌<◌, ◌==◌, length};
 ghost use Rattle.text.specs.Range.{part, same_bytes};
 ghost use Rattle.area.specs.Contents.{contents};
@@ -28,6 +29,7 @@ impl<'a> NameMap<'a> {
         self.entries.len() / MAP_WIDTH
     }
 
+    #[tactic(auto, using(crate::proofs::Maps::map_entry_made))]
     pub fn entry(&self, k: usize) -> MapEntry
         requires { k < entry_count self.now.entries.now }
         ensures { result ≡ map_entry_at self.now.entries.now k }
@@ -41,6 +43,7 @@ impl<'a> NameMap<'a> {
     }
 
     // Whether entry j has the name that stands in a text from a to e.
+    #[tactic(auto, using(crate::proofs::Maps::name_compared))]
     pub fn has_name(&self, j: usize, text: &[u8], a: usize, e: usize) -> bool
         requires { j < entry_count self.now.entries.now }
         ensures { result ≡ same_bytes (nth (map_in self.now) j).name (part text.now a e) }
@@ -50,6 +53,7 @@ impl<'a> NameMap<'a> {
     }
 
     // The first entry with the name that stands in a text from a to e.
+    #[tactic(auto, using(crate::proofs::Maps::finding_entries))]
     pub fn find_entry(&self, text: &[u8], a: usize, e: usize) -> Option<usize>
         ensures { result ≡ found_entry (map_in self.now) (part text.now a e) }
     {
@@ -64,6 +68,7 @@ impl<'a> NameMap<'a> {
 
     // ---- the map check
 
+    #[tactic(auto, using(area::proofs::All::judging))]
     pub fn names_inside(&self) -> bool
         ensures { result ≡ all (name_inside (length self.now.names.now)) (contents map_format self.now.entries.now (entry_count self.now.entries.now)) }
     {
@@ -76,6 +81,7 @@ impl<'a> NameMap<'a> {
     }
 
     // Whether entry j is the first of its name.
+    #[tactic(auto, using(crate::proofs::Maps::first_compared))]
     pub fn is_first(&self, j: usize) -> bool
         requires { j < entry_count self.now.entries.now }
         ensures { result ≡ (find_entry (map_in self.now) (nth (map_in self.now) j).name == j) }

@@ -1,4 +1,5 @@
 // Names of states and of rules: their form, and the record of a name (01, Declarations and Rules).
+// A name is a source and two places in it, as in the definitions: a record holds places, and those of a rule may lie past the source, where no slice is.
 #![tactic(auto)]
 
 pub mod marks; // marks of the names of rules
@@ -47,7 +48,8 @@ pub fn validate_start_state_name(src: &[u8], a: usize, e: usize) -> bool
     false
 }
 
-// Whether the state j, whose record is x, has the name from a to e. The span of state 0 is empty, so its name is no part of the source.
+// Whether the state j, whose record is x, has the name from a to e: `position` gives it j and x. The span of state 0 is empty, so its name is no part
+// of the source.
 #[tactic(auto, using(crate::proofs::Finds::comparing_names))]
 fn is_state(src: &[u8], a: usize, e: usize, j: usize, x: State) -> bool
     ensures { (xs : List State) → nth_state xs j ≡ x → result ≡ is_state src.now a e xs j }

@@ -1,4 +1,5 @@
 // Marks of names: a table that tells soon that no rule has a name. The last bytes of a name and its length give the place of its mark.
+// A name is a source and two places, which may lie past the source, where no slice is.
 ghost use Rattle.std.specs.Prelude.{◌≡◌, ◌+◌, ◌*◌, ◌-◌, ◌%◌, ◌≤◌, ◌<◌, length, take};
 ghost use Rattle.characters.specs.Whitespace.{byte};
 ghost use Rattle.text.specs.Range.{part};
@@ -23,7 +24,7 @@ fn from_end(src: &[u8], a: usize, n: usize, k: usize) -> u8
     src[a + (n - k)]
 }
 
-// The place for a name of n bytes whose last is b, c before it, then d, then f.
+// The place for a name of n bytes whose last is b, c before it, then d, then f. They are no slice, since a name may have fewer than four bytes.
 fn place_by(b: u8, c: u8, d: u8, f: u8, n: usize) -> usize
     requires { n < 0x8000000000000000 }
     ensures { result ≡ (b + 10 * c + 100 * d + 1000 * f + n) % mark_count }

@@ -7,6 +7,7 @@ use crate::Text;
 use characters::whitespace::byte_at;
 
 // The field at a place; bytes past the end count as 0.
+#[tactic(auto, using(std::proofs::lemmas::List::get_or_past), unfolding(area::specs::Bytes::field_at))]
 pub fn field_at(area: &[u8], at: usize) -> u16
     ensures { result ≡ field_at area.now at }
 {
@@ -18,6 +19,7 @@ pub fn field_at(area: &[u8], at: usize) -> u16
 
 impl<const N: usize> Text<N> {
     // The m fields from a place on. Every record that a count of 16 bits tells starts below 65,536 × 28.
+    #[tactic(auto, using(crate::proofs::AreaFields::field_printing))]
     pub fn push_fields(&mut self, area: &[u8], at: usize, m: u16)
         requires { (at ≤ 1835008) × (m ≤ 14) }
         ensures { self.new ≡ appended N self.old (printed_fields_at area.now at m) }

@@ -1,8 +1,8 @@
 // The parse call (01, Numbers given at the counter, and Areas).
-ghost use Rattle.std.specs.Prelude.{◌≡◌, ◌≤◌, length};
+ghost use Rattle.std.specs.Prelude.{◌≡◌, length};
 ghost use Rattle.area.specs.Bytes.{zeros};
 ghost use Rattle.area.specs.Phrases.{before, after};
-ghost use Rattle.section.specs.Request.{asked_by};
+ghost use Rattle.section.specs.Request.{asked, asked_by};
 ghost use Rattle.parse.specs.Parse.{file, leaves, parse_call};
 ghost use Rattle.parse.specs.Answers.{Cleared, Zeroed};
 ghost use Rattle.parse.specs.Phrases.{room_in, left_in};
@@ -16,7 +16,7 @@ use section::LexFile;
 
 const MOST_FLAGS: u64 = 3;
 
-// The six areas stay parameters: a struct or an array of slices that are lent for writing has no proof.
+// The areas that are lent for writing stay parameters beside their counts: a struct of them, lent again, has no proof (tried).
 fn clear_all(
     area1: &mut [u8],
     area2: &mut [u8],
@@ -37,7 +37,7 @@ fn clear_all(
     clear(area6);
 }
 
-// A text of at most 65,535 bytes, into areas and counts that are zero.
+// A file that is UTF-8, into areas and counts that are zero.
 fn parse_text(
     lex_file: LexFile,
     counts: &mut [u16; 6],
@@ -48,10 +48,10 @@ fn parse_text(
     area5: &mut [u8],
     area6: &mut [u8],
 ) -> Result<(), ParseError>
-    requires source_len_bound { length lex_file.source.now ≤ 65535 }
     requires zeroed { Zeroed area1.old area2.old area3.old area4.old area5.old area6.old }
     requires counts_value { counts.old ≡ zeros 6 }
-    ensures { let room = room_in area1 area2 area3 area4 area5 area6 in left_in result counts area1 area2 area3 area4 area5 area6 ≡ leaves room (file (asked_by lex_file.entry) room) }
+    ensures { let room = room_in area1 area2 area3 area4 area5 area6 in
+        left_in result counts area1 area2 area3 area4 area5 area6 ≡ leaves room (file (asked_by lex_file.entry) room) }
 {
     match parse_sections(lex_file, area1, area2, area3, area4, area5, area6) {
         Ok(q) => {
@@ -75,7 +75,9 @@ fn parse_text(
 
 // Everything is zero before the first test, and stays so where the call is refused by 1, 2, 3 or 4.
 pub fn parse(
-    lex_file: LexFile,
+    src: &[u8],
+    flags: u64,
+    verdicts: &[u8],
     counts: &mut [u16; 6],
     area1: &mut [u8],
     area2: &mut [u8],
@@ -85,17 +87,22 @@ pub fn parse(
     area6: &mut [u8],
 ) -> Result<(), ParseError>
     ensures { left_in result counts area1 area2 area3 area4 area5 area6
-        ≡ parse_call (asked_by lex_file.entry) (room_in area1 area2 area3 area4 area5 area6) }
+        ≡ parse_call (asked src.now flags verdicts.now) (room_in area1 area2 area3 area4 area5 area6) }
 {
     *counts = [0; 6];
     clear_all(area1, area2, area3, area4, area5, area6);
-    if lex_file.source.len() > MOST_SOURCE {
+    if src.len() > MOST_SOURCE {
         return Err(ParseError::LongFile);
     }
-    if lex_file.flags > MOST_FLAGS {
+    if flags > MOST_FLAGS {
         return Err(ParseError::UnknownFlag);
     }
-    if utf8(lex_file.source) {
+    if utf8(src) {
+        let lex_file = LexFile {
+            source: src,
+            flags,
+            verdicts,
+        };
         return parse_text(lex_file, counts, area1, area2, area3, area4, area5, area6);
     }
     Err(ParseError::InvalidUtf8)

@@ -17,7 +17,8 @@ pub struct FileCounts {
     pub expected: u16,
 }
 
-// Why a file is refused: the area of a number was full, or there are so many fault spans.
+// Why a file is refused: the area of a number was full, or there are so many fault spans. An area has its number here, and no name: so the definition
+// of what a file comes to speaks of it, and the host.
 #[derive(Clone, Copy, PartialEq, Eq, Debug)]
 pub enum ParseError {
     LongFile,

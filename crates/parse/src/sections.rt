@@ -1,4 +1,5 @@
 // The file from its start: state 0, the declarations, the rules, and whether there are faults (01, Numbers given at the counter).
+// The areas that are lent for writing stay parameters beside their counts: a struct of them, lent again, has no proof (tried).
 ghost use Rattle.std.specs.Prelude.{ℕ, ◌≡◌, ◌≤◌, length};
 ghost use Rattle.area.specs.Contents.{fault_format, contents};
 ghost use Rattle.area.specs.Phrases.{before, after};
@@ -30,7 +31,6 @@ fn parse_opening(
     area5: &mut [u8],
     area6: &mut [u8],
 ) -> Result<usize, Stop>
-    requires source_len_bound { length lex_file.source.now ≤ 65535 }
     requires held_declared { HeldDeclared area1.old area5.old area6.old counts.old }
     ensures { DoesDeclared (λ k. opening lex_file.entry.source.now (options lex_file.entry.flags) k) area1 area5 area6 counts result }
 {
@@ -40,15 +40,7 @@ fn parse_opening(
         exclusive: 0,
     };
     counts.names.states = push(area1, counts.names.states, initial)?;
-    parse_declarations(
-        lex_file.source,
-        lex_file.flags,
-        0,
-        counts,
-        area1,
-        area5,
-        area6,
-    )
+    parse_declarations(lex_file, 0, counts, area1, area5, area6)
 }
 
 // The fault that ends parsing is the last; or an area is full.
@@ -107,7 +99,6 @@ pub fn parse_sections(
     area5: &mut [u8],
     area6: &mut [u8],
 ) -> Result<FileCounts, ParseError>
-    requires source_len_bound { length lex_file.source.now ≤ 65535 }
     requires zeroed { Zeroed area1.old area2.old area3.old area4.old area5.old area6.old }
     ensures { Parses (file (asked_by lex_file.entry) (room_in area1 area2 area3 area4 area5 area6))
         area1.new area2.new area3.new area4.new area5.new area6.new result }

@@ -3,12 +3,11 @@
 #![tactic(auto)]
 
 use parse::call::parse;
-use section::LexFile;
 use sheet_check::Sheet;
 use sheet_check::pattern::{pattern, pattern_test};
 use streams::{read_full, say};
 
-// What is written is the part that the call borrowed from the source or from area 4.
+// What is written is the part that the call borrowed from the source or from area 4; its bytes are those of a file, which `Display` has not.
 fn say_rule(rt: &impl Print, sheet: Sheet, rule: u64) {
     let test = pattern_test(sheet, rule);
     let part = pattern(sheet, rule);
@@ -44,13 +43,10 @@ fn show(rt: &impl Print, source: &[u8]) {
     let mut area4 = [0; 16];
     let mut area5 = [0; 4];
     let mut area6 = [0; 8];
-    let lex_file = LexFile {
-        source,
-        flags: 0,
-        verdicts: b"",
-    };
     let answer = parse(
-        lex_file,
+        source,
+        0,
+        b"",
         &mut counts,
         &mut area1,
         &mut area2,

@@ -54,7 +54,9 @@ module _ (area bytes : List ℕ) where
       }
 
   pub holds_compared : (o : Option (Bor (List ℕ))) (r : Bool)
-      → MatchOption o (pointwise eqb (take (length bytes) area) bytes ≡ false) (λ x. (pointwise eqb (take (length bytes) area) bytes ≡ true) × (x.now ≡ drop (length bytes) area) × (length x.now + length bytes ≡ length area))
+      → MatchOption o (pointwise eqb (take (length bytes) area) bytes ≡ false)
+      (λ x. (pointwise eqb (take (length bytes) area) bytes ≡ true) × (x.now ≡ drop (length bytes) area)
+      × (length x.now + length bytes ≡ length area))
       → MatchOption o (r ≡ false) (λ x. WhenTrue (IsZero x.now) r)
       → WhenTrue (AreaHolds area bytes) r
   holds_compared None r stripped says = record { holds = λ t. absurd (false≢true (sym says ∙ t)) }

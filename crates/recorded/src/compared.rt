@@ -40,7 +40,8 @@ impl Cursor<'_> {
         true
     }
 
-    // Whether the areas, of the lengths that stand at a place, are those recorded one behind the other.
+    // Whether the areas, of the lengths that stand at a place, are those recorded one behind the other. An area may have zeros behind what was
+    // recorded of it, so `==` does not say it.
     fn same_areas(&mut self, lengths: &Cursor, areas: [&[u8]; 6]) -> bool
         requires { lengths.now.answers.now ≡ self.old.answers.now }
         ensures { Compares (AreasAre (lent_lists areas.entry) self.old.answers.now lengths.now.at self.old.at 6)

@@ -17,6 +17,7 @@ impl<'a> Cursor<'a> {
     ghost use Rattle.recorded.specs.Records.{next_bytes, front_at, number_at, long_at, bytes_at, bytes_end};
     ghost use Rattle.recorded.specs.Cursor.{behind, GoesTo, Reads};
 
+    // All of the answers and a place in them, no part of them: the definitions count from the file's start.
     pub fn new(answers: &'a [u8], at: usize) -> Self
         requires { at ≤ length answers.now }
         ensures { (result.answers.now ≡ answers.entry.now) × (result.at ≡ at) }

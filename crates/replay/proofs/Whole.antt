@@ -10,7 +10,8 @@ use Rattle.section.specs.Request.{Request, request, options}
 use Rattle.parse.specs.Parse.{parse_call}
 use Rattle.troymantle.specs.Words.{left_in_words, in_words}
 use Rattle.recorded.specs.declared.reader.Cursor.{Cursor}
-use Rattle.recorded.specs.Records.{long_at, skip_to, bytes_end, bytes_at, area_start, areas_at, word_at, counts_from, fourth_at, areas_end, source_at, source_end}
+use Rattle.recorded.specs.Records.{long_at, skip_to, bytes_end, bytes_at, area_start, areas_at}
+use Rattle.recorded.specs.Records.{word_at, counts_from, fourth_at, areas_end, source_at, source_end}
 use Rattle.recorded.specs.Comparison.{WhenTrue, NumbersAre, LeftIs, Compares}
 use Rattle.recorded.specs.Cursor.{behind, GoesTo, Reads}
 use Rattle.recorded.proofs.Reading.{skip_on, skip_within, bytes_on, bytes_within}
@@ -85,7 +86,9 @@ module _ (p p1 p2 : Cursor) (s t : List ℕ) (n : ℕ) (r : Bool) where
 -- ---- the next record
 
 areas_behind : (l : List ℕ) (at : ℕ) → at ≤ length l → at ≤ fourth_at l at
-areas_behind l at h = omega (arith, bytes_on l at h, bytes_on l (bytes_end l at) (bytes_within l at), bytes_on l (bytes_end l (bytes_end l at)) (bytes_within l (bytes_end l at)))
+areas_behind l at h =
+    let behind : ℕ = bytes_end l at in
+    omega (arith, bytes_on l at h, bytes_on l behind (bytes_within l at), bytes_on l (bytes_end l behind) (bytes_within l behind))
 
 -- a record ends behind its start
 pub record_behind : (l : List ℕ) (at : ℕ) → at < length l → at < record_end l (source_end l at)

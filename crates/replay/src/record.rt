@@ -47,7 +47,8 @@ fn first_record(answers: &[u8]) -> usize
         .map_or(answers.len(), |at| at + 2)
 }
 
-// A case that is not equal is named by its number from 1 on. What cannot be written is left out.
+// A case that is not equal is named by its number from 1 on. What cannot be written is left out. The records go on to an end that only reading
+// each of them finds, so no `for` counts them.
 #[tactic(auto, using(crate::proofs::Whole::goes_behind))]
 pub fn replay_all(rt: &impl Print, answers: &[u8]) {
     let mut cursor = Cursor::new(answers, first_record(answers));

@@ -10,6 +10,7 @@ use area::list::Records;
 use area::{State, push};
 use fault::{LexErrorKind, Stop};
 use names::get_start_state_by_name;
+use section::LexFile;
 use text::scan::{find_byte, trim_end, trim_start};
 
 // The state whose name, trimmed, stands from a to e.
@@ -45,23 +46,23 @@ fn next_entry(
     Ok(e + 1)
 }
 
-// Each name between the `<` at i and the `>` at g, in turn.
+// Each name between the `<` at i and the `>` at g, as far as it goes: no index is counted.
 #[tactic(auto, using(crate::proofs::Listing::lists_start))]
 pub fn parse_start_states(
-    src: &[u8],
+    file: LexFile,
     i: usize,
     g: usize,
     states: &Records<State>,
     area3: &mut [u8],
     count: &mut u16,
 ) -> Result<usize, Stop>
-    requires i_le_g { ((i ≤ g) × (g < length src.now)) × (length src.now ≤ 65535) }
+    requires i_le_g { (i ≤ g) × (g < length file.source.now) }
     requires held { Held entry_format area3.old count.old }
-    ensures { DoesRecords entry_format (λ c3. entries src.now c3 states.now i g) area3 count result }
+    ensures { DoesRecords entry_format (λ c3. entries file.entry.source.now c3 states.now i g) area3 count result }
 {
     let mut a = i + 1;
     while a <= g {
-        a = next_entry(src, i as u16, g, a, states, area3, count)?;
+        a = next_entry(file.source, i as u16, g, a, states, area3, count)?;
     }
     Ok(a)
 }

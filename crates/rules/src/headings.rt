@@ -1,4 +1,5 @@
-// A rule's line but for its pattern: the last blank, and behind it the target and the name (01, Rules).
+// A rule's line but for its pattern: the last blank, and behind it the target and the name (01, Rules). Their places are places of the source, as in
+// the definitions.
 ghost use Rattle.std.specs.Prelude.{◌≡◌, ◌+◌, ◌-◌, ◌≤◌, ◌<◌, length};
 ghost use Rattle.rules.specs.Heading.{operation_of, target_of, span, label_by, label_of, head_unnamed, head_named};
 ghost use Rattle.rules.specs.Heading.{heading_named, heading_behind, heading_of};
@@ -9,6 +10,7 @@ use area::list::Records;
 use characters::whitespace::byte_at;
 use fault::{LexErrorKind, Span};
 use names::{NamedRules, get_start_state_by_name};
+use section::LexFile;
 use text::scan::{find_byte, last_blank};
 
 // ---- the target, behind the blank at r of a line trimmed at t
@@ -26,26 +28,26 @@ fn parse_start_state_ops(x: u8) -> StartStateOperation
 
 // Its state's name starts behind the `<`, or behind the `+` or `-` that follows.
 #[tactic(auto, unfolding(crate::proofs::Targets::targets))]
-fn target_of(src: &[u8], r: usize, t: usize, states: &Records<State>) -> Result<Target, LexError>
-    requires { ((r < t) × (t ≤ length src.now)) × (length src.now ≤ 65535) }
-    ensures { result ≡ target_of src.now r t states.now }
+fn target_of(file: LexFile, r: usize, t: usize, states: &Records<State>) -> Result<Target, LexError>
+    requires { (r < t) × (t ≤ length file.source.now) }
+    ensures { result ≡ target_of file.entry.source.now r t states.now }
 {
-    if byte_at(src, r + 1) != b'<' {
+    if byte_at(file.source, r + 1) != b'<' {
         return Ok(Target {
             state: None,
             end: r + 1,
         });
     }
-    let g = find_byte(src, r + 1, t, b'>');
+    let g = find_byte(file.source, r + 1, t, b'>');
     if t <= g {
         return Err(LexError {
             kind: LexErrorKind::InvalidStartState,
             at: r as u16,
         });
     }
-    let operation = parse_start_state_ops(byte_at(src, r + 2));
+    let operation = parse_start_state_ops(byte_at(file.source, r + 2));
     let from = r + 2 + operation.mark_len();
-    let Some(j) = get_start_state_by_name(src, from, g, states) else {
+    let Some(j) = get_start_state_by_name(file.source, from, g, states) else {
         return Err(LexError {
             kind: LexErrorKind::UnknownStartState,
             at: (r + 1) as u16,
@@ -143,18 +145,18 @@ fn heading_named(
 // What stands from p to t behind the target.
 #[tactic(auto, using(crate::proofs::Heads::heading), unfolding(crate::specs::Heading::heading_behind))]
 fn heading_behind(
-    src: &[u8],
+    file: LexFile,
     r: usize,
     target_state: Option<TargetState>,
     p: usize,
     t: usize,
     rules: &NamedRules,
 ) -> Result<Heading, LexError>
-    requires r_lt_p { ((r < p) × (p ≤ t)) × (t ≤ 65535) }
-    requires source { rules.now.source.now ≡ src.now }
-    ensures { result ≡ heading_behind src.now r target_state (span p t) rules.now.rules }
+    requires r_lt_p { ((r < p) × (p ≤ t)) × (t ≤ length file.source.now) }
+    requires source { rules.now.source.now ≡ file.source.now }
+    ensures { result ≡ heading_behind file.entry.source.now r target_state (span p t) rules.now.rules }
 {
-    match label_of(src, p, t) {
+    match label_of(file.source, p, t) {
         Label::Unnamed => Ok(Heading::Fresh(r, head_unnamed(r, target_state))),
         Label::Named => Ok(heading_named(r, target_state, p, t, rules)),
         Label::Misnamed => Err(LexError {
@@ -167,22 +169,22 @@ fn heading_behind(
 // The line from i, trimmed at t. The last blank splits pattern from name.
 #[tactic(auto, using(crate::proofs::Heads::heading), unfolding(crate::specs::Heading::heading_of))]
 pub fn heading_of(
-    src: &[u8],
+    file: LexFile,
     i: usize,
     t: usize,
     states: &Records<State>,
     rules: &NamedRules,
 ) -> Result<Heading, LexError>
-    requires i_le_t { ((i ≤ t) × (t ≤ length src.now)) × (length src.now ≤ 65535) }
-    requires source { rules.now.source.now ≡ src.now }
-    ensures { result ≡ heading_of src.now i t states.now rules.now.rules }
+    requires i_le_t { (i ≤ t) × (t ≤ length file.source.now) }
+    requires source { rules.now.source.now ≡ file.source.now }
+    ensures { result ≡ heading_of file.entry.source.now i t states.now rules.now.rules }
 {
-    let Some(r) = last_blank(src, i, t) else {
+    let Some(r) = last_blank(file.source, i, t) else {
         return Err(LexError {
             kind: LexErrorKind::MissingSpace,
             at: i as u16,
         });
     };
-    let target = target_of(src, r, t, states)?;
-    heading_behind(src, r, target.state, target.end, t, rules)
+    let target = target_of(file, r, t, states)?;
+    heading_behind(file, r, target.state, target.end, t, rules)
 }

@@ -96,7 +96,7 @@ pub struct Head {
 }
 
 // What a rule's line says but for its pattern: a name that a rule has already (the span of the first, its own); or the place of the last blank and
-// what stands behind it.
+// what stands behind it. Neither ends the parse, so it is no Result.
 #[derive(Clone, Copy)]
 pub enum Heading {
     Repeated(Span, Span),

@@ -1,4 +1,5 @@
 // The record of a rule: the engine's verdict, then the record (01, Rules).
+// The area that is lent for writing stays beside its count: a struct of both, lent again, has no proof (tried).
 ghost use Rattle.std.specs.Prelude.{◌≡◌};
 ghost use Rattle.area.specs.Contents.{rule_format, Held};
 ghost use Rattle.area.specs.Phrases.{before};

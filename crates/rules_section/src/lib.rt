@@ -1,4 +1,5 @@
 // The rules section: its lines, their patterns, and the records of the rules (01, Rules).
+// The areas that are lent for writing stay parameters beside their counts: a struct of them, lent again, has no proof (tried).
 #![tactic(auto)]
 
 mod pattern; // the pattern of a rule, and the rule's record

@@ -34,14 +34,14 @@ fn parse_rule(
     area6: &mut [u8],
     marks: &[u8],
 ) -> Result<usize, Stop>
-    requires inside { ((at.start ≤ at.end) × (at.end ≤ length file.source.now)) × (length file.source.now ≤ 65535) }
+    requires inside { (at.start ≤ at.end) × (at.end ≤ length file.source.now) }
     requires held_ruled { HeldRuled area2.old area3.old area4.old area6.old counts.old }
     requires names_held { NamesHeld file.source.now (contents rule_format area2.old counts.old.sheet.rules) marks.now }
     ensures { DoesRuled (λ k c6. rule (asked_by file.entry) states.now k c6 at.start at.end) area2 area3 area4 area6 counts result }
 {
     let t = trim_end(file.source, at.start, at.end);
     let rules = NamedRules::new(file.source, Records::new(area2, counts.sheet.rules), marks);
-    match heading_of(file.source, at.start, t, states, &rules)? {
+    match heading_of(file, at.start, t, states, &rules)? {
         Heading::Repeated(first, again) => {
             let kind = LexErrorKind::DuplicateName;
             counts.faults = add_duplicate_occurrence(area6, counts.faults, kind, first, again)?;
@@ -77,7 +77,7 @@ pub fn parse_line(
     area6: &mut [u8],
     marks: &[u8],
 ) -> Result<usize, Stop>
-    requires inside { ((at.start ≤ at.end) × (at.end ≤ length file.source.now)) × (length file.source.now ≤ 65535) }
+    requires inside { (at.start ≤ at.end) × (at.end ≤ length file.source.now) }
     requires held_ruled { HeldRuled area2.old area3.old area4.old area6.old counts.old }
     requires names_held { NamesHeld file.source.now (contents rule_format area2.old counts.old.sheet.rules) marks.now }
     ensures { DoesRuled (λ k c6. line (asked_by file.entry) states.now k c6 at.start at.end) area2 area3 area4 area6 counts result }

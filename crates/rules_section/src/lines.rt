@@ -17,7 +17,7 @@ use names::marks::{MARKS, mark_rules};
 use section::reader::next_rule;
 use section::{LexFile, has_routines, in_section};
 
-// The rules from i on, and what follows them. The marks of the rules so far spare most names a look at each of these rules.
+// The rules from i on, and what follows them, from line to line without an index. The marks of the rules so far spare most names a look at each of these rules.
 #[tactic(auto, using(crate::proofs::RuleLines::sectioning))]
 pub fn parse_rules(
     file: LexFile,
@@ -29,7 +29,7 @@ pub fn parse_rules(
     area4: &mut [u8],
     area6: &mut [u8],
 ) -> Result<usize, Stop>
-    requires i_in_bounds { (i ≤ length file.source.now) × (length file.source.now ≤ 65535) }
+    requires i_in_bounds { i ≤ length file.source.now }
     requires held_ruled { HeldRuled area2.old area3.old area4.old area6.old counts.old }
     requires distinct_names { DistinctNames file.source.now (contents rule_format area2.old counts.old.sheet.rules) }
     ensures { DoesRuled (λ k c6. rules_section (asked_by file.entry) states.now k c6 i) area2 area3 area4 area6 counts result }

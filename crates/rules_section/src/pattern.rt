@@ -39,10 +39,7 @@ pub struct StateList {
 fn named_field(name: Option<Name>) -> u16
     ensures { result ≡ named_field name }
 {
-    match name {
-        Some(_) => 1,
-        None => 0,
-    }
+    u16::from(name.is_some())
 }
 
 fn name_fields(name: Option<Name>) -> Name
@@ -54,19 +51,13 @@ fn name_fields(name: Option<Name>) -> Name
 fn operation_field(target: Option<TargetState>) -> u16
     ensures { result ≡ operation_field target }
 {
-    match target {
-        Some(x) => u16::from(x.operation),
-        None => 0,
-    }
+    target.map_or(0, |x| u16::from(x.operation))
 }
 
 fn target_field(target: Option<TargetState>) -> u16
     ensures { result ≡ target_field target }
 {
-    match target {
-        Some(x) => x.id,
-        None => 0,
-    }
+    target.map_or(0, |x| x.id)
 }
 
 // The rule of a heading, a text and a list, at the next position: its id is the position.
@@ -141,53 +132,34 @@ pub fn parse_pattern(
     area3: &mut [u8],
     area4: &mut [u8],
 ) -> Result<usize, Stop>
-    requires start_le_c { ((line.start ≤ c) × (c ≤ length file.source.now)) × (length file.source.now ≤ 65535) }
+    requires start_le_c { (line.start ≤ c) × (c ≤ length file.source.now) }
     requires held_sheet { HeldSheet area2.old area3.old area4.old counts.old }
     ensures { DoesSheet (λ k. pattern (asked_by file.entry) k line.start line.end h c states.now) area2 area3 area4 counts result }
 {
     let place = line.start as u16;
     let entries = counts.entries;
-    let text = counts.text;
-    match body_of(file.source, line.start, c) {
-        Body::Unclosed => Err(Stop::Fault(LexErrorKind::InvalidStartState, place)),
+    let before = counts.text;
+    let text = match body_of(file.source, line.start, c) {
+        Body::Unclosed => return Err(Stop::Fault(LexErrorKind::InvalidStartState, place)),
         Body::Listed(g) => {
             let count = &mut counts.entries;
-            parse_start_states(file.source, line.start, g, states, area3, count)?;
-            let list = list_since(entries, counts.entries);
-            let rule = rule_with(h, counts.rules, source_text(g + 1, c), list);
-            record_rule(
-                file.verdicts,
-                place,
-                line.end,
-                rule,
-                area2,
-                &mut counts.rules,
-            )
+            parse_start_states(file, line.start, g, states, area3, count)?;
+            source_text(g + 1, c)
         }
         Body::Rewritten => {
-            counts.text = unescape(file.source, file.flags, line.start, c, area4, text)?;
-            let list = list_since(entries, entries);
-            let rule = rule_with(h, counts.rules, text_since(text, counts.text), list);
-            record_rule(
-                file.verdicts,
-                place,
-                line.end,
-                rule,
-                area2,
-                &mut counts.rules,
-            )
+            counts.text = unescape(file.source, file.flags, line.start, c, area4, before)?;
+            text_since(before, counts.text)
         }
-        Body::Plain => {
-            let list = list_since(entries, entries);
-            let rule = rule_with(h, counts.rules, source_text(line.start, c), list);
-            record_rule(
-                file.verdicts,
-                place,
-                line.end,
-                rule,
-                area2,
-                &mut counts.rules,
-            )
-        }
-    }
+        Body::Plain => source_text(line.start, c),
+    };
+    let list = list_since(entries, counts.entries);
+    let rule = rule_with(h, counts.rules, text, list);
+    record_rule(
+        file.verdicts,
+        place,
+        line.end,
+        rule,
+        area2,
+        &mut counts.rules,
+    )
 }

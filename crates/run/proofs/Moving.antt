@@ -12,7 +12,8 @@ use Rattle.run.specs.Run.{Running, running, leaving, run_left, put_state, with_d
 use Rattle.run.specs.Operation.{OperationIs}
 
 -- what a match on the name of an operation tells of the field
-pub operation_told : (field : ℕ) (o : Option StartStateOperation) (w v : StartStateOperation) → OperationIs field o → o ≡ Some w → w ≡ v → OperationIs field (Some v)
+pub operation_told : (field : ℕ) (o : Option StartStateOperation) (w v : StartStateOperation) → OperationIs field o → o ≡ Some w → w ≡ v
+    → OperationIs field (Some v)
 operation_told field o w v is e q = subst (OperationIs field) (e ∙ ap Some q) is
 
 module _ (x : Rule) (r : Run) (s : List ℕ) where

@@ -3,7 +3,8 @@ use mathlib.Core.Path.{◌≡◌, refl}
 use mathlib.Core.Bool.{cond}
 use lib.Dec.{eqb}
 use Rattle.std.specs.Prelude.{Ok, Err}
-use Rattle.answers.specs.Numbers.{accepted_number, broken_sheet_number, broken_run_number, row_mismatch_number, done_number, stopped_number, unlinked_number, skip_number}
+use Rattle.answers.specs.Numbers.{accepted_number, broken_sheet_number, broken_run_number, row_mismatch_number}
+use Rattle.answers.specs.Numbers.{done_number, stopped_number, unlinked_number, skip_number}
 use Rattle.answers.specs.Words.{Fields, TellsApart}
 use Rattle.answers.proofs.Words.{tells_by}
 use Rattle.run.specs.declared.StepError.TheVariants.{BrokenSheet, BrokenRun, RowMismatch}

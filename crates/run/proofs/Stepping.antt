@@ -27,14 +27,16 @@ use Rattle.run.specs.declared.Run.{Run}
 use Rattle.run.specs.declared.After.{After}
 use Rattle.run.specs.declared.StepError.TheVariants.{BrokenSheet, BrokenRun, RowMismatch}
 use Rattle.run.specs.declared.Step.TheVariants.{Done, Stopped}
-use Rattle.run.specs.Run.{most_bytes, stack_bytes, Running, running, Input, input, current, put_state, RunLeft, leaving, run_left, StepAnswer, start_accepted, start_refused, first_run, start_call, good_start}
+use Rattle.run.specs.Run.{most_bytes, stack_bytes, Running, running, Input, input, current, put_state, RunLeft, leaving}
+use Rattle.run.specs.Run.{run_left, StepAnswer, start_accepted, start_refused, first_run, start_call, good_start}
 use Rattle.run.specs.Run.{good_run, fits_in, good_row, won_by, choose, lexer_of, step_row, step_run, step_call}
 use Rattle.run.specs.Phrases.{Inside}
 use Rattle.run.specs.Top.{RowFits}
 use Rattle.run.proofs.Fitting.{GoodNumbers, run_is, row-length}
 
 -- what a run and an answer beside it leave
-pub left_with : {A : Type 0} (x : After A) (a : A) (r : Run) (s : List ℕ) (y : RunLeft A) → x.answer ≡ a → x.run ≡ r → run_left a r s ≡ y → run_left x.answer x.run s ≡ y
+pub left_with : {A : Type 0} (x : After A) (a : A) (r : Run) (s : List ℕ) (y : RunLeft A) → x.answer ≡ a → x.run ≡ r → run_left a r s ≡ y
+    → run_left x.answer x.run s ≡ y
 left_with {A} x a r s y p q e = (λ i. run_left (p i) (q i) s) ∙ e
 
 -- ---- the start call
@@ -48,7 +50,8 @@ module _ (n : ℕ) (r : Run) (s : List ℕ) where
   unfolding start_call good_start
   start_short h = rw (lt-leb (stack_bytes n) (length s) h, and_false)
 
-  pub start_good : (e : List ℕ) → n ≤ most_bytes → stack_bytes n ≤ length s → e ≡ put_state s 0 0 → run_left start_accepted (first_run n) e ≡ start_call n (running r s)
+  pub start_good : (e : List ℕ) → n ≤ most_bytes → stack_bytes n ≤ length s → e ≡ put_state s 0 0
+      → run_left start_accepted (first_run n) e ≡ start_call n (running r s)
   unfolding start_call good_start
   start_good e h g q = rw (le-leb n most_bytes h, le-leb (stack_bytes n) (length s) g, q)
 

@@ -7,7 +7,7 @@ mod fit; // whether a run and a row fit
 mod moves; // what the winner does
 pub mod call; // the calls
 
-// The most bytes of an entry.
+// The most bytes of an entry: a limit of 01, compared with a `u64` of the host, and no kind of anything.
 const MOST_BYTES: u64 = 4096;
 
 // A run's numbers: the bytes of the entry, those behind it, the entries of the stack in use, and the moves so far. For C they are four
@@ -25,7 +25,7 @@ pub struct Run {
 #[derive(Clone, Copy, PartialEq, Eq, Debug)]
 pub struct StartRefused;
 
-// What the step call refuses: numbers 6, 9 and 10 of 01.
+// What the step call refuses: numbers 6, 9 and 10 of 01. An enum of its own, for an error of three kinds is no `Option`.
 #[derive(Clone, Copy, PartialEq, Eq, Debug)]
 pub enum StepError {
     BrokenSheet,
@@ -33,7 +33,7 @@ pub enum StepError {
     RowMismatch,
 }
 
-// What a step answers that is not refused.
+// What a step answers that is not refused: five kinds, of which one alone has values, and each has its number in the word.
 #[derive(Clone, Copy, PartialEq, Eq, Debug)]
 pub enum Step {
     Done,

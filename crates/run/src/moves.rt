@@ -9,7 +9,7 @@ ghost use Rattle.run.specs.Phrases.{HasRoom, Inside};
 use crate::{After, Run, Step, StepError};
 use area::{ENTRY_WIDTH, Rule, write_field};
 
-// What a rule does to the stack.
+// What a rule does to the stack: the kinds of a field, which is a number in the record (C interface).
 #[derive(Clone, Copy, PartialEq, Eq, Debug)]
 pub(crate) enum StartStateOperation {
     ReplaceStack,
@@ -31,6 +31,7 @@ impl StartStateOperation {
     }
 }
 
+// Entry k of the stack, in the layout that C has of it. The stack is lent whole, for k is a place and no length of a part.
 #[tactic(auto, unfolding(crate::specs::Run::put_state))]
 pub fn put_state(stack: &mut [u8], k: u16, id: u16)
     requires { k * entry_width + entry_width ≤ length stack.old }

@@ -17,7 +17,7 @@ pub fn numbers_of(line: &[u8]) -> Text<128> {
     numbers
 }
 
-// Number k of two-byte fields, and 0 where there is none.
+// Number k of two-byte fields, and 0 where there is none: a line may name fewer numbers than its call takes.
 pub fn number_at(fields: &[u8], k: usize) -> u16 {
     match fields.chunks_exact(2).nth(k) {
         Some([low, high]) => u16::from_le_bytes([*low, *high]),

@@ -5,7 +5,6 @@ use parse::ParseError;
 use parse::call::parse;
 use run::call::step;
 use run::{After, Run, Step, StepError};
-use section::LexFile;
 
 #[derive(Drop)]
 pub struct Sheet<'a> {
@@ -28,13 +27,10 @@ impl<'a> Sheet<'a> {
         let mut area4 = [0; 40];
         let mut area5 = [0; 40];
         let mut area6 = [0; 40];
-        let lex_file = LexFile {
-            source,
-            flags: 0,
-            verdicts: b"",
-        };
         let answer = parse(
-            lex_file,
+            source,
+            0,
+            b"",
             &mut counts,
             &mut area1,
             &mut area2,

@@ -8,7 +8,8 @@ use lib.Dec.{leb}
 use lib.ListN.{length}
 use Rattle.characters.proofs.Tests.{and_left, and_right}
 use Rattle.area.specs.Records.{entry_at}
-use Rattle.run.specs.Run.{start_accepted, start_refused, Running, running, leaving, run_left, most_bytes, stack_bytes, put_state, first_run, good_start, good_run, start_call, start_fields, start_word}
+use Rattle.run.specs.Run.{start_accepted, start_refused, Running, running, leaving, run_left, most_bytes, stack_bytes}
+use Rattle.run.specs.Run.{put_state, first_run, good_start, good_run, start_call, start_fields, start_word}
 use Rattle.run_laws.proofs.Stacks.{put_length, put_same}
 use Rattle.run_laws.proofs.Operated.{run_good}
 

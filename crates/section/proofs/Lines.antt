@@ -1,7 +1,7 @@
 -- Lines that are skipped. Each way to skip goes forward, and not past the end of the text; so repeating it comes to rest. The loops stand where
 -- nothing is left to skip, so that from there a step only passes a line, and repeating comes to rest at the same place.
 use mathlib.Core.Path.{◌≡◌, refl, sym, ap, ◌∙◌}
-use mathlib.Core.Bool.{Bool, true, false, cond, not, not-not, false≢true}
+use mathlib.Core.Bool.{Bool, true, false, cond, false≢true}
 use mathlib.Core.List.{List}
 use mathlib.Core.Logic.{⊎_elim}
 use Prim.Native.Nat.{ℕ, ◌+◌, ◌-◌, ◌%◌, ◌≤◌, ◌<◌, max}
@@ -60,18 +60,8 @@ module _ (s : List ℕ) (flags i : ℕ) where
 pub ruleset asking = (rules, comment_on, comment_off)
 
 module _ (s : List ℕ) (i : ℕ) where
-  pub section_ended : i ≡ length s → not (eqb i (length s)) ≡ in_section s i
-  unfolding in_section
-  section_ended e = rw (eq-eqb i (length s) e) refl
-
-  pub section_by : (f : Option ℕ) (r : Bool) → (i ≡ length s → ⊥) → f ≡ lookahead_is s percents i → is_some f ≡ not r → r ≡ in_section s i
-  unfolding in_section
-  section_by f r d e q = sym (not-not r) ∙ ap not (sym q ∙ ap is_some e) ∙ sym (rw (ne_eqb i (length s) d) refl)
-
   pub percents_end : (f : Option ℕ) → f ≡ lookahead_is s percents i → i ≤ length s → (j : ℕ) → f ≡ Some j → j ≤ length s
   percents_end f e l j q = omega (arith, ahead_within s percents i j (sym e ∙ q))
-
-pub ruleset testing = (rules, section_ended, section_by, percents_end)
 
 -- ---- the end of a line that starts with two slashes
 

@@ -1,4 +1,5 @@
 // Lines that are skipped between what is read, and where a section ends (01, Declarations and Rules).
+// A place stands beside the source that it is in, for the definitions speak of places in the whole source.
 #![tactic(auto)]
 
 pub mod reader; // the source and a place in it
@@ -14,23 +15,29 @@ use characters::whitespace::byte_at;
 use text::range::lookahead_is;
 use text::scan::{line_end, parse_nl, parse_ws};
 
-// A lex file that is parsed: its bytes, what the caller chooses, and the engine's verdicts on its rules.
+// A lex file that is parsed: its bytes, what the caller chooses, and the engine's verdicts on its rules. A place in it fits 2 bytes.
 #[derive(Clone, Copy)]
 pub struct LexFile<'a> {
     pub source: &'a [u8],
     pub flags: u64,
     pub verdicts: &'a [u8],
+    ghost short: { length source.now ≤ 65535 },
 }
 
 // Whether a line that flag 1 skips starts at i.
+#[tactic(auto, using(crate::proofs::Lines::asking))]
 fn is_comment(src: &[u8], flags: u64, i: usize) -> bool
     requires { i ≤ length src.now }
     ensures { result ≡ is_comment src.now flags i }
 {
-    flags % 2 == 1 && lookahead_is(src, b"//", i).is_some()
+    if flags % 2 == 1 {
+        return lookahead_is(src, b"//", i).is_some();
+    }
+    false
 }
 
 // Where the line ends that starts with `//` at i. The slashes are no line end, and an empty comment is settled by the byte behind them.
+#[tactic(auto, using(crate::proofs::Lines::ending))]
 fn comment_end(src: &[u8], i: usize) -> usize
     requires { is_some (lookahead_is src.now slashes i) ≡ true }
     ensures { Between (i + 2) (length src.now) (line_end src.now i) result }
@@ -42,7 +49,7 @@ fn comment_end(src: &[u8], i: usize) -> usize
     line_end(src, k)
 }
 
-// Past what `skip` passes and lines that flag 1 skips, one after the other.
+// Past what `skip` passes and lines that flag 1 skips, one after the other, each as far as it goes: no index is counted.
 fn past_comments<F: Fn(usize) -> usize>(src: &[u8], flags: u64, i: usize, skip: F) -> usize
     requires inside { i ≤ length src.now }
     requires callable { (k : ℕ) → k ≤ length src.now → F.pre skip k }
@@ -64,7 +71,7 @@ fn to_declaration(src: &[u8], flags: u64, i: usize) -> usize
     past_comments(src, flags, i, |k| parse_ws(src, k))
 }
 
-// To a rule's line or the section's end.
+// To a rule's line or the section's end. This pair, and those of the reader, differ in the scanner alone, which one function would take from its callers.
 fn to_rule(src: &[u8], flags: u64, i: usize) -> usize
     requires { i ≤ length src.now }
     ensures { Between i (length src.now) (to_rule src.now flags i) result }
@@ -73,6 +80,7 @@ fn to_rule(src: &[u8], flags: u64, i: usize) -> usize
 }
 
 // Whether a section goes on at i.
+#[tactic(auto, unfolding(crate::specs::Section::in_section))]
 pub fn in_section(src: &[u8], i: usize) -> bool
     requires { i ≤ length src.now }
     ensures { result ≡ in_section src.now i }
@@ -81,9 +89,13 @@ pub fn in_section(src: &[u8], i: usize) -> bool
 }
 
 // Whether a `%%` stands at i with more than whitespace behind it.
+#[tactic(auto, unfolding(crate::specs::Section::has_routines, text::specs::Range::lookahead_is))]
 pub fn has_routines(src: &[u8], i: usize) -> bool
     requires { i ≤ length src.now }
     ensures { result ≡ has_routines src.now i }
 {
-    lookahead_is(src, b"%%", i).is_some_and(|j| parse_ws(src, j) != src.len())
+    let Some(j) = lookahead_is(src, b"%%", i) else {
+        return false;
+    };
+    parse_ws(src, j) != src.len()
 }

@@ -15,7 +15,8 @@ use Rattle.area.specs.Records.{most_states, most_rules, state_at, rule_at, entry
 use Rattle.area.specs.Contents.{state_format, rule_format, entry_format, text_format, expected_format}
 use Rattle.area.proofs.Contents.{contents_count}
 use Rattle.sheet_check.specs.declared.Sizes.{Sizes}
-use Rattle.sheet_check.specs.SheetCheck.{SheetBytes, count, decoded, sizes_of, good_sizes, ordered, within, declared, mark, text_bytes, good_state, good_rule, good_expected, good_records, sheet_check}
+use Rattle.sheet_check.specs.SheetCheck.{SheetBytes, count, decoded, sizes_of, good_sizes, ordered, within, declared}
+use Rattle.sheet_check.specs.SheetCheck.{mark, text_bytes, good_state, good_rule, good_expected, good_records, sheet_check}
 use Rattle.area.specs.Lists.{all}
 use Rattle.sheet_check.proofs.Judging.{Long, sizes_long, sizes_counts, record_at}
 
@@ -129,7 +130,8 @@ pub record GoodRecords (z : Sizes) (xs : List State) (rs : List Rule) (ids : Lis
   pub lists : all (declared z.states) ids ≡ true
   pub expected : all (good_expected z) es ≡ true
 
-pub good_records_lem : (z : Sizes) (xs : List State) (rs : List Rule) (ids : List ℕ) (es : List Expected) → good_records z xs rs ids es ≡ true → GoodRecords z xs rs ids es
+pub good_records_lem : (z : Sizes) (xs : List State) (rs : List Rule) (ids : List ℕ) (es : List Expected) → good_records z xs rs ids es ≡ true
+    → GoodRecords z xs rs ids es
 unfolding good_records
 good_records_lem z xs rs ids es e =
     let a1 : Bool = all (good_state z) xs in

@@ -1,15 +1,13 @@
--- What the tests of a sheet come to when they are joined: each record's as its code joins them, and an area's one record at a time.
--- A list that grows at its end passes a test where it passed before and the new element does.
+-- What the tests of a sheet come to when they are joined: those of an area one record at a time, those of the sizes as their code joins them.
 use mathlib.Core.Path.{◌≡◌, sym, ap, subst⁻¹, ◌∙◌}
-use mathlib.Core.Bool.{Bool, true, false, ◌&&◌, not}
+use mathlib.Core.Bool.{Bool, true, false, ◌&&◌}
 use mathlib.Core.List.{List}
 use Prim.Native.Nat.{ℕ, ◌*◌, ◌≤◌, ◌<◌}
 use native.Mathlib.Nat.{mul-one}
 use native.Mathlib.Omega.{arith}
-use lib.Dec.{leb, ltb}
+use lib.Dec.{leb}
 use lib.ListN.{get_or}
-use borrow.Author.Rules.{rules}
-use borrow.Author.Tests.{eq-eqb, ne_eqb, leb-true, not-true, not-false}
+use borrow.Author.Tests.{leb-true}
 use Rattle.area.specs.declared.State.{State}
 use Rattle.area.specs.declared.Rule.{Rule}
 use Rattle.area.specs.declared.Expected.{Expected}
@@ -17,39 +15,12 @@ use Rattle.area.specs.Records.{state_width, rule_width, entry_width, expected_wi
 use Rattle.area.specs.Contents.{Format, contents, state_format, rule_format, entry_format, expected_format}
 use Rattle.characters.proofs.Tests.{and_left, and_right}
 use Rattle.sheet_check.specs.declared.Sizes.{Sizes}
-use Rattle.sheet_check.specs.SheetCheck.{SheetBytes, sizes_of, long_enough, good_counts, good_sizes, ordered, within, declared, text_bytes}
+use Rattle.sheet_check.specs.SheetCheck.{SheetBytes, sizes_of, long_enough, good_counts, good_sizes, declared}
 use Rattle.sheet_check.specs.SheetCheck.{good_state, good_rule, good_expected, good_records, decoded, sheet_check}
 use Rattle.sheet_check.specs.Phrases.{AreasLong}
 use Rattle.area.specs.Lists.{all}
 use Rattle.area.proofs.All.{all-at, all_from}
 use Rattle.area.proofs.Contents.{contents_count, contents_read}
-
--- ---- a record
-
-module _ (z : Sizes) where
-  module _ (place : ℕ) where
-    pub rewritten_bytes : place ≡ 1 → z.text ≡ text_bytes z place
-    rewritten_bytes e = rw (eq-eqb place 1 e)
-
-    pub source_bytes : (place ≡ 1 → ⊥) → z.source ≡ text_bytes z place
-    source_bytes h = rw (ne_eqb place 1 h)
-
-  pub state_judged : (x : State) (r : Bool) → r ≡ ordered x.start x.end z.source → r && leb x.exclusive 1 ≡ good_state z x
-  unfolding good_state
-  state_judged x r e = rw e
-
-  pub rule_judged : (x : Rule) (span name pattern list : Bool) (bytes : ℕ)
-      → span ≡ ordered x.span_start x.span_end z.source
-      → name ≡ within x.name_from x.name_length z.source
-      → bytes ≡ text_bytes z x.place
-      → pattern ≡ within x.text_from x.text_length bytes
-      → list ≡ within x.list_from x.list_count z.entries
-      → leb x.has_id 1 && leb x.named 1 && leb x.place 1 && span && name && pattern && list && leb x.operation 3 && ltb x.target z.states
-      ≡ good_rule z x
-  unfolding good_rule
-  rule_judged x span name pattern list bytes e1 e2 e3 e4 e5 = simp (e1, e2, e4, e3, e5)
-
-pub ruleset places = (rules, rewritten_bytes, source_bytes)
 
 -- ---- the records of an area
 
@@ -128,27 +99,6 @@ module _ (z : Sizes) (states : List State) (rules : List Rule) (lists : List ℕ
       → all (good_expected z) expected ≡ true → good ≡ true
   unfolding good_records
   records_good e1 e2 e3 e5 = rw (e1, e2, e3, e5)
-
-  -- the areas in turn: the first that does not pass decides, and the last one where the others pass
-  module _ (g1 : Bool) (is1 : g1 ≡ all (good_state z) states) where
-    pub states_bad : not g1 ≡ true → false ≡ good
-    unfolding good_records
-    states_bad bad = rw (sym is1 ∙ not-true g1 bad)
-
-    module _ (good1 : not g1 ≡ false) (g2 : Bool) (is2 : g2 ≡ all (good_rule z) rules) where
-      pub rules_bad : not g2 ≡ true → false ≡ good
-      unfolding good_records
-      rules_bad bad = rw (sym is1 ∙ not-false g1 good1, sym is2 ∙ not-true g2 bad)
-
-      module _ (good2 : not g2 ≡ false) (g3 : Bool) (is3 : g3 ≡ all (declared z.states) lists) where
-        pub entries_bad : not g3 ≡ true → false ≡ good
-        unfolding good_records
-        entries_bad bad = rw (sym is1 ∙ not-false g1 good1, sym is2 ∙ not-false g2 good2, sym is3 ∙ not-true g3 bad)
-
-        pub names_decide : not g3 ≡ false → (g5 : Bool) → g5 ≡ all (good_expected z) expected → g5 ≡ good
-        unfolding good_records
-        names_decide good3 g5 is5 =
-            rw (sym is1 ∙ not-false g1 good1, sym is2 ∙ not-false g2 good2, sym is3 ∙ not-false g3 good3) is5
 
 -- sizes that were taken of a sheet, and passed
 module _ (b : SheetBytes) (z : Sizes) (of : z ≡ sizes_of b) (t : Bool) (is : t ≡ good_sizes z) where

@@ -18,7 +18,7 @@ use Rattle.area.specs.Contents.{contents, rule_format}
 use Rattle.area.proofs.Contents.{list_of_is, contents_read}
 use Rattle.sheet_check.specs.declared.Part.{Part}
 use Rattle.sheet_check.specs.SheetCheck.{SheetBytes, count, decoded, sizes_of, sheet_check}
-use Rattle.sheet_check.specs.Pattern.{has_rule, part_of, pattern_part, text_of, start_of, handed, pattern_call, number_of}
+use Rattle.sheet_check.specs.Pattern.{has_rule, part_of, pattern_part, text_of, start_of, handed, pattern_call}
 use Rattle.sheet_check.proofs.Checked.{GoodRule, text_rewritten, text_source, checked_long, checked_rule, rules_count}
 
 -- ---- the ways to a part
@@ -115,14 +115,3 @@ module _ (b : SheetBytes) where
     pub in_neither : q ≡ None → handed (s.0, 0 + s.1) (take 0 (drop 0 b.source)) ≡ pattern_call s t b k
     unfolding text_of start_of
     in_neither v = rw (sym e ∙ v, zero-add s.1)
-
--- ---- the number of an answer
-
-module _ (a q : Option Part) (e : q ≡ a) where
-  pub number_part : (p : Part) → q ≡ Some p → 0 ≡ number_of a
-  unfolding number_of
-  number_part p v = ap number_of (sym v ∙ e)
-
-  pub number_broken : q ≡ None → 6 ≡ number_of a
-  unfolding number_of
-  number_broken v = ap number_of (sym v ∙ e)

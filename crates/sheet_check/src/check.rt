@@ -4,7 +4,8 @@ ghost use Rattle.std.specs.Prelude.{◌≡◌, true, ◌*◌, ◌≤◌, min, le
 ghost use Rattle.area.specs.Records.{state_width, rule_width, entry_width, expected_width};
 ghost use Rattle.area.specs.Contents.{contents, state_format, rule_format, entry_format, expected_format};
 ghost use Rattle.area.specs.Lists.{all};
-ghost use Rattle.sheet_check.specs.SheetCheck.{sizes_of, good_counts, good_sizes, ordered, within, declared, text_bytes, good_state, good_rule, good_expected, good_records, sheet_check};
+ghost use Rattle.sheet_check.specs.SheetCheck.{sizes_of, good_counts, good_sizes, ordered, within, declared, text_bytes};
+ghost use Rattle.sheet_check.specs.SheetCheck.{good_state, good_rule, good_expected, good_records, sheet_check};
 ghost use Rattle.sheet_check.specs.Phrases.{lent_sheet, AreasLong};
 
 use crate::{Sheet, Sizes};
@@ -31,6 +32,7 @@ fn is_within(from: u16, count: u16, n: usize) -> bool
     from as usize + count as usize <= n
 }
 
+#[tactic(auto, unfolding(crate::specs::SheetCheck::good_state))]
 fn good_state(sizes: Sizes, x: State) -> bool
     ensures { result ≡ good_state sizes x }
 {
@@ -38,6 +40,7 @@ fn good_state(sizes: Sizes, x: State) -> bool
 }
 
 // How many bytes there are at a rule's place.
+#[tactic(auto, unfolding(crate::specs::SheetCheck::text_bytes))]
 fn bytes_at(sizes: Sizes, place: u16) -> usize
     ensures { result ≡ text_bytes sizes place }
 {
@@ -47,6 +50,7 @@ fn bytes_at(sizes: Sizes, place: u16) -> usize
     sizes.source
 }
 
+#[tactic(auto, unfolding(crate::specs::SheetCheck::good_rule))]
 fn good_rule(sizes: Sizes, x: Rule) -> bool
     ensures { result ≡ good_rule sizes x }
 {
@@ -66,6 +70,7 @@ fn good_rule(sizes: Sizes, x: Rule) -> bool
         & (x.target < sizes.states)
 }
 
+#[tactic(auto, unfolding(crate::specs::SheetCheck::good_expected))]
 fn good_expected(sizes: Sizes, x: Expected) -> bool
     ensures { result ≡ good_expected sizes x }
 {
@@ -73,6 +78,9 @@ fn good_expected(sizes: Sizes, x: Expected) -> bool
 }
 
 // ---- the records of an area
+//
+// That an area is long enough, and that there is a state, each contract asks for itself: `Sizes` is what the definitions have of a broken sheet
+// too, so no field of it can promise that. An area stands beside its count as the host lends it.
 
 fn good_states(sizes: Sizes, area: &[u8]) -> bool
     requires { sizes.states * state_width ≤ length area.now }
@@ -148,12 +156,14 @@ fn is_long(bytes: usize, count: u16, width: usize) -> bool
     count as usize * width <= bytes
 }
 
+#[tactic(auto, unfolding(crate::specs::SheetCheck::good_counts))]
 fn good_counts(states: u16, rules: u16) -> bool
     ensures { result ≡ good_counts states rules }
 {
     (1 <= states) & (states as usize <= MOST_STATES) & (rules as usize <= MOST_RULES)
 }
 
+#[tactic(auto, using(crate::proofs::Judging::sizes_judged))]
 fn good_sizes(sizes: Sizes) -> bool
     ensures { result ≡ good_sizes sizes }
 {
@@ -168,6 +178,7 @@ fn good_sizes(sizes: Sizes) -> bool
 
 // Area 4 and the source are asked for their lengths alone. The tests are not joined by &&, since what the first of them say is lost to the
 // proof at each join.
+#[tactic(auto, unfolding(crate::specs::SheetCheck::good_records))]
 fn good_records(sizes: Sizes, sheet: Sheet) -> bool
     requires areas_long { AreasLong sizes sheet.states.now sheet.rules.now sheet.entries.now sheet.expected.now }
     requires le_states { 1 ≤ sizes.states }

@@ -13,7 +13,7 @@ pub fn locate(sheet: Sheet, rule: u64) -> Option<Part>
     ensures { result ≡ pattern_part (lent_sheet sheet.entry) rule }
 {
     if check(sheet) {
-        if rule < wide(sheet.counts[1]) {
+        if rule < u64::from(sheet.counts[1]) {
             let x: Rule = read(sheet.rules, rule as usize);
             return Some(Part {
                 place: x.place,
@@ -23,12 +23,6 @@ pub fn locate(sheet: Sheet, rule: u64) -> Option<Part>
         }
     }
     None
-}
-
-fn wide(x: u16) -> u64
-    ensures { result ≡ x }
-{
-    x as u64
 }
 
 // The text of a rule; an empty part of the source where number 6 holds.
@@ -50,6 +44,7 @@ pub fn pattern<'a>(sheet: Sheet<'a>, rule: u64) -> &'a [u8]
 }
 
 // 0 where the pattern call hands back a rule's text, and 6 where it does not.
+#[tactic(auto, unfolding(crate::specs::Pattern::number_of))]
 pub fn pattern_test(sheet: Sheet, rule: u64) -> u64
     ensures { result ≡ number_of (pattern_part (lent_sheet sheet.entry) rule) }
 {

@@ -1,4 +1,6 @@
 // Lines of text: a word, then numbers, with a blank before each. The records of a sheet's areas, and refusals.
+// A contract names each byte of a line, and `write!` promises nothing of what it wrote before an error: so the lines are put by methods of `Text`.
+// An area stands beside its count as the parse call leaves it, and a state's name in the source beside the text that it is put into.
 #![tactic(auto)]
 
 ghost use Rattle.std.specs.Prelude.{◌≡◌, ℕ, List};
@@ -13,17 +15,19 @@ use output::Text;
 use output::fields::field_at;
 
 // INITIAL is not in the source.
-fn put_name<const N: usize>(out: &mut Text<N>, src: &[u8], k: u16, start: u16, end: u16)
-    ensures { out.new ≡ appended N out.old (state_name src.now k start end) }
+#[tactic(auto, using(crate::proofs::Printing::name_printing))]
+fn put_name<const N: usize>(out: &mut Text<N>, src: &[u8], k: u16, x: State)
+    ensures { out.new ≡ appended N out.old (state_name src.now k x.start x.end) }
 {
     if k == 0 {
         out.push_text(b"INITIAL");
     } else {
-        out.push_part(src, start as usize, end as usize);
+        out.push_part(src, x.start as usize, x.end as usize);
     }
 }
 
 // `read_state` of area asks for room for the record; here a state that stands past the end of the area has fields of 0.
+#[tactic(auto, using(crate::proofs::Printing::state_printing))]
 fn state_at(area: &[u8], k: u16) -> State
     ensures { result ≡ state_at area.now k }
 {
@@ -36,19 +40,21 @@ fn state_at(area: &[u8], k: u16) -> State
 }
 
 // A state's line up to its name.
-fn put_state_head<const N: usize>(out: &mut Text<N>, src: &[u8], k: u16, start: u16, end: u16)
-    ensures { out.new ≡ appended N out.old (state_head src.now k start end) }
+#[tactic(auto, using(crate::proofs::Printing::state_printing))]
+fn put_state_head<const N: usize>(out: &mut Text<N>, src: &[u8], k: u16, x: State)
+    ensures { out.new ≡ appended N out.old (state_head src.now k x.start x.end) }
 {
     out.push_text(b"state");
     out.push_field(k);
     out.push_blank();
-    put_name(out, src, k, start, end);
+    put_name(out, src, k, x);
 }
 
+#[tactic(auto, using(crate::proofs::Printing::state_printing))]
 fn put_state<const N: usize>(out: &mut Text<N>, src: &[u8], k: u16, x: State)
     ensures { out.new ≡ appended N out.old (state_line src.now k x) }
 {
-    put_state_head(out, src, k, x.start, x.end);
+    put_state_head(out, src, k, x);
     out.push_field(x.exclusive);
     out.push_field(x.start);
     out.push_field(x.end);
@@ -91,6 +97,7 @@ impl<'a, const N: usize> Records<N> for States<'a> {
 impl<'a, const N: usize> Records<N> for Rules<'a> {
     ghost line = { λ x k. rule_line k (rule_at x.area.now k) };
 
+    #[tactic(auto, using(crate::proofs::Printing::line_printing))]
     fn put_line(&self, out: &mut Text<N>, k: u16) {
         out.push_text(b"rule");
         out.push_field(k);
@@ -102,6 +109,7 @@ impl<'a, const N: usize> Records<N> for Rules<'a> {
 impl<'a, const N: usize> Records<N> for Faults<'a> {
     ghost line = { λ x k. fault_line (fault_at x.area.now k) };
 
+    #[tactic(auto, using(crate::proofs::Printing::line_printing))]
     fn put_line(&self, out: &mut Text<N>, k: u16) {
         out.push_text(b"fault");
         out.push_fields(self.area, k as usize * FAULT_WIDTH, 4);
@@ -117,24 +125,28 @@ fn put_lines<const N: usize, R: Records<N>>(out: &mut Text<N>, records: &R, coun
     }
 }
 
+#[tactic(auto, unfolding(crate::specs::Lines::state_lines))]
 pub fn put_states<const N: usize>(out: &mut Text<N>, src: &[u8], area: &[u8], count: u16)
     ensures { out.new ≡ appended N out.old (state_lines src.now area.now count) }
 {
     put_lines(out, &States { src, area }, count);
 }
 
+#[tactic(auto, unfolding(crate::specs::Lines::rule_lines))]
 pub fn put_rules<const N: usize>(out: &mut Text<N>, area: &[u8], count: u16)
     ensures { out.new ≡ appended N out.old (rule_lines area.now count) }
 {
     put_lines(out, &Rules { area }, count);
 }
 
+#[tactic(auto, unfolding(crate::specs::Lines::fault_lines))]
 pub fn put_faults<const N: usize>(out: &mut Text<N>, area: &[u8], count: u16)
     ensures { out.new ≡ appended N out.old (fault_lines area.now count) }
 {
     put_lines(out, &Faults { area }, count);
 }
 
+#[tactic(auto, using(crate::proofs::Printing::line_printing))]
 pub fn put_refused<const N: usize>(out: &mut Text<N>, number: u16)
     ensures { out.new ≡ appended N out.old (refused_line number) }
 {
@@ -143,6 +155,7 @@ pub fn put_refused<const N: usize>(out: &mut Text<N>, number: u16)
     out.push_line_end();
 }
 
+#[tactic(auto, using(crate::proofs::Printing::line_printing))]
 pub fn put_full<const N: usize>(out: &mut Text<N>, area: u16)
     ensures { out.new ≡ appended N out.old (full_line area) }
 {
@@ -152,6 +165,7 @@ pub fn put_full<const N: usize>(out: &mut Text<N>, area: u16)
     out.push_line_end();
 }
 
+#[tactic(auto, using(crate::proofs::Printing::sheet_printing))]
 pub fn put_sheet<const N: usize>(
     out: &mut Text<N>,
     src: &[u8],

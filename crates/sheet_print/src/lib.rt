@@ -1,4 +1,4 @@
-// What the parse call makes of a file, as lines of text (01, Files to try, the end).
+// What the parse call makes of a file, as lines of text (01, Files to try, the end). The areas are parameters, as the call fills them.
 #![tactic(auto)]
 
 ghost use Rattle.std.specs.Prelude.{◌≡◌, ◌≤◌, get_or};
@@ -9,7 +9,6 @@ use answers::Number;
 use output::Text;
 use parse::ParseError;
 use parse::call::parse;
-use section::LexFile;
 use sheet_lines::{put_faults, put_full, put_refused, put_sheet};
 
 // The room that `sheet` asks for.
@@ -51,13 +50,10 @@ pub fn sheet<const N: usize>(src: &[u8], out: &mut Text<N>)
     let mut area4 = [0u8; 32768];
     let mut area5 = [0u8; 32768];
     let mut area6 = [0u8; 32768];
-    let lex_file = LexFile {
-        source: src,
-        flags: 0,
-        verdicts: b"",
-    };
     let answer = parse(
-        lex_file,
+        src,
+        0,
+        b"",
         &mut counts,
         &mut area1,
         &mut area2,

@@ -44,23 +44,23 @@ may_end s k r f e = sym ((end_may_start s k r f).none e)
 
 -- the loop began at i and stands at k
 module _ (s : List ℕ) (i k : ℕ) (before : line_end s i ≡ line_end s k) where
-  module _ (next : ℕ) (is : next ≡ k + 16) (l : k + 16 ≤ length s) where
-    pub block_without : (r : Bool) → RulesOut (any (λ j. at_line_end s (k + j)) 16) r → r ≡ false → line_end s i ≡ line_end s next
+  module _ (l : k + 16 ≤ length s) where
+    pub block_without : (r : Bool) → RulesOut (any (λ j. at_line_end s (k + j)) 16) r → r ≡ false → line_end s i ≡ line_end s (k + 16)
     block_without r e f =
         before
-        ∙ first_over (at_line_end s) k next (length s) (omega arith) (omega arith) (λ m a b. block_fails (at_line_end s) k 16 m (e.none f) a (omega arith))
+        ∙ first_over (at_line_end s) k (k + 16) (length s) (omega arith) l (λ m a b. block_fails (at_line_end s) k 16 m (e.none f) a (omega arith))
 
-    module _ (end : ℕ) (f : Between k next (find_line_end s k next) end) where
-      pub block_ends : end < next → i ≤ k → Between i (length s) (line_end s i) end
+    module _ (end : ℕ) (f : Between k (k + 16) (find_line_end s k (k + 16)) end) where
+      pub block_ends : end < k + 16 → i ≤ k → Between i (length s) (line_end s i) end
       block_ends h a =
           record {
-            is = f.is ∙ first_cut (at_line_end s) k next (length s) (omega arith) (omega arith) (rw (← f.is) h) ∙ sym before;
+            is = f.is ∙ first_cut (at_line_end s) k (k + 16) (length s) (omega arith) l (rw (← f.is) h) ∙ sym before;
             from = omega (arith, f.from);
             to = omega arith;
           }
 
-      pub block_passed : next ≤ end → line_end s i ≡ line_end s next
-      block_passed h = before ∙ first_behind (at_line_end s) k next (length s) (omega arith) (omega arith) (rw (← f.is) h)
+      pub block_passed : k + 16 ≤ end → line_end s i ≡ line_end s (k + 16)
+      block_passed h = before ∙ first_behind (at_line_end s) k (k + 16) (length s) (omega arith) l (rw (← f.is) h)
 
   pub rest_ends : (end : ℕ) → Between k (length s) (line_end s k) end → i ≤ k → Between i (length s) (line_end s i) end
   rest_ends end f a = record { is = f.is ∙ sym before; from = omega (arith, f.from); to = f.to }

@@ -106,14 +106,15 @@ module _ (s : List ℕ) where
       first_over _ k (skip_whitespace s k + 1) e (omega arith) (omega arith)
       (λ m a b. lt-leb e (skip_whitespace s m) (lt_of_le_of_lt (within_run (length s - k) k m (le_refl _) a (omega arith)) h))
 
-  -- the loop began at i and stands at k, where whitespace goes to w
-  module _ (i k e w : ℕ) (before : trim_end s i e ≡ trim_end s k e) (is : w ≡ skip_whitespace s k) where
-    pub trim_found : k < e → e ≤ w → k ≡ trim_end s i e
+  -- the loop began at i and stands at k, where whitespace goes on to e or ends before
+  module _ (i k e : ℕ) (before : trim_end s i e ≡ trim_end s k e) where
+    pub trim_found : k < e → e ≤ skip_whitespace s k → i ≤ k → Between i e (trim_end s i e) k
     unfolding trim_end
-    trim_found l h = first_here _ _ _ l (le-leb e (skip_whitespace s k) (omega arith)) ∙ sym before
+    trim_found l h a =
+        record { is = first_here _ _ _ l (le-leb e (skip_whitespace s k) h) ∙ sym before; from = a; to = omega (arith, l) }
 
-    pub trim_again : k ≤ w → w < e → trim_end s i e ≡ trim_end s (w + 1) e
-    trim_again l h = rw is (before ∙ trim_past k e (omega arith) (omega arith))
+    pub trim_again : (w : ℕ) → w ≡ skip_whitespace s k → k ≤ w → w < e → trim_end s i e ≡ trim_end s (w + 1) e
+    trim_again w is l h = rw is (before ∙ trim_past k e (omega arith) (omega arith))
 
   pub trim_ended : (i k e : ℕ) → trim_end s i e ≡ trim_end s k e → e ≤ k → k ≡ trim_end s i e
   unfolding trim_end

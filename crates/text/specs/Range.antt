@@ -1,5 +1,5 @@
 -- Ranges of a text, and whether two are the same bytes.
-use Rattle.std.specs.Prelude.{◌≡◌, Bool, true, false, ◌&&◌, cond, List, [], ◌∷◌, ℕ, ◌+◌, ◌-◌, eqb, length, take, drop, Option, Some, None}
+use Rattle.std.specs.Prelude.{Bool, true, false, ◌&&◌, cond, List, [], ◌∷◌, ℕ, ◌+◌, ◌-◌, eqb, length, take, drop, Option, Some, None}
 
 -- the bytes from a to before e
 unfoldable pub part : List ℕ → ℕ → ℕ → List ℕ
@@ -15,10 +15,6 @@ same_bytes (x ∷ xs) (y ∷ ys) = eqb x y && same_bytes xs ys
 -- the bytes of s from a to before e are those of t from c to before d
 unfoldable pub same_range : List ℕ → ℕ → ℕ → List ℕ → ℕ → ℕ → Bool
 same_range s a e t c d = same_bytes (part s a e) (part t c d)
-
--- of n bytes, those behind the first i are the same just where those behind the first k are
-abbrev pub SameRests : List ℕ → ℕ → List ℕ → ℕ → ℕ → ℕ → ℕ → Type 0
-SameRests s a t c n i k = same_range s (a + i) (a + n) t (c + i) (c + n) ≡ same_range s (a + k) (a + n) t (c + k) (c + n)
 
 -- behind the bytes w, if they stand at i
 unfoldable pub lookahead_is : List ℕ → List ℕ → ℕ → Option ℕ

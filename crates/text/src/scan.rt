@@ -1,4 +1,8 @@
-// Scanners: each walks once, forward or backward, and answers where it stops.
+// Scanners: each walks once, forward or backward, and answers where it stops. Where it finds nothing that is the end, as in the definitions, and its
+// callers go on from there.
+// It takes a text and places in it: a part of the text would move each place that the definitions speak of. The places differ from call to call, so
+// what is asked of them stands at each and in no struct.
+// A `while` goes by blocks, or by steps that the text gives: a `for` would count them and make each place of a number.
 ghost use Rattle.std.specs.Prelude.{◌≡◌, cond, ◌+◌, ◌-◌, ◌≤◌, ◌<◌, eqb, length};
 ghost use Rattle.characters.specs.Class.{is_blank};
 ghost use Rattle.characters.specs.Shortcuts.{RulesOut, Tells};
@@ -59,21 +63,37 @@ fn block_may_end_line(s: &[u8], i: usize) -> bool
     any_of(BLOCK, |j| may_end_line(s[i + j]))
 }
 
+// Past the blocks from i on in which no byte may start a line end. It is a loop of its own: within that of `line_end` a block took 13 instructions,
+// here 9.
+#[tactic(auto, using(crate::proofs::Blocks::passing_blocks))]
+fn past_endless(s: &[u8], i: usize) -> usize
+    requires { i ≤ length s.now }
+    ensures { (i ≤ result) × (result ≤ length s.now) × (line_end s.now i ≡ line_end s.now result) }
+{
+    let mut k = i;
+    while k + BLOCK <= s.len() {
+        if block_may_end_line(s, k) {
+            return k;
+        }
+        k += BLOCK;
+    }
+    k
+}
+
 // Where the line ends that i stands in. Blocks without a candidate are passed at once.
+#[tactic(auto, using(crate::proofs::Blocks::passing_blocks))]
 pub fn line_end(s: &[u8], i: usize) -> usize
     requires { i ≤ length s.now }
     ensures { Between i (length s.now) (line_end s.now i) result }
 {
-    let mut k = i;
+    let mut k = past_endless(s, i);
     while k + BLOCK <= s.len() {
         let next = k + BLOCK;
-        if block_may_end_line(s, k) {
-            let end = find_line_end(s, k, next);
-            if end < next {
-                return end;
-            }
+        let end = find_line_end(s, k, next);
+        if end < next {
+            return end;
         }
-        k = next;
+        k = past_endless(s, next);
     }
     find_line_end(s, k, s.len())
 }
@@ -116,6 +136,7 @@ fn may_have_blank(s: &[u8], i: usize, n: usize) -> bool
 }
 
 // Down from e past the blocks of that width in which no blank stands. That i is within the text, and a block short, keeps i + block in range.
+#[tactic(auto, using(crate::proofs::Blocks::passing_blankless))]
 fn past_blankless(s: &[u8], i: usize, e: usize, block: usize) -> usize
     requires { ((0 < block) × (block ≤ 64)) × ((i ≤ e) × (e ≤ length s.now)) }
     ensures { (i ≤ result) × (result ≤ e) × (last_blank s.now i e ≡ last_blank s.now i result) }
@@ -151,6 +172,7 @@ pub fn trim_start(s: &[u8], i: usize, e: usize) -> usize
 }
 
 // Whether the text from i to e ends with a byte that no whitespace character has, as most do: then nothing is trimmed.
+#[tactic(auto, using(crate::proofs::Trims::ending_plainly))]
 fn ends_plainly(s: &[u8], i: usize, e: usize) -> bool
     requires { e ≤ length s.now }
     ensures { Tells (eqb (trim_end s.now i e) e) result }
@@ -162,6 +184,7 @@ fn ends_plainly(s: &[u8], i: usize, e: usize) -> bool
 }
 
 // Each byte is passed once: whitespace goes from k to w, and what stands at w is none, so the end is past w.
+#[tactic(auto, using(crate::proofs::Trims::trimming))]
 fn trim_end_by_characters(s: &[u8], i: usize, e: usize) -> usize
     requires { (i ≤ e) × (e ≤ length s.now) }
     ensures { Between i e (trim_end s.now i e) result }
@@ -200,6 +223,7 @@ fn backslashes_before(s: &[u8], i: usize, u: usize) -> usize
 }
 
 // Where a pattern from i to e ends without its trailing whitespace, of which an escaped character stays.
+#[tactic(auto, using(crate::proofs::Trims::trimming_escaped))]
 pub fn trim_end_unescaped(s: &[u8], i: usize, e: usize) -> usize
     requires { (i ≤ e) × (e ≤ length s.now) }
     ensures { Between i (length s.now) (trim_end_unescaped s.now i e) result }

@@ -1,5 +1,5 @@
 // The calls of the host (01, Numbers given at the counter), which crate troymantle_c hands on to C. An answer is one word of four two-byte fields:
-// its number, then its values.
+// its number, then its values. Areas and counts are parameters, as C has them; inside they are one `Sheet`.
 #![tactic(auto)]
 
 ghost use Rattle.std.specs.Prelude.{◌≡◌};
@@ -10,7 +10,6 @@ ghost use Rattle.troymantle.specs.Words.{in_words};
 ghost use Rattle.troymantle.specs.Phrases.{words_left_in};
 
 use parse::call::parse;
-use section::LexFile;
 use words::Word;
 
 pub mod linking;
@@ -35,10 +34,8 @@ pub fn troymantle_parse(
     ensures { words_left_in result counts area1 area2 area3 area4 area5 area6
         ≡ in_words (parse_call (asked src.now flags verdicts.now) (room_in area1 area2 area3 area4 area5 area6)) }
 {
-    let lex_file = LexFile {
-        source: src,
-        flags,
-        verdicts,
-    };
-    Word::from(parse(lex_file, counts, area1, area2, area3, area4, area5, area6)).0
+    Word::from(parse(
+        src, flags, verdicts, counts, area1, area2, area3, area4, area5, area6,
+    ))
+    .0
 }

@@ -51,7 +51,8 @@ pub fn troymantle_step(
     row: &[u8],
 ) -> u64
     ensures { run_left result
-        run.new stack.new ≡ step_in_words (step_call (sheet_in src.now area1.now area2.now area3.now area4.now area5.now counts.now) (running run.old stack.old) (input row.now)) }
+        run.new stack.new ≡ step_in_words (step_call (sheet_in src.now area1.now area2.now area3.now area4.now area5.now counts.now)
+        (running run.old stack.old) (input row.now)) }
 {
     let sheet = Sheet {
         source: src,

@@ -1,5 +1,5 @@
 // The C functions that a host calls: each is the call of its name in crate troymantle, with the same clauses. A crate is a library or a static
-// library and not both, so they stand here; C sees a slice as a pointer and a length.
+// library and not both, so they stand here; C sees a slice as a pointer and a length, and each area as a parameter of its own.
 #![tactic(auto)]
 
 ghost use Rattle.std.specs.Prelude.{◌≡◌};

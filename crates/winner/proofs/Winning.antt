@@ -8,7 +8,7 @@ use Prim.Native.Nat.{ℕ, zero, suc, ◌+◌, ◌*◌, ◌≤◌, ◌<◌, max}
 use native.Mathlib.Numerals.{add-one}
 use native.Mathlib.Omega.{arith}
 use borrow.Author.Rules.{rules}
-use borrow.Author.Tests.{lt-ltb, le-ltb, ltb-true, ltb-false, eq-eqb, ne_eqb, eqb-true, eqb-false}
+use borrow.Author.Tests.{le-ltb, ltb-true, ltb-false, eq-eqb, ne_eqb, eqb-true, eqb-false}
 use lib.Dec.{eqb, ltb}
 use lib.ListN.{length, get_or}
 use Rattle.std.specs.Prelude.{Option, is_some}
@@ -24,7 +24,7 @@ use Rattle.area.specs.Contents.{contents, rule_format, entry_format}
 use Rattle.area.proofs.Contents.{contents_count, contents_read}
 use Rattle.winner.specs.declared.Best.{Best}
 use Rattle.winner.specs.declared.Row.{Row}
-use Rattle.winner.specs.Winner.{Lexer, find_in_list, list_end, in_list, live, length_in, weight, greatest, earliest, best, better}
+use Rattle.winner.specs.Winner.{Lexer, find_in_list, list_end, in_list, live, length_in, weight, greatest, earliest, best, better, first_with}
 use Rattle.winner.specs.Phrases.{Readable, ListsInside}
 use Rattle.characters.proofs.Firsts.{first_passes, first_before, first_low, first_only}
 
@@ -64,31 +64,6 @@ module _ {states : List State} {rules : List Rule} {lists : List ℕ} {lexer : L
       let is : is_some i ≡ ltb (find_in_list lists x.list_from (list_end x) state) (list_end x) =
       below_some (list_end x) _ i (found.is (λ j. eqb (nth_entry lists j) state) (λ j b _ _ p. answers j (get_or lists j 0) b p)) in
       rule_live (is_some i) (is ∙ live_listed states lists state x z (find_in_list lists x.list_from (list_end x) state) refl)
-
--- ---- the better of two
-
-module _ (b : Best) (k bytes : ℕ) (t : Bool) where
-  pub better_live : (r : Bool) → b.length < bytes → r ≡ t → r ≡ true → record { length = bytes; rule = k } ≡ better b k (cond t bytes 0)
-  unfolding better
-  better_live r h e q = rw (← e, q, lt-ltb b.length bytes h)
-
-  pub better_dead : (r : Bool) → r ≡ t → r ≡ false → b ≡ better b k (cond t bytes 0)
-  unfolding better
-  better_dead r e q =
-      let z : ltb b.length 0 ≡ false = le-ltb b.length 0 (omega arith) in
-      rw (← e, q, z)
-
-  pub better_low : bytes ≤ b.length → b ≡ better b k (cond t bytes 0)
-  unfolding better
-  better_low h =
-      let z : ltb b.length (cond t bytes 0) ≡ false = le-ltb b.length (cond t bytes 0) (low t) in
-      rw z
-    where
-      low : (u : Bool) → cond u bytes 0 ≤ b.length
-      low true = h
-      low false = omega arith
-
-pub ruleset bettering = (rules, better_live, better_dead, better_low)
 
 -- ---- the greatest of some numbers
 
@@ -253,6 +228,25 @@ module _ (x : Lexer) (state : ℕ) (row : List ℕ) where
   unfolding weight
   scan_next k b e bytes q eb ee =
       ee ∙ ap₂ (λ (y : Best) (n : ℕ). better y k (cond (live x.states x.lists state (nth_rule x.rules k)) n 0)) q eb ∙ best_next (weight x state row) k
+
+  -- a rule that has the length of no live rule wins nothing
+  pub scan_past : (k : ℕ) (b : Best) (bytes top n : ℕ) → b ≡ best (weight x state row) k → bytes ≡ length_in row k
+      → n ≡ first_with (weight x state row) top 0 n → k < n → bytes ≡ top → b ≡ best (weight x state row) (k + 1)
+  unfolding weight better
+  scan_past k b bytes top n q eb none h is =
+      sym (same (live x.states x.lists state (nth_rule x.rules k)) other) ∙ ap (λ (y : Best). better y k (weight x state row k)) q
+      ∙ best_next (weight x state row) k
+    where
+      other : weight x state row k ≡ top → ⊥
+      other =
+          eqb-false (weight x state row k) top
+          (first_before (λ j. eqb (weight x state row j) top) 0 n (omega arith) k (omega arith) (omega (arith, none, h)))
+
+      same : (t : Bool) → (cond t (length_in row k) 0 ≡ top → ⊥) → better b k (cond t (length_in row k) 0) ≡ b
+      same true differs = absurd (differs (sym eb ∙ is))
+      same false differs =
+          let z : ltb b.length 0 ≡ false = le-ltb b.length 0 (omega arith) in
+          rw z refl
 
 -- ---- a lexer that is lent
 

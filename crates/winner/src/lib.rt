@@ -20,6 +20,8 @@ pub struct Best {
 }
 
 // ---- the row
+//
+// The host lends a row as bytes, with a length for each rule of the sheet beside it (C interface).
 
 // The lengths of a row, one for each of so many rules, and the greatest of them.
 #[derive(Clone, Copy)]
@@ -84,7 +86,10 @@ impl<'a> Model for LentLexer<'a> {
     ghost invariant = { λ s. ListsInside s.rules s.entries };
 }
 
+// That a state or a rule is one of the lexer's, and that a row has a length for each rule, are facts of two values, which no field of one has:
+// so each contract asks for them.
 impl<'a> LentLexer<'a> {
+    // The areas and counts of a sheet, as the C interface has them.
     pub fn new(
         area1: &'a [u8],
         area2: &'a [u8],
@@ -126,7 +131,9 @@ impl<'a> LentLexer<'a> {
             .is_some()
     }
 
-    // The better of the best rule so far and rule k, whose list is read only where its length would win.
+    // The better of the best rule so far and rule k, whose list is read only where its length would win. Beside the lexer and the state it has
+    // the arguments of the definition `better`.
+    #[tactic(auto, unfolding(crate::specs::Winner::better))]
     fn better_of(&self, state: u16, b: Best, k: usize, bytes: u16) -> Best
         requires { (state < length self.now.states) × (k < length self.now.rules) }
         ensures { result ≡ better b k (cond (live self.now.states self.now.lists state (nth_rule self.now.rules k)) bytes 0) }
@@ -142,16 +149,20 @@ impl<'a> LentLexer<'a> {
         b
     }
 
-    // The plain scan of all rules.
+    // The scan of all rules where no live one has the greatest length, so that those that have it need not be asked again.
     fn longest(&self, state: u16, row: Row) -> Best
         requires state_declared { state < length self.now.states }
         requires row_long { row.rules ≡ length self.now.rules }
+        requires none_longest { row.rules ≡ first_with (weight self.now state row.bytes.now) row.top 0 row.rules }
         ensures { result ≡ best (weight self.now state row.entry.bytes.now) row.entry.rules }
     {
         let lengths = row.lengths();
         let mut b = Best { length: 0, rule: 0 };
         for k in 0..row.rules as usize {
-            b = self.better_of(state, b, k, lengths.get(k));
+            let bytes = lengths.get(k);
+            if bytes != row.top {
+                b = self.better_of(state, b, k, bytes);
+            }
         }
         b
     }

@@ -6,9 +6,9 @@ use Rattle.declarations.specs.Answers.{caps_of, declared_in}
 use Rattle.declarations.proofs.Lines.{Sections, section}
 use Rattle.declarations.proofs.parse_declarations.Given as goal
 
-abbrev pub invariant-loop-counts : goal.invariant-loop-counts
-invariant-loop-counts l = Sections (section l.src (options l.flags) (caps_of (length l.initial.area1) (length l.initial.area5) (length l.initial.area6)) l.i (declared_in l.initial.area1 l.initial.area5 l.initial.area6 l.initial.counts))
-    l.src (options l.flags) l.initial.area1 l.initial.area5 l.initial.area6 l.line l.area1 l.area5 l.area6 l.counts
+abbrev pub invariant-loop-file : goal.invariant-loop-file
+invariant-loop-file l = Sections (section l.file.source.now (options l.file.flags) (caps_of (length l.initial.area1) (length l.initial.area5) (length l.initial.area6)) l.i (declared_in l.initial.area1 l.initial.area5 l.initial.area6 l.initial.counts))
+    l.file.source.now (options l.file.flags) l.initial.area1 l.initial.area5 l.initial.area6 l.line l.area1 l.area5 l.area6 l.counts
 
-abbrev pub decreases-loop-counts : goal.decreases-loop-counts
-decreases-loop-counts l = length l.src - l.line.start
+abbrev pub decreases-loop-file : goal.decreases-loop-file
+decreases-loop-file l = length l.file.source.now - l.line.start

@@ -1,12 +1,9 @@
 -- `fault::add_duplicate_occurrence` meets its contract: the fault is there, or it is new.
-use Rattle.fault.proofs.Spans.{repeat_again, repeat_first, repeating}
+use Rattle.fault.proofs.Spans.{repeat_again, repeat_first}
 use Rattle.fault.proofs.add_duplicate_occurrence.Goals as goal
 
-pub add_span-requires : goal.add_span-requires
-add_span-requires c = search repeating
-
 pub returns-in-Some : goal.returns-in-Some
-returns-in-Some c = rw (← c.from-code.ensures) (repeat_again c.requires _ _ _ _ _ c.find_fault.ensures c.in-Some.is c.add_span.ensures)
+returns-in-Some c = rw (← c.from-code.ensures) (repeat_again c.requires _ _ _ _ _ _ c.new.ensures c.find_fault.ensures c.in-Some.is c.add_span.ensures)
 
 pub returns-in-None : goal.returns-in-None
-returns-in-None c = rw (← c.from-code.ensures) (repeat_first c.requires _ _ _ _ _ c.find_fault.ensures c.in-None.is c.add_pair.ensures)
+returns-in-None c = rw (← c.from-code.ensures) (repeat_first c.requires _ _ _ _ _ _ c.new.ensures c.find_fault.ensures c.in-None.is c.add_pair.ensures)

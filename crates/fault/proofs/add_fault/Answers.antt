@@ -1,6 +1,8 @@
 -- `fault::add_fault` meets its contract: a record with the next number is appended.
+use Rattle.std.proofs.Common.{ap, ◌∙◌}
+use Rattle.fault.specs.Faults.{next_number}
 use Rattle.fault.proofs.Spans.{fault_added}
 use Rattle.fault.proofs.add_fault.Goals as goal
 
 pub returns : goal.returns
-returns c = rw (← c.from-code.ensures) (fault_added c.requires _ _ c.next_number-number.ensures _ _ _ _ c.push.ensures)
+returns c = rw (← c.from-code.ensures) (fault_added c.requires _ _ (c.next_number-number.ensures ∙ ap next_number c.new.ensures) _ _ _ _ c.push.ensures)

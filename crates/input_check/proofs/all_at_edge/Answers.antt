@@ -6,4 +6,4 @@ use Rattle.input_check.proofs.all_at_edge.Goals as goal
 pub returns-then-not-has_inside : goal.returns-then-not-has_inside
 returns-then-not-has_inside c =
     edges_clear c.args.text.now _ _ _ _ c.args.row.greatest_is c.requires (sym c.is_edge.ensures ∙ c.if-is_edge.true)
-    (c.has_inside.ensures.none c.if-not-has_inside.true)
+    (sym c.has_inside.ensures ∙ c.if-not-has_inside.true)

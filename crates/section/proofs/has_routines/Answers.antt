@@ -1,12 +1,6 @@
--- `section::has_routines` meets its contract: each return is a branch of the definition.
-use Rattle.text.specs.Range.{lookahead_is}
-use Rattle.section.specs.Section.{has_routines}
-use Rattle.section.proofs.Lines.{testing}
+-- `section::has_routines` meets its contract: behind the `%%` there is room.
+use Rattle.section.proofs.Lines.{percents_end}
 use Rattle.section.proofs.has_routines.Goals as goal
 
-pub is_some_and-requires : goal.is_some_and-requires
-is_some_and-requires c = search testing
-
-pub returns : goal.returns
-unfolding has_routines lookahead_is
-returns c = search testing
+pub parse_ws-requires : goal.parse_ws-requires
+parse_ws-requires c = percents_end _ _ _ c.lookahead_is.ensures c.requires _ c.in-Some.is

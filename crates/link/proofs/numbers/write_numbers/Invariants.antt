@@ -7,4 +7,4 @@ use Rattle.link.specs.Matches.{Tests}
 use Rattle.link.proofs.numbers.write_numbers.Given as goal
 
 abbrev pub invariant-loop-k : goal.invariant-loop-k
-invariant-loop-k g l = (l.n ≤ l.k) × ((test : ℕ → Bool) → Tests (goal.F-post g l.passes) l.most test → Written test (length l.initial.into) l.into l.n l.k)
+invariant-loop-k g l = (l.n ≤ l.k) × ((test : ℕ → Bool) → Tests (goal.F-post g l.passes) l.most test → Written test (length l.fn.into) l.into l.n l.k)

@@ -12,7 +12,7 @@ pub write_numbers-requires-clause-room : goal.write_numbers-requires-clause-room
 write_numbers-requires-clause-room c = (
   passes_at rule_format is_unlinked c.args.area.now c.args.count,
   record { each = λ k r h p. rule_asked c.args.area.now c.args.count k r h (search rules) },
-  ap (λ ns. fits ns c.args.into.now) (unlinked_is c.args.area.now c.args.count) ∙ c.requires.into_value_2,
+  ap (λ ns. fits ns c.args.into.now) (unlinked_is c.args.area.now c.args.count) ∙ c.requires.room,
 )
 
 pub returns : goal.returns

@@ -3,8 +3,8 @@ use Rattle.section.specs.Request.{asked_by}
 use Rattle.parse.proofs.Files.{nothing_held, no_names, opening_faults, file_stops, rules_inside, states_fit, rules_held, rules_faults, rules_stop, rules_judged}
 use Rattle.parse.proofs.sections.parse_sections.Goals as goal
 
-pub parse_opening-requires-clause-held_declared : goal.parse_opening-requires-clause-held_declared
-parse_opening-requires-clause-held_declared c = nothing_held c.requires.zeroed
+pub parse_opening-requires : goal.parse_opening-requires
+parse_opening-requires c = record { held_declared = nothing_held c.requires.zeroed }
 
 pub close-requires : goal.close-requires
 close-requires c = opening_faults (asked_by c.args.lex_file) _ _ _ _ _ _ c.requires.zeroed _ _ _ _ _ c.parse_opening.ensures _ c.in-Err.is
@@ -14,7 +14,7 @@ new-states-requires c = states_fit (asked_by c.args.lex_file) _ _ _ _ _ _ c.requ
 
 pub parse_rules-requires-clause-i_in_bounds : goal.parse_rules-requires-clause-i_in_bounds
 parse_rules-requires-clause-i_in_bounds c =
-    (rules_inside (asked_by c.args.lex_file) _ _ _ _ _ _ c.requires.zeroed _ _ _ _ _ c.parse_opening.ensures c.in-Ok.is, c.requires.source_len_bound)
+    rules_inside (asked_by c.args.lex_file) _ _ _ _ _ _ c.requires.zeroed _ _ _ _ _ c.parse_opening.ensures c.in-Ok.is
 
 pub parse_rules-requires-clause-held_ruled : goal.parse_rules-requires-clause-held_ruled
 parse_rules-requires-clause-held_ruled c =

@@ -4,15 +4,15 @@ use Rattle.sheet_check.proofs.Patterns.{rule_bytes_lem, rule_located, rule_past,
 use Rattle.sheet_check.proofs.pattern.locate.Goals as goal
 
 pub read-x-requires : goal.read-x-requires
-read-x-requires c = rule_bytes_lem _ _ _ c.check.ensures c.if-check.true (omega (arith, c.if-rule-wide.true, c.wide.ensures))
+read-x-requires c = rule_bytes_lem _ _ _ c.check.ensures c.if-check.true (omega (arith, c.if-rule-from.true, c.from.ensures))
 
-pub returns-then-rule-wide : goal.returns-then-rule-wide
-returns-then-rule-wide c =
-    rule_located _ _ _ c.check.ensures _ c.if-check.true (omega (arith, c.if-rule-wide.true, c.wide.ensures))
+pub returns-then-rule-from : goal.returns-then-rule-from
+returns-then-rule-from c =
+    rule_located _ _ _ c.check.ensures _ c.if-check.true (omega (arith, c.if-rule-from.true, c.from.ensures))
     c.read-x.ensures
 
-pub returns-else-rule-wide : goal.returns-else-rule-wide
-returns-else-rule-wide c = rule_past _ _ _ c.check.ensures c.if-check.true (omega (arith, c.if-rule-wide.false, c.wide.ensures))
+pub returns-else-rule-from : goal.returns-else-rule-from
+returns-else-rule-from c = rule_past _ _ _ c.check.ensures c.if-check.true (omega (arith, c.if-rule-from.false, c.from.ensures))
 
 pub returns-else-check : goal.returns-else-check
 returns-else-check c = sheet_broken _ _ _ c.check.ensures c.if-check.false

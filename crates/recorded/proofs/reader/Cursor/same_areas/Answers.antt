@@ -28,5 +28,6 @@ loop-area-preserved c =
       at_is = read.goes.at_is ∙ rw (so_far.same, so_far.at_is, add-one) refl;
       lengths_at = skip_step _ _ _ _ _ _ _ so_far.lengths_same so_far.lengths_at lent.goes.at_is _ (omega arith);
       on = omega (arith, so_far.on, read.goes.on);
-      areas_are = areas_next _ _ _ _ _ _ _ _ _ _ _ _ _ _ refl so_far.lengths_same so_far.same so_far.lengths_at so_far.at_is lent.is read.is c.holds-same.ensures so_far.areas_are;
+      areas_are = areas_next _ _ _ _ _ _ _ _ _ _ _ _ _ _ refl so_far.lengths_same so_far.same so_far.lengths_at so_far.at_is
+          lent.is read.is c.holds-same.ensures so_far.areas_are;
     }

@@ -1,7 +1,0 @@
--- `name_map::map::NameMap::is_first` meets its contract: the name that is looked for is that of entry j.
-use Rattle.std.proofs.Common.{◌∙◌}
-use Rattle.name_map.proofs.Maps.{first_compared}
-use Rattle.name_map.proofs.map.NameMap.is_first.Goals as goal
-
-pub returns : goal.returns
-returns c = c.eq.ensures ∙ first_compared _ _ _ c.requires _ c.entry-x.ensures _ c.name_end.ensures c.find_entry.result c.find_entry.ensures
