@@ -1,6 +1,6 @@
 -- Laws of `all` and `all_below`: a list that is joined, cut, mapped or grows at its end, and the records of an area, one after the other.
 use mathlib.Core.Path.{◌≡◌, refl, sym, ap, ap₂, subst, ◌∙◌}
-use mathlib.Core.Bool.{Bool, true, false, ◌&&◌, and-true, and_assoc, and-eq-true_iff}
+use mathlib.Core.Bool.{Bool, true, false, ◌&&◌, and-true, and_assoc}
 use mathlib.Core.List.{List, [], ◌∷◌, ◌++◌, map}
 use Prim.Native.Nat.{ℕ, zero, suc, ◌+◌, ◌≤◌, ◌<◌}
 use native.Mathlib.Numerals.{add-one}
@@ -9,11 +9,9 @@ use borrow.Author.Rules.{rules}
 use borrow.Author.Tests.{leb-true, leb-false}
 use lib.Dec.{leb}
 use lib.ListN.{length, get_or, take, drop}
+use Rattle.std.proofs.lemmas.Bool.{and_parts}
 use Rattle.area.specs.Contents.{Format, contents, list_of}
 use Rattle.area.specs.Lists.{all, all_below}
-
-both : (p q : Bool) → p && q ≡ true → (p ≡ true) × (q ≡ true)
-both p q e = (and-eq-true_iff p q).0 e
 
 -- ---- the elements of a list
 
@@ -22,7 +20,7 @@ module _ {A : Type 0} (test : A → Bool) where
   unfolding all
   all_append [] ys h g = g
   all_append (x ∷ xs) ys h g =
-      let t = both (test x) (all test xs) h in
+      let t = and_parts (test x) (all test xs) h in
       rw t.0 (all_append xs ys t.1 g)
 
   pub all_take : (n : ℕ) (xs : List A) → all test xs ≡ true → all test (take n xs) ≡ true
@@ -30,28 +28,28 @@ module _ {A : Type 0} (test : A → Bool) where
   all_take zero xs h = refl
   all_take (suc n) [] h = refl
   all_take (suc n) (x ∷ xs) h =
-      let t = both (test x) (all test xs) h in
+      let t = and_parts (test x) (all test xs) h in
       rw t.0 (all_take n xs t.1)
 
   pub all_drop : (n : ℕ) (xs : List A) → all test xs ≡ true → all test (drop n xs) ≡ true
   unfolding all
   all_drop zero xs h = h
   all_drop (suc n) [] h = refl
-  all_drop (suc n) (x ∷ xs) h = all_drop n xs (both (test x) (all test xs) h).1
+  all_drop (suc n) (x ∷ xs) h = all_drop n xs (and_parts (test x) (all test xs) h).1
 
   pub all_map : (g : A → A) → ((x : A) → test x ≡ true → test (g x) ≡ true) → (xs : List A) → all test xs ≡ true → all test (map g xs) ≡ true
   unfolding all
   all_map g f [] e = refl
   all_map g f (x ∷ xs) e =
-      let t = both (test x) (all test xs) e in
+      let t = and_parts (test x) (all test xs) e in
       rw (f x t.0) (all_map g f xs t.1)
 
   -- an element of a list that passes passes
   pub all-at : (xs : List A) (d : A) (k : ℕ) → all test xs ≡ true → k < length xs → test (get_or xs k d) ≡ true
   unfolding all
   all-at [] d k e h = absurd (omega (arith, h))
-  all-at (x ∷ xs) d zero e h = (both (test x) (all test xs) e).0
-  all-at (x ∷ xs) d (suc k) e h = all-at xs d k (both (test x) (all test xs) e).1 (omega arith)
+  all-at (x ∷ xs) d zero e h = (and_parts (test x) (all test xs) e).0
+  all-at (x ∷ xs) d (suc k) e h = all-at xs d k (and_parts (test x) (all test xs) e).1 (omega arith)
 
   -- a list whose elements pass passes
   pub all_from : (xs : List A) (d : A) → ((k : ℕ) → k < length xs → test (get_or xs k d) ≡ true) → all test xs ≡ true
@@ -98,13 +96,13 @@ module _ (test : ℕ → Bool) where
   pub below_at : (n k : ℕ) → all_below test n ≡ true → k < n → test k ≡ true
   unfolding all_below
   below_at zero k e h = absurd (omega (arith, h))
-  below_at (suc n) k e h = by (leb n k) refl (λ g. below_at n k (both (all_below test n) (test n) e).0 g)
+  below_at (suc n) k e h = by (leb n k) refl (λ g. below_at n k (and_parts (all_below test n) (test n) e).0 g)
     where
       by : (b : Bool) → leb n k ≡ b → (k < n → test k ≡ true) → test k ≡ true
       by true q earlier =
           let l : n ≤ k = leb-true n k q in
           let z : n ≡ k = omega arith in
-          subst (λ (m : ℕ). test m ≡ true) z (both (all_below test n) (test n) e).1
+          subst (λ (m : ℕ). test m ≡ true) z (and_parts (all_below test n) (test n) e).1
       by false q earlier = earlier (leb-false n k q)
 
 pub below_same : (f g : ℕ → Bool) (n : ℕ) → ((k : ℕ) → k < n → f k ≡ g k) → all_below f n ≡ all_below g n

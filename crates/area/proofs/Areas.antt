@@ -27,7 +27,8 @@ module _ {name : AreaName} {w limit m : ℕ} {v l : List ℕ} {n : ℕ} {r : Res
   next_case true k t s h q = (t, cc, h)
   next_case false k t s h q = (cc, cc, cc)
 
-  full_case : (t : Bool) (x : AreaFull) → room w limit (length l) n m ≡ t → r ≡ cond t (Ok (n + m)) (Err (full name)) → e ≡ cond t (sets l (n * w) v) l → r ≡ Err x
+  full_case : (t : Bool) (x : AreaFull) → room w limit (length l) n m ≡ t
+      → r ≡ cond t (Ok (n + m)) (Err (full name)) → e ≡ cond t (sets l (n * w) v) l → r ≡ Err x
       → (room w limit (length l) n m ≡ false) × (e ≡ l) × (x ≡ full name)
   full_case true x t s h q = (cc, cc, cc)
   full_case false x t s h q = (t, h, cc)
@@ -92,7 +93,8 @@ module _ {A : Type 0} {f : A → List ℕ} {w : ℕ} (wide : (x : A) → length 
         }
 
     -- what an append leaves: the list with what was appended
-    pub next_areas : {name : AreaName} {r : Result ℕ AreaFull} {e : List ℕ} {k : ℕ} (ys : List A) → Pushed name w limit (length ys) (bytes f ys) l n r e → r ≡ Ok k
+    pub next_areas : {name : AreaName} {r : Result ℕ AreaFull} {e : List ℕ} {k : ℕ} (ys : List A)
+        → Pushed name w limit (length ys) (bytes f ys) l n r e → r ≡ Ok k
         → Area f w limit cap e k (xs ++ ys)
     next_areas ys p q = rw ((next_says p q).2, (next_says p q).1) (area-append ys (next_room p q))
 

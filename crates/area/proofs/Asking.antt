@@ -1,6 +1,7 @@
 -- Loops that ask a closure for each record of a list: what holds of any test that answers as the closure does.
 -- Assumes nothing.
 use Rattle.std.specs.Prelude.{Option, Some, None}
+use Rattle.std.proofs.lemmas.Option.{none-some}
 use mathlib.Core.Path.{◌≡◌, refl, sym, ap, ap₂, subst, ◌∙◌}
 use mathlib.Core.Bool.{Bool, true, false, ◌&&◌}
 use mathlib.Core.List.{List}
@@ -61,11 +62,6 @@ records_judged test asked is says = asked.is test says ∙ ap (all test) is
 
 -- ---- the first that passes
 
-none_found : {k : ℕ} → ◌≡◌ {A = Option ℕ} None (Some k) → ⊥
-none_found z =
-    let q : ◌≡◌ {A = ℕ} 0 1 = cc in
-    omega arith
-
 -- none from i to before k passes
 pub record Passed {A : Type 0} (post : ℕ → A → Bool → Type 0) (d : A) (xs : List A) (i e k : ℕ) : Type 0 where
   pub is : (test : ℕ → Bool) → ((j : ℕ) (b : Bool) → i ≤ j → j < e → post j (get_or xs j d) b → b ≡ test j) → first test i e ≡ first test k e
@@ -91,5 +87,5 @@ module _ {A : Type 0} {post : ℕ → A → Bool → Type 0} {d : A} {xs : List 
     pub passed_end : k ≡ e → FirstFound post d xs i e None
     passed_end q = record {
       is = λ test says. first_ended test i e e (p.is test says ∙ ap (λ (j : ℕ). first test j e) q) (le_refl e);
-      within = λ j z. absurd (none_found z);
+      within = λ j z. absurd (none-some j z);
     }

@@ -14,7 +14,8 @@ use Rattle.area.specs.declared.AreaFull.{AreaFull}
 use Rattle.area.specs.Areas.{Area, Pushed, room, insert_at, inserted}
 use mathlib.Core.Option.{none, some}
 use Rattle.area.specs.Bytes.{bytes, zeros}
-use Rattle.area.specs.Contents.{Format, contents, list_of, Held, append, left_by, Grows, state_format, rule_format, entry_format, text_format, expected_format, fault_format}
+use Rattle.area.specs.Contents.{Format, contents, list_of, Held, append, left_by, Grows}
+use Rattle.area.specs.Contents.{state_format, rule_format, entry_format, text_format, expected_format, fault_format}
 use Rattle.area.proofs.Areas.{full_says, area-at, area_empty, area_inserted, area-length, full_room, next_areas, next_room, one_wide, pushed_length}
 use Rattle.area.proofs.Fields.{bytes_single}
 use Rattle.area.proofs.Records.{state_wide, rule_wide, entry_wide, expected_wide, fault_wide, state_read, rule_read, entry_read, expected_read, fault_read}
@@ -128,11 +129,13 @@ module _ {A : Type 0} {F : Format A} (sound : Sound F) where
         after : (k : ℕ) → r ≡ Ok k → Area F.write F.width F.most (length l) e k (contents F l n ++ ys)
         after k q = next_areas sound.wide h.area ys p' q
 
-        by : (x : Result ℕ AreaFull) → r ≡ x → cond (room F.width F.most (length l) (length (contents F l n)) (length ys)) (some (contents F l n ++ ys)) none ≡ left_by F e r
+        by : (x : Result ℕ AreaFull) → r ≡ x
+            → cond (room F.width F.most (length l) (length (contents F l n)) (length ys)) (some (contents F l n ++ ys)) none ≡ left_by F e r
         by (Ok k) q = rw (next_room sound.wide h.area p' q, q, contents_are (after k q))
         by (Err x) q = rw (full_room sound.wide h.area p' q, q)
 
-    pub held_push : (x : A) {r : Result ℕ AreaFull} {e : List ℕ} → Pushed F.name F.width F.most 1 (F.write x) l n r e → Grows F (append F (length l) (x ∷ [])) l n r e
+    pub held_push : (x : A) {r : Result ℕ AreaFull} {e : List ℕ}
+        → Pushed F.name F.width F.most 1 (F.write x) l n r e → Grows F (append F (length l) (x ∷ [])) l n r e
     held_push x p = held-append (x ∷ []) refl (sym (bytes_single F.write x)) p
 
     -- a record in between

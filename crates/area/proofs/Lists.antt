@@ -1,5 +1,4 @@
--- Laws of lists: stores one behind the other, zeros behind a list, and the loops that copy, write zeros and shift. What a loop has done
--- after some turns is a concatenation of parts of the lists at its start; its laws say so before the first turn, for one turn more, and at the end.
+-- Laws of lists: a list that is written over, zeros behind a list, bytes put in between two lists, and a part that is lent and comes back.
 -- Assumes nothing.
 use mathlib.Core.Path.{◌≡◌, sym, ap, ap₂, ◌∙◌}
 use mathlib.Core.List.{List, ◌++◌, append_assoc, append-nil}

@@ -102,7 +102,8 @@ module _ (test : ℕ → Bool) (cap : ℕ) where
         is = q
             ∙ ap₂ (λ (u : List ℕ) (j : ℕ). sets u j (entry_bytes k)) w.is (ap (λ (j : ℕ). j * entry_width) w.count ∙ sym size)
             ∙ sets_pad cap (bytes entry_bytes (numbers test k)) (entry_bytes k) (omega (arith, size, entry_wide k, written_fits, w.count))
-            ∙ ap (pad cap) (ap (λ (u : List ℕ). bytes entry_bytes (numbers test k) ++ u) (sym (bytes_single entry_bytes k)) ∙ sym (bytes-append entry_bytes (numbers test k) (k ∷ [])))
+            ∙ ap (pad cap) (ap (λ (u : List ℕ). bytes entry_bytes (numbers test k) ++ u) (sym (bytes_single entry_bytes k))
+            ∙ sym (bytes-append entry_bytes (numbers test k) (k ∷ [])))
             ∙ ap (laid entry_format cap) (sym (numbers_yes test k t));
       }
         where
@@ -111,11 +112,6 @@ module _ (test : ℕ → Bool) (cap : ℕ) where
 
     pub written_all : (m : ℕ) → m ≤ k → k ≤ m → l ≡ laid entry_format cap (numbers test m)
     written_all m h g = w.is ∙ ap (λ (j : ℕ). laid entry_format cap (numbers test j)) (omega arith)
-
--- the list in the area in the end
-pub written_list : (test : ℕ → Bool) (m : ℕ) (ns l : List ℕ) → numbers test m ≡ ns → (e : List ℕ) (n k : ℕ) → Written test (length l) e n k → m ≤ k → k ≤ m
-    → e ≡ laid entry_format (length l) ns
-written_list test m ns l is e n k w h g = written_all test (length l) w m h g ∙ ap (laid entry_format (length l)) is
 
 -- ---- the records of an area
 

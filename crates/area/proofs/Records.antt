@@ -9,8 +9,11 @@ use Rattle.area.specs.declared.State.{State}
 use Rattle.area.specs.declared.Rule.{Rule}
 use Rattle.area.specs.declared.Expected.{Expected}
 use Rattle.area.specs.declared.Fault.{Fault}
-use Rattle.area.specs.Records.{state_width, rule_width, entry_width, expected_width, fault_width, state_fields, rule_fields, entry_fields, expected_fields, fault_fields, state_bytes, rule_bytes, entry_bytes, expected_bytes, fault_bytes}
-use Rattle.area.specs.Records.{state_of, rule_of, expected_of, fault_of, state_at, rule_at, entry_at, expected_at, fault_at, nth_state, nth_rule, nth_entry, nth_expected, nth_fault}
+use Rattle.area.specs.Records.{state_width, rule_width, entry_width, expected_width, fault_width}
+use Rattle.area.specs.Records.{state_fields, rule_fields, entry_fields, expected_fields, fault_fields}
+use Rattle.area.specs.Records.{state_bytes, rule_bytes, entry_bytes, expected_bytes, fault_bytes}
+use Rattle.area.specs.Records.{state_of, rule_of, expected_of, fault_of, state_at, rule_at, entry_at, expected_at, fault_at}
+use Rattle.area.specs.Records.{nth_state, nth_rule, nth_entry, nth_expected, nth_fault}
 use Rattle.area.specs.Areas.{Area}
 use Rattle.area.proofs.Decode.{list_of, fields_wide, fields_read}
 

@@ -95,7 +95,8 @@ module _ {A : Type 0} {F : Format A} (sound : Sound F) (near : Local F) (g : A �
         ∙ ap (λ (t : List ℕ). front k ++ t) (bytes_single F.write (g (F.read l k)))
 
     -- it is written back
-    pub after_next : (x y : A) (e : List ℕ) → k * F.width + F.width ≤ length a → x ≡ F.read a k → y ≡ g x → e ≡ sets a (k * F.width) (F.write y) → e ≡ after (k + 1)
+    pub after_next : (x y : A) (e : List ℕ) → k * F.width + F.width ≤ length a
+        → x ≡ F.read a k → y ≡ g x → e ≡ sets a (k * F.width) (F.write y) → e ≡ after (k + 1)
     after_next x y e room q z w =
         let v : List ℕ = F.write y in
         let at : ℕ = k * F.width in
@@ -114,9 +115,6 @@ module _ {A : Type 0} {F : Format A} (sound : Sound F) (near : Local F) (g : A �
         ∙ ap₂ (λ (b d : List ℕ). b ++ v ++ d) (ap (take at) here ∙ take_at (front k) (drop at l) at (front_length k)) (back ∙ ap (λ (j : ℕ). drop j l) m)
         ∙ ap (λ (b : List ℕ). b ++ drop ((k + 1) * F.width) l) (ap (λ (u : A). front k ++ F.write u) yes ∙ sym front_next)
         ∙ sym (after_is (k + 1))
-
-    pub after_all : (n : ℕ) → n ≤ k → k ≤ n → a ≡ after n
-    after_all n h h' = is ∙ ap after (omega arith)
 
 -- ---- records laid over the front of an area are read back
 

@@ -8,20 +8,17 @@ use Prim.Native.Nat.{ℕ, suc, ◌+◌, ◌*◌, ◌<◌, ◌≤◌}
 use native.Mathlib.Nat.{add_assoc, mul-le-mul, mul-le-mul_right, suc-mul}
 use native.Mathlib.Omega.{arith}
 use native.Mathlib.Numerals.{add-one}
-use borrow.Author.Tests.{le-leb, leb-true}
+use borrow.Author.Tests.{le-leb, lt-leb, leb-true}
 use lib.Dec.{leb}
-use mir.Syntax.{w16}
+use mir.Syntax.{w16, w64}
 use mir.Val.{Fits}
 use lib.ListN.{length}
 use lib.Seq.{sets}
 use Rattle.std.specs.Prelude.{Ok, Err}
+use Rattle.std.proofs.lemmas.Bool.{and_parts}
 use Rattle.area.specs.declared.AreaName.{AreaName}
 use Rattle.area.specs.Areas.{room, Pushed, full}
 use Rattle.area.specs.Contents.{Format, Sized}
-
-both : (a b : Bool) → a && b ≡ true → (a ≡ true) × (b ≡ true)
-both true b e = (refl, e)
-both false b e = (e, cc)
 
 module _ (w limit cap n m : ℕ) where
   pub room_yes : n + m ≤ limit → (n + m) * w ≤ cap → room w limit cap n m ≡ true
@@ -30,11 +27,11 @@ module _ (w limit cap n m : ℕ) where
 
   pub room_few : room w limit cap n m ≡ true → n + m ≤ limit
   unfolding room
-  room_few e = leb-true (n + m) limit (both (leb (n + m) limit) (leb ((n + m) * w) cap) e).0
+  room_few e = leb-true (n + m) limit (and_parts (leb (n + m) limit) (leb ((n + m) * w) cap) e).0
 
   pub room_fits : room w limit cap n m ≡ true → (n + m) * w ≤ cap
   unfolding room
-  room_fits e = leb-true ((n + m) * w) cap (both (leb (n + m) limit) (leb ((n + m) * w) cap) e).1
+  room_fits e = leb-true ((n + m) * w) cap (and_parts (leb (n + m) limit) (leb ((n + m) * w) cap) e).1
 
   -- room behind m more is room for them too
   pub room_later : (k : ℕ) → room w limit cap (n + m) k ≡ room w limit cap n (m + k)
@@ -48,9 +45,24 @@ room_fewer w limit cap n m k h e =
     let f : (n + k) * w ≤ (n + m) * w = mul-le-mul_right w g in
     room_yes w limit cap n k (omega (arith, room_few w limit cap n m e)) (omega (arith, f, room_fits w limit cap n m e))
 
--- the product that the test for room computes
-pub product_small : (w limit a : ℕ) → w ≤ 28 → limit ≤ 65535 → a ≤ limit → a * w ≤ 1834980
-product_small w limit a hw hl ha = let h : a ≤ 65535 = omega arith in mul-le-mul h hw
+-- ---- the test for room, made by a record's own numbers
+
+module _ {A : Type 0} {F : Format A} {name : AreaName} {width most : ℕ} (s : Sized F name width most) (n m : ℕ) {limit : ℕ} (is : limit ≡ most) where
+  pub room_over : (cap : ℕ) → limit < n + m → false ≡ room F.width F.most cap n m
+  unfolding room
+  room_over cap h = rw (lt-leb (n + m) F.most (omega (arith, h, is, s.most_is))) refl
+
+  module _ {w : ℕ} (w_is : w ≡ width) (h : n + m ≤ limit) where
+    pub room_within : (cap : ℕ) → leb ((n + m) * w) cap ≡ room F.width F.most cap n m
+    unfolding room
+    room_within cap = rw (w_is, s.width_is, le-leb (n + m) F.most (omega (arith, h, is, s.most_is))) refl
+
+    -- the product that it computes cannot wrap
+    pub product_fits : Fits w64 ((n + m) * w)
+    product_fits =
+        let few : n + m ≤ 65535 = omega (arith, h, is, s.most_is, s.few) in
+        let narrow : w ≤ 28 = omega (arith, w_is, s.width_is, s.narrow) in
+        record { fits = omega (arith, mul-le-mul few narrow) }
 
 -- ---- a test for room that came out true, or false
 
@@ -84,8 +96,3 @@ module _ (name : AreaName) (w limit m : ℕ) (v l : List ℕ) (n : ℕ) (t : Boo
   push_full h =
       let y : room w limit (length l) n m ≡ false = sym is ∙ h in
       record { says = rw y; leaves = rw y }
-
--- the test that the code makes by its own numbers
-pub sized_room : {A : Type 0} {F : Format A} {w most : ℕ} {name : AreaName} (s : Sized F name w most) (cap n m u v : ℕ) (t : Bool) → u ≡ w → v ≡ most → t ≡ room u v cap n m
-    → t ≡ room F.width F.most cap n m
-sized_room s cap n m u v t p q is = is ∙ ap₂ (λ (a b : ℕ). room a b cap n m) (p ∙ s.width_is) (q ∙ s.most_is)

@@ -10,7 +10,9 @@ use Rattle.area.specs.declared.AreaName.TheVariants as N
 use Rattle.area.specs.declared.AreaFull.{AreaFull}
 use Rattle.area.specs.Bytes.{bytes, pad}
 use Rattle.area.specs.Areas.{Area, one, room, full}
-use Rattle.area.specs.Records.{state_bytes, rule_bytes, entry_bytes, expected_bytes, fault_bytes, state_at, rule_at, entry_at, expected_at, fault_at, state_of, rule_of, expected_of, fault_of, state_width, rule_width, entry_width, expected_width, fault_width, most_states, most_rules, most_others}
+use Rattle.area.specs.Records.{state_bytes, rule_bytes, entry_bytes, expected_bytes, fault_bytes, state_at, rule_at, entry_at, expected_at, fault_at}
+use Rattle.area.specs.Records.{state_of, rule_of, expected_of, fault_of, state_width, rule_width, entry_width, expected_width, fault_width}
+use Rattle.area.specs.Records.{most_states, most_rules, most_others}
 
 -- f 0 up to f (n - 1)
 unfoldable pub list_of : {A : Type 0} → (ℕ → A) → ℕ → List A
@@ -41,12 +43,20 @@ abbrev pub text_format : Format ℕ
 text_format = record { name = N.Text; write = one; width = 1; most = most_others; read = λ l k. get_or l k 0; blank = 0 }
 
 abbrev pub expected_format : Format Expected
-expected_format = record { name = N.Expected; write = expected_bytes; width = expected_width; most = most_others; read = expected_at; blank = expected_of (λ _. 0) }
+expected_format = record {
+  name = N.Expected;
+  write = expected_bytes;
+  width = expected_width;
+  most = most_others;
+  read = expected_at;
+  blank = expected_of (λ _. 0);
+}
 
 abbrev pub fault_format : Format Fault
 fault_format = record { name = N.Faults; write = fault_bytes; width = fault_width; most = most_others; read = fault_at; blank = fault_of (λ _. 0) }
 
--- a format of the area of that name, whose records all have that many bytes, and of which an area may have so many. Both are small, so that their product cannot wrap
+-- a format of the area of that name, whose records all have that many bytes, and of which an area may have so many. Both are small, so that their
+-- product cannot wrap
 pub record Sized {A : Type 0} (F : Format A) (name : AreaName) (width most : ℕ) : Type 0 where
   pub name_is : name ≡ F.name
   pub width_is : width ≡ F.width

@@ -2,6 +2,7 @@ pub mod Areas
 pub mod Bytes
 pub mod Records
 pub mod Names
+pub mod Operation
 pub mod Contents
 pub mod Lists
 pub mod Asked

@@ -1,19 +1,21 @@
-// The areas that a caller lends: records of two-byte fields, one after the other, and zeros behind them.
+// The areas that a caller lends: records of two-byte fields, one after the other, and zeros behind them. An area is lent as bytes with a place or a
+// count beside it, as the host lends it; who reads many records takes them as one list (`list`).
 #![tactic(auto)]
 
 pub mod list; // a list of records that is lent for reading
 
-ghost use Rattle.std.specs.Prelude.{ℕ, ◌≡◌, ◌++◌, ◌∷◌, [], ◌+◌, ◌*◌, ◌-◌, ◌≤◌, length, take, drop};
+ghost use Rattle.std.specs.Prelude.{ℕ, ◌≡◌, ◌++◌, ◌∷◌, [], ◌+◌, ◌*◌, ◌-◌, ◌≤◌, eqb, length, take};
 ghost use Rattle.std.proofs.lemmas.List.Edits.{sets};
 ghost use Rattle.area.specs.Bytes.{two, bytes, zeros, field_at};
 ghost use Rattle.area.specs.Records.{state_width, rule_width, entry_width, expected_width, fault_width, most_states, most_rules, most_others};
 ghost use Rattle.area.specs.Records.{state_bytes, rule_bytes, entry_bytes, expected_bytes, fault_bytes, state_at, rule_at, entry_at, expected_at, fault_at};
 ghost use Rattle.area.specs.Areas.{room, Pushed, PushedText, move_up, inserted};
-ghost use Rattle.area.specs.Contents.{Format, Sized, state_format, rule_format, entry_format, expected_format, fault_format};
+ghost use Rattle.area.specs.Contents.{Format, Sized, state_format, rule_format, entry_format, text_format, expected_format, fault_format};
 ghost use Rattle.area.specs.Names.{area_number};
+ghost use Rattle.area.specs.Operation.{operation_number, OperationIs};
 ghost use Rattle.area.specs.declared.AreaName.{AreaName};
-ghost use Rattle.area.specs.declared.AreaName.TheVariants.{States, Rules, Entries, Expected, Faults};
-ghost use Rattle.area.specs.Laws.{state_sized, rule_sized, entry_sized, expected_sized, fault_sized};
+ghost use Rattle.area.specs.declared.AreaName.TheVariants.{States, Rules, Entries, Text, Expected, Faults};
+ghost use Rattle.area.specs.Laws.{state_sized, rule_sized, entry_sized, text_sized, expected_sized, fault_sized};
 
 // The areas that a host lends.
 #[derive(Clone, Copy, PartialEq, Eq, Debug)]
@@ -26,12 +28,12 @@ pub enum AreaName {
     Faults,
 }
 
-impl AreaName {
-    // The number that hosts know it by.
-    pub fn number(self) -> u16
-        ensures { result ≡ area_number self }
-    {
-        self as u16
+// The number that hosts know it by.
+impl From<AreaName> for u16 {
+    ghost from_gives = { λ name number. number ≡ area_number name };
+
+    fn from(name: AreaName) -> u16 {
+        name as u16
     }
 }
 
@@ -80,6 +82,52 @@ pub struct Rule {
     pub list_count: u16,
     pub operation: u16,
     pub target: u16,
+}
+
+impl Rule {
+    // Whether it has a name. The field may be any number: all but 1 are none.
+    pub fn is_named(&self) -> bool
+        ensures { result ≡ eqb self.now.named 1 }
+    {
+        self.named == 1
+    }
+
+    // Where its name ends.
+    pub fn name_end(&self) -> usize
+        ensures { result ≡ self.now.name_from + self.now.name_length }
+    {
+        self.name_from as usize + self.name_length as usize
+    }
+}
+
+// What a rule does with the stack of states, by its operation.
+#[derive(Clone, Copy, PartialEq, Eq, Debug)]
+pub enum StartStateOperation {
+    ReplaceStack = 1,
+    Push,
+    Pop,
+}
+
+impl From<StartStateOperation> for u16 {
+    ghost from_gives = { λ operation number. number ≡ operation_number operation };
+
+    fn from(operation: StartStateOperation) -> u16 {
+        operation as u16
+    }
+}
+
+impl StartStateOperation {
+    // That of a rule's field, which may be any number: all but these do nothing.
+    pub fn from_field(field: u16) -> Option<StartStateOperation>
+        ensures { OperationIs field result }
+    {
+        match field {
+            1 => Some(StartStateOperation::ReplaceStack),
+            2 => Some(StartStateOperation::Push),
+            3 => Some(StartStateOperation::Pop),
+            _ => None,
+        }
+    }
 }
 
 #[derive(Clone, Copy)]
@@ -339,6 +387,33 @@ impl Record for Fault {
     }
 }
 
+// A byte of text.
+impl Record for u8 {
+    ghost format = { text_format };
+
+    ghost NAME = { Text };
+
+    ghost WIDTH = { 1 };
+
+    ghost MOST = { most_others };
+
+    ghost sized = { text_sized };
+
+    const NAME: AreaName = AreaName::Text;
+
+    const WIDTH: usize = 1;
+
+    const MOST: usize = MOST_OTHERS;
+
+    fn read(area: &[u8], k: usize) -> u8 {
+        area[k]
+    }
+
+    fn write(self, area: &mut [u8], at: usize) {
+        area[at] = self;
+    }
+}
+
 // Record k of an area.
 pub fn read<R: Record>(area: &[u8], k: usize) -> R
     requires { k * R.format.width + R.format.width ≤ length area.now }
@@ -349,20 +424,19 @@ pub fn read<R: Record>(area: &[u8], k: usize) -> R
 
 // ---- records, appended
 
-// Whether m records more, behind n, fit the length and do not pass the limit. The limit comes first, so that the product
+// Whether m records more, behind n, fit the area and do not pass its limit. The limit comes first, so that the product
 // cannot wrap.
-#[tactic(auto, unfolding(crate::specs::Areas::room))]
-pub fn has_room(length: usize, width: usize, limit: usize, n: usize, m: usize) -> bool
-    requires { (width ≤ 28) × (limit ≤ 65535) }
-    ensures { result ≡ room width limit length n m }
+pub fn has_room<R: Record>(area: &[u8], n: usize, m: usize) -> bool
+    ensures { result ≡ room R.format.width R.format.most (length area.now) n m }
 {
+    let limit = R::MOST;
     if limit < n {
         return false;
     }
     if limit - n < m {
         return false;
     }
-    (n + m) * width <= length
+    (n + m) * R::WIDTH <= area.len()
 }
 
 // A record behind n others.
@@ -370,9 +444,8 @@ pub fn push<R: Record>(area: &mut [u8], n: u16, x: R) -> Result<u16, AreaFull>
     ensures { Pushed R.format.name R.format.width R.format.most 1 (R.format.write x) area.old n result area.new }
 {
     let count = n as usize;
-    let width = R::WIDTH;
-    if has_room(area.len(), width, R::MOST, count, 1) {
-        x.write(area, count * width);
+    if has_room::<R>(area, count, 1) {
+        x.write(area, count * R::WIDTH);
         return Ok(n + 1);
     }
     Err(AreaFull(R::NAME))
@@ -380,22 +453,15 @@ pub fn push<R: Record>(area: &mut [u8], n: u16, x: R) -> Result<u16, AreaFull>
 
 // ---- text, appended
 
-// The bytes of the source from a place up to another, behind n bytes: all of them or none.
+// A text behind n bytes: all of it or none.
 #[tactic(auto, using(crate::proofs::Lists::put_part), unfolding(crate::specs::Areas::room))]
-pub fn push_text(
-    area: &mut [u8],
-    n: u16,
-    source: &[u8],
-    from: usize,
-    to: usize,
-) -> Result<u16, AreaFull>
-    requires { (from ≤ to) × (to ≤ length source.now) }
-    ensures { PushedText (take (to - from) (drop from source.now)) area.old n result area.new }
+pub fn push_text(area: &mut [u8], n: u16, text: &[u8]) -> Result<u16, AreaFull>
+    ensures { PushedText text.now area.old n result area.new }
 {
     let count = n as usize;
-    let more = to - from;
-    if has_room(area.len(), 1, MOST_OTHERS, count, more) {
-        area[count..count + more].copy_from_slice(&source[from..to]);
+    let more = text.len();
+    if has_room::<u8>(area, count, more) {
+        area[count..count + more].copy_from_slice(text);
         return Ok((count + more) as u16);
     }
     Err(AreaFull(AreaName::Text))

@@ -34,6 +34,7 @@ fn below(count: u16, k: usize) -> u16
 }
 
 impl<'a, R: Record> Records<'a, R> {
+    // An area and its count, which are one value from here on.
     pub fn new(bytes: &'a [u8], count: u16) -> Records<'a, R>
         requires { count * R.format.width ≤ length bytes.now }
         ensures { result ≡ contents R.format bytes.now count }

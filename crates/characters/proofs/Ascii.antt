@@ -35,7 +35,8 @@ module _ (xs : List ℕ) (c : ℕ) (ys : List ℕ) where
   byte_inside j h =
       rw (encode_all-append xs (c ∷ ys)) (byte_behind (encode_all xs) (encode c ++ encode_all ys) j ∙ get_or-append (encode c) (encode_all ys) 0 j h)
 
-  pub inner_at : (j : ℕ) → 0 < j → j < length (encode c) → (0x80 ≤ byte (encode_all (xs ++ c ∷ ys)) (length (encode_all xs) + j)) × (byte (encode_all (xs ++ c ∷ ys)) (length (encode_all xs) + j) < 0xc0)
+  pub inner_at : (j : ℕ) → 0 < j → j < length (encode c)
+      → (0x80 ≤ byte (encode_all (xs ++ c ∷ ys)) (length (encode_all xs) + j)) × (byte (encode_all (xs ++ c ∷ ys)) (length (encode_all xs) + j) < 0xc0)
   inner_at j p h = rw (byte_inside j h) (inner_bytes c j p h)
 
 first_is : (c b : ℕ) (t : List ℕ) → b < 0x80 → eqb (byte (encode c ++ t) 0) b ≡ eqb c b

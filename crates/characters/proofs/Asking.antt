@@ -33,9 +33,11 @@ module _ (answers : ℕ → Bool → Type 0) (test : ℕ → Bool) where
       let at : q + 1 - 1 ≡ q = omega arith in
       ap Some (sym at)
       ∙ last_here test i (q + 1) one (ap test at ∙ sym (is q true f.is.from f.is.to f.is.passes))
-      ∙ sym (last_over test i (q + 1) e (omega arith) (omega (arith, f.is.to)) (λ m a b. sym (is m false (omega (arith, f.is.from)) b (f.is.fails m (omega arith) b))))
+      ∙ sym (last_over test i (q + 1) e (omega arith) (omega (arith, f.is.to))
+      (λ m a b. sym (is m false (omega (arith, f.is.from)) b (f.is.fails m (omega arith) b))))
 
-  pub asks_rules_out : (n : ℕ) (found : Bool) → ((k : ℕ) (b : Bool) → k < n → answers k b → RulesOut (test k) b) → Asks answers n found → RulesOut (any test n) found
+  pub asks_rules_out : (n : ℕ) (found : Bool) → ((k : ℕ) (b : Bool) → k < n → answers k b → RulesOut (test k) b)
+      → Asks answers n found → RulesOut (any test n) found
   asks_rules_out n found is f = record { none = λ e. none_of test n (λ m h. (is m false h (f.none e m h)).none refl) }
 
   -- each answer is that of the predicate

@@ -1,4 +1,4 @@
--- How many positions pass a test: how the count goes on by one position, that it adds up over neighbouring ranges, and what a count of none says.
+-- How many positions pass a test: how the count goes on by one position, that it adds up over neighbouring ranges, and when it is 0.
 use mathlib.Core.Path.{◌≡◌, refl, sym, ap, ◌∙◌}
 use mathlib.Core.Bool.{Bool, true, false}
 use Prim.Native.Nat.{ℕ, zero, suc, ◌+◌, ◌-◌, ◌≤◌, ◌<◌}
@@ -57,15 +57,12 @@ module _ (test : ℕ → Bool) where
     pub counted_next : r ≡ one_if (test k) → i ≤ k → n + r ≡ count test i (k + 1)
     counted_next is h = ap (λ (m : ℕ). n + m) is ∙ ap (λ (m : ℕ). m + one_if (test k)) before ∙ sym (count_next i k h)
 
-    pub counted_most : (t : Bool) → r ≡ one_if t → n + r ≤ k - i + 1
-    counted_most t is = omega (arith, is, before, count_most i k, one_most t)
-
     pub counted_ended : (e : ℕ) → e ≤ k → k ≤ e → n ≡ count test i e
     counted_ended e g h =
         let q : k ≡ e = omega arith in
         before ∙ ap (count test i) q
 
-  -- where one passes there is one to count, and where none is counted none passes
+  -- where one passes there is one to count
   pub count_some : (i m e : ℕ) → i ≤ m → m < e → test m ≡ true → 0 < count test i e
   count_some i m e h l t =
       let p = count_split i m e h (omega arith) in
@@ -73,13 +70,6 @@ module _ (test : ℕ → Bool) where
       let n = count_next m m (omega arith) in
       let o : one_if (test m) ≡ 1 = rw t in
       omega (arith, p, q, n, o)
-
-  pub count_fails : (i m e : ℕ) → count test i e ≡ 0 → i ≤ m → m < e → test m ≡ false
-  count_fails i m e z h l = go (test m) refl
-    where
-      go : (t : Bool) → test m ≡ t → test m ≡ false
-      go true q = absurd (omega (arith, z, count_some i m e h l q))
-      go false q = q
 
   -- where none passes none is counted
   of_none : (i n : ℕ) → ((m : ℕ) → i ≤ m → m < i + n → test m ≡ false) → count_of test i n ≡ 0
@@ -92,6 +82,3 @@ module _ (test : ℕ → Bool) where
   pub count_failing : (i e : ℕ) → ((m : ℕ) → i ≤ m → m < e → test m ≡ false) → count test i e ≡ 0
   unfolding count
   count_failing i e f = of_none i (e - i) (λ m h l. f m h (omega arith))
-
--- with these `search` answers the needs of a loop that counts
-pub ruleset counting = (rules, count_none, count_most, counted_next, counted_ended)

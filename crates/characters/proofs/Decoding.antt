@@ -183,9 +183,17 @@ module _ (s : List ℕ) where
       let f = byte s (k + 3) in
       let P : ℕ → Type 0 = λ n. 0 < n → k + n ≤ length s → Passed s k n in
       by_test P (one_byte a) 1 _ (λ e _ h. passed (decode_1 a (ltb-true a 0x80 e)) (next k (k + 1) refl (omega arith)))
-      (λ _. by_test P (two_bytes a b) 2 _ (λ e _ h. passed (decode_2 a b e) (rw (next k (k + 1) refl (omega arith), next (k + 1) (k + 2) (omega arith) (omega arith))))
-      (λ _. by_test P (three_bytes a b d) 3 _ (λ e _ h. passed (decode_3 a b d e) (rw (next k (k + 1) refl (omega arith), next (k + 1) (k + 2) (omega arith) (omega arith), next (k + 2) (k + 3) (omega arith) (omega arith))))
-      (λ _. by_test P (four_bytes a b d f) 4 0 (λ e _ h. passed (decode_4 a b d f e) (rw (next k (k + 1) refl (omega arith), next (k + 1) (k + 2) (omega arith) (omega arith), next (k + 2) (k + 3) (omega arith) (omega arith), next (k + 3) (k + 4) (omega arith) (omega arith))))
+      (λ _. by_test P (two_bytes a b) 2 _ (λ e _ h. passed (decode_2 a b e)
+      (rw (next k (k + 1) refl (omega arith), next (k + 1) (k + 2) (omega arith) (omega arith))))
+      (λ _. by_test P (three_bytes a b d) 3 _ (λ e _ h. passed (decode_3 a b d e)
+      (rw (next k (k + 1) refl (omega arith), next (k + 1) (k + 2) (omega arith) (omega arith), next (k + 2) (k + 3) (omega arith) (omega arith))))
+      (λ _. by_test P (four_bytes a b d f) 4 0 (λ e _ h. passed (decode_4 a b d f e)
+      (rw (
+        next k (k + 1) refl (omega arith),
+        next (k + 1) (k + 2) (omega arith) (omega arith),
+        next (k + 2) (k + 3) (omega arith) (omega arith),
+        next (k + 3) (k + 4) (omega arith) (omega arith),
+      )))
       (λ _ z. absurd (omega arith)))))
 
   pass_char : (k : ℕ) → 0 < char_len s k → Passed s k (char_len s k)

@@ -40,11 +40,13 @@ module _ (xs : List ℕ) (x : ℕ) where
   edge_behind = omega (arith, length_all [])
 
   -- inside the character is no edge
-  pub no_edge_inside : (t : List ℕ) (m : ℕ) → length (encode_all xs) + 1 ≤ m → m < length (encode_all xs) + length (encode x) → at_edge (encode_all (xs ++ x ∷ t)) m ≡ false
+  pub no_edge_inside : (t : List ℕ) (m : ℕ) → length (encode_all xs) + 1 ≤ m → m < length (encode_all xs) + length (encode x)
+      → at_edge (encode_all (xs ++ x ∷ t)) m ≡ false
   no_edge_inside t m h l =
       let q : length (encode_all xs) + (m - length (encode_all xs)) ≡ m = omega arith in
       let b = inner_at xs x t (m - length (encode_all xs)) (omega arith) (omega arith) in
-      let d : is_continuation (byte (encode_all (xs ++ x ∷ t)) (length (encode_all xs) + (m - length (encode_all xs)))) ≡ true = in_range 0x80 0xbf _ b.0 (omega (arith, b.1)) in
+      let d : is_continuation (byte (encode_all (xs ++ x ∷ t)) (length (encode_all xs) + (m - length (encode_all xs)))) ≡ true =
+      in_range 0x80 0xbf _ b.0 (omega (arith, b.1)) in
       ap (λ (k : ℕ). at_edge (encode_all (xs ++ x ∷ t)) k) (sym q) ∙ ap not d
 
 -- behind the last byte no character goes on

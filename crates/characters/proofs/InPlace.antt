@@ -21,7 +21,7 @@ use Rattle.characters.specs.Shortcuts.{out_of_place, out_of_place_behind, starts
 use Rattle.characters.proofs.Tests.{or_none, or_true, range_of, le_or_lt, not_true}
 use Rattle.characters.proofs.Spaces.{byte_inside}
 use Rattle.characters.proofs.Chars.{char_one, char_two, char_three, char_four, char_fits, char_inside}
-use Rattle.characters.proofs.Runs.{none_passes, none_of, none_ruled_out, rules_out_again, rules_out_ended, answer_rules_out}
+use Rattle.characters.proofs.Runs.{none_passes, none_of, answer_rules_out}
 use Rattle.characters.proofs.Runs.{none_yet, block_passed, rest_rules_out, rules_out_nothing}
 use Rattle.characters.proofs.Encoding.{row_c2, row_e0, row_e1, row_ed, row_ee, row_f0, row_f1, row_f4, not_two, not_three}
 use Rattle.characters.proofs.Encoding.{chars_stay, chars_go}

@@ -40,20 +40,6 @@ module _ (test : ℕ → Bool) where
       go true e = refl
       go false e = absurd (true≢false (sym t ∙ none_passes n m e h))
 
-  pub none_ruled_out : RulesOut (any test 0) false
-  unfolding any
-  none_ruled_out = record { none = λ e. refl }
-
-  -- the loop has looked at k positions
-  pub rules_out_again : (found r : Bool) (k : ℕ) → RulesOut (any test k) found → RulesOut (test k) r → RulesOut (any test (k + 1)) (found || r)
-  unfolding any
-  rules_out_again found r k f g = record { none = λ e. rw (add-one, f.none (or_none found r e).0, g.none (or_none found r e).1) refl }
-
-  pub rules_out_ended : (found : Bool) (k n : ℕ) → RulesOut (any test k) found → n ≤ k → k ≤ n → RulesOut (any test n) found
-  rules_out_ended found k n f a b =
-      let q : k ≡ n = omega arith in
-      rw (← q) f
-
 -- ---- all of the first n positions, a block after the other
 
 -- none of the n positions from k on passes

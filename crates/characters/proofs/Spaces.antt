@@ -147,4 +147,13 @@ pub ruleset measuring_ends = (end_bytes, end_fits, end_one, end_ruled_out, end_n
 pub inner_none : (a b c : ℕ) → 0x80 ≤ a → a < 0xc0 → whitespace_of a b c ≡ 0
 unfolding whitespace_of is_whitespace_byte is_line_end is_blank is_other_whitespace
 inner_none a b c l h =
-    simp (ne_eqb a 0x0a (omega arith), ne_eqb a 0x0b (omega arith), ne_eqb a 0x0d (omega arith), ne_eqb a 0x20 (omega arith), ne_eqb a 0x09 (omega arith), ne_eqb a 0x0c (omega arith), ne_eqb a 0xc2 (omega arith), ne_eqb a 0xe2 (omega arith))
+    simp (
+      ne_eqb a 0x0a (omega arith),
+      ne_eqb a 0x0b (omega arith),
+      ne_eqb a 0x0d (omega arith),
+      ne_eqb a 0x20 (omega arith),
+      ne_eqb a 0x09 (omega arith),
+      ne_eqb a 0x0c (omega arith),
+      ne_eqb a 0xc2 (omega arith),
+      ne_eqb a 0xe2 (omega arith),
+    )

@@ -11,7 +11,8 @@ use native.Mathlib.Omega.{arith}
 use borrow.Author.Tests.{eqb-true}
 use lib.Dec.{eqb}
 use lib.ListN.{get_or}
-use Rattle.characters.specs.Class.{Classes, ClassTable, has, is_line_end, is_blank, is_other_whitespace, is_letter, is_digit, is_hex_digit, is_meta_character, is_escape_letter}
+use Rattle.characters.specs.Class.{Classes, ClassTable, has, is_line_end, is_blank, is_other_whitespace}
+use Rattle.characters.specs.Class.{is_letter, is_digit, is_hex_digit, is_meta_character, is_escape_letter}
 use Rattle.characters.proofs.Tests.{and_left, and_right}
 
 -- the test passes at each number below n
@@ -63,7 +64,16 @@ right_says b x e0 =
     let e6 = agreed (has x 32) (is_hex_digit b) _ e5.1 in
     let e7 = agreed (has x 64) (is_meta_character b) _ e6.1 in
     let e8 = agreed (has x 128) (is_escape_letter b) _ e7.1 in
-    record { line_end = e1.0; blank = e2.0; other_whitespace = e3.0; letter = e4.0; digit = e5.0; hex_digit = e6.0; meta_character = e7.0; escape_letter = e8.0 }
+    record {
+      line_end = e1.0;
+      blank = e2.0;
+      other_whitespace = e3.0;
+      letter = e4.0;
+      digit = e5.0;
+      hex_digit = e6.0;
+      meta_character = e7.0;
+      escape_letter = e8.0;
+    }
 
 -- the masks of a byte's classes, added up
 masks : ℕ → ℕ

@@ -76,10 +76,13 @@ unfolding whitespace_of is_pattern_white_space
 measured_by {A} a b d h one two three =
     let P : ℕ → Type 0 = λ n. 0 < n → A in
     by_test P (is_whitespace_byte a) 1 _ (λ e _. one e)
-    (λ _. by_test P (is_next_line a b) 2 _ (λ e _. two (eqb-true a 0xc2 (and_left (eqb a 0xc2) (eqb b 0x85) e)) (eqb-true b 0x85 (and_right (eqb a 0xc2) (eqb b 0x85) e)))
-    (λ _. by_test P (is_mark a b d || is_separator a b d) 3 0 (λ e _. or_cases (is_mark a b d) (is_separator a b d) e (third 0x8e 0x8f refl refl) (third 0xa8 0xa9 refl refl)) (λ _ k. absurd (omega arith)))) h
+    (λ _. by_test P (is_next_line a b) 2 _
+    (λ e _. two (eqb-true a 0xc2 (and_left (eqb a 0xc2) (eqb b 0x85) e)) (eqb-true b 0x85 (and_right (eqb a 0xc2) (eqb b 0x85) e)))
+    (λ _. by_test P (is_mark a b d || is_separator a b d) 3 0
+    (λ e _. or_cases (is_mark a b d) (is_separator a b d) e (third 0x8e 0x8f refl refl) (third 0xa8 0xa9 refl refl)) (λ _ k. absurd (omega arith)))) h
   where
-    third : (x y : ℕ) → is_pattern_white_space (0x1f80 + x) ≡ true → is_pattern_white_space (0x1f80 + y) ≡ true → eqb a 0xe2 && (eqb b 0x80 && (eqb d x || eqb d y)) ≡ true → A
+    third : (x y : ℕ) → is_pattern_white_space (0x1f80 + x) ≡ true → is_pattern_white_space (0x1f80 + y) ≡ true
+        → eqb a 0xe2 && (eqb b 0x80 && (eqb d x || eqb d y)) ≡ true → A
     third x y p q e =
         let f = and_right (eqb a 0xe2) (eqb b 0x80 && (eqb d x || eqb d y)) e in
         three (eqb-true a 0xe2 (and_left (eqb a 0xe2) (eqb b 0x80 && (eqb d x || eqb d y)) e)) (eqb-true b 0x80 (and_left (eqb b 0x80) (eqb d x || eqb d y) f))

@@ -1,9 +1,10 @@
 // The classes of a byte, by one table (01, Characters).
 ghost use Rattle.std.specs.Prelude.{◌≡◌};
-ghost use Rattle.characters.specs.Class.{Classes, ClassTable, is_line_end, is_blank, is_letter, is_digit, is_hex_digit, is_always_kept, is_whitespace_byte, is_ascii_whitespace};
+ghost use Rattle.characters.specs.Class.{Classes, ClassTable, is_line_end, is_blank, is_letter, is_digit, is_hex_digit, is_always_kept};
+ghost use Rattle.characters.specs.Class.{is_whitespace_byte, is_ascii_whitespace};
 ghost use Rattle.characters.specs.Shortcuts.{RulesOut, Tells, may_end_line, may_be_whitespace};
 
-// ---- the classes, a bit for each
+// ---- the classes: a bit for each and no enum, since a byte has several at once, and one look into the table tells them all
 
 const LINE_END: u8 = 1;
 

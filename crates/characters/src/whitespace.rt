@@ -1,4 +1,5 @@
-// Whitespace characters and line ends at a byte offset: characters of 1, 2 or 3 bytes (01, Characters).
+// Whitespace characters and line ends at a byte offset: characters of 1, 2 or 3 bytes (01, Characters). As in the definitions, the functions take a
+// text and a place in it, for a part of the text would move the place, and the bytes a, b and c of a character one by one.
 ghost use Rattle.std.specs.Prelude.{◌≡◌, false, ◌≤◌, length};
 ghost use Rattle.characters.specs.Class.{is_line_end, is_whitespace_byte};
 ghost use Rattle.characters.specs.Whitespace.{Width, byte, is_separator, whitespace_of, line_end_of, whitespace_len, line_end_len, at_whitespace, at_line_end};
@@ -62,7 +63,7 @@ pub fn whitespace_len(s: &[u8], i: usize) -> usize
     wide_whitespace_of(a, byte_at(s, i + 1), byte_at(s, i + 2))
 }
 
-// The same of a line end.
+// The same of a line end. One function for both would take its two tests and the measure behind them as parameters.
 #[tactic(auto, using(crate::proofs::Spaces::measuring_ends))]
 pub fn line_end_len(s: &[u8], i: usize) -> usize
     requires { i ≤ length s.now }

@@ -18,16 +18,16 @@ use Rattle.area.specs.declared.State.{State}
 use Rattle.area.specs.declared.AreaFull.{AreaFull}
 use Rattle.area.specs.declared.AreaName.TheVariants.{States}
 use Rattle.area.specs.Areas.{Pushed}
-use Rattle.area.specs.Records.{nth_state, state_at, state_bytes, state_width, most_states}
-use Rattle.area.specs.Contents.{append, contents, state_format, fault_format, Grows, Held}
-use Rattle.area.proofs.Contents.{contents-at, contents-length, state_sound, held_push}
+use Rattle.area.specs.Records.{nth_state, state_bytes, state_width, most_states}
+use Rattle.area.specs.Contents.{append, contents, state_format, fault_format, Grows}
+use Rattle.area.proofs.Contents.{state_sound, held_push}
 use Rattle.fault.specs.declared.Span.{Span}
 use Rattle.fault.specs.declared.Stop.{Stop}
 use Rattle.fault.specs.declared.Stop.TheVariants.{Fault, Full}
 use Rattle.fault.specs.declared.kinds.LexErrorKind.{LexErrorKind}
 use Rattle.fault.specs.declared.kinds.LexErrorKind.TheVariants.{InvalidStartStateName}
 use Rattle.fault.specs.Kinds.{kind_number}
-use Rattle.fault.specs.Step.{Out, go, bad, full, onto, written, outcome, Does}
+use Rattle.fault.specs.Step.{Out, go, bad, onto, written, outcome, Does}
 use Rattle.fault.specs.Faults.{add_repeat, DuplicateStartState, GrowsFaults}
 use Rattle.fault.proofs.Steps.{Loops, loops_stop, loops_ok, loops_err, going_start, does_go, does_bad, does_full, does_err, was_ok, holds_ok, holds_err, written_next}
 use Rattle.fault.proofs.Steps.{written_full, written_place, onto_place, bad_goes}

@@ -1,5 +1,5 @@
 -- Expected names, one after the other: a law for each way through a name, and the loop over them.
-use mathlib.Core.Path.{◌≡◌, refl, sym, ap, ◌∙◌}
+use mathlib.Core.Path.{◌≡◌, refl, sym, ◌∙◌}
 use mathlib.Core.Bool.{Bool, true, false, cond, not, ◌&&◌}
 use mathlib.Core.List.{List, [], ◌∷◌}
 use Prim.Native.Nat.{ℕ, ◌+◌, ◌-◌, ◌≤◌, ◌<◌}
@@ -26,7 +26,7 @@ use Rattle.fault.specs.declared.Stop.{Stop}
 use Rattle.fault.specs.declared.Stop.TheVariants.{Fault, Full}
 use Rattle.fault.specs.declared.kinds.LexErrorKind.TheVariants.{InvalidName}
 use Rattle.fault.specs.Kinds.{kind_number}
-use Rattle.fault.specs.Step.{Out, go, bad, full, Does, outcome, written}
+use Rattle.fault.specs.Step.{Out, go, bad, Does, outcome, written}
 use Rattle.fault.proofs.Steps.{Loops, loops_stop, loops_ok, loops_err, going_start, does_go, does_bad, does_full, does_err, was_ok, holds_ok, holds_err, written_next}
 use Rattle.fault.proofs.Steps.{written_full, written_place, bad_goes}
 use Rattle.declarations.specs.Declarations.{range, expected, is_quoted, declare_expected, expected_names}

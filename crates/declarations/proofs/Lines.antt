@@ -17,7 +17,6 @@ use Rattle.text.specs.Scan.{line_end, skip_blanks, find_whitespace, trim_end, tr
 use Rattle.characters.proofs.Tests.{by_test}
 use Rattle.characters.proofs.Walks.{first_to}
 use Rattle.characters.proofs.Spaces.{end_none_of_white}
-use Rattle.area.specs.declared.Expected.{Expected}
 use Rattle.area.specs.Contents.{contents, expected_format, Held}
 use Rattle.fault.specs.declared.Stop.{Stop}
 use Rattle.fault.specs.declared.Stop.TheVariants.{Fault}
@@ -35,7 +34,7 @@ use Rattle.declarations.specs.declared.Declaration.TheVariants.{States, Expectin
 use Rattle.declarations.specs.declared.NameCounts.{NameCounts}
 use Rattle.declarations.specs.declared.DeclarationCounts.{DeclarationCounts}
 use Rattle.declarations.specs.Declarations.{range, trimmed, word_end, first_word, rest_of, is_inclusive, is_exclusive, is_expecting, states_of, declaration_of}
-use Rattle.declarations.specs.Declarations.{Names, names, name_caps, Declared, Caps, with_names, with_expected, then_at, state_names, expected_names}
+use Rattle.declarations.specs.Declarations.{names, name_caps, Declared, Caps, with_names, with_expected, then_at, state_names, expected_names}
 use Rattle.declarations.specs.Declarations.{declare_as, declaration, next_declaration, end_declarations, declarations}
 use Rattle.declarations.specs.Answers.{HeldNames, names_in, HeldDeclared, declared_in, caps_of}
 

@@ -7,7 +7,8 @@ use native.Mathlib.Omega.{arith}
 use borrow.Author.Rules.{rules}
 use borrow.Author.Tests.{eq-eqb, ne_eqb}
 use lib.Dec.{eqb}
-use Rattle.characters.specs.Class.{is_letter, is_digit}
+use Rattle.std.specs.Char.{is_ascii_alphanumeric}
+use Rattle.characters.specs.Class.{within, is_letter, is_digit}
 use Rattle.characters.specs.Walk.{Between}
 use Rattle.characters.specs.Whitespace.{byte}
 use Rattle.text.specs.Range.{lookahead_is}
@@ -22,9 +23,18 @@ use Rattle.declarations.specs.Declarations.{Range, range, trimmed, word_end, fir
 use Rattle.declarations.specs.Declarations.{is_exclusive, is_expecting, expect_missing, states_of, declaration_of}
 use Rattle.declarations.specs.Stages.{declaration_by}
 
-pub alphanumeric_byte : (b : ℕ) (l d : Bool) → l ≡ is_letter b → d ≡ is_digit b → l || d ≡ is_alphanumeric b
-unfolding is_alphanumeric
-alphanumeric_byte b l d e f = rw (e, f)
+-- the library's test asks for a digit first
+pub alphanumeric_byte : (b : ℕ) (r : Bool) → r ≡ is_ascii_alphanumeric b → r ≡ is_alphanumeric b
+unfolding is_alphanumeric is_letter is_digit
+alphanumeric_byte b r e = e ∙ turn (within 0x30 0x39 b) (within 0x41 0x5a b) (within 0x61 0x7a b)
+  where
+    turn : (d u l : Bool) → (d || u) || l ≡ (u || l) || d
+    turn true true l = refl
+    turn true false true = refl
+    turn true false false = refl
+    turn false true l = refl
+    turn false false true = refl
+    turn false false false = refl
 
 -- ---- the first word
 

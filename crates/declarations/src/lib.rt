@@ -16,7 +16,7 @@ ghost use Rattle.declarations.specs.Phrases.{DoesDeclared};
 use fault::{LexErrorKind, Stop};
 use line::declaration_of;
 use missing::expected_names;
-use section::reader::{next_declaration, past_blanks};
+use section::reader::{Line, next_declaration, past_blanks};
 use section::{LexFile, in_section};
 use states::declare_start_states;
 use text::range::lookahead_is;
@@ -43,31 +43,33 @@ pub struct DeclarationCounts {
     pub expected: u16,
 }
 
-// The declaration in the line from i to e.
+// The declaration in the line.
 #[tactic(auto, using(crate::proofs::Lines::lining_up))]
 fn parse_declaration(
     file: LexFile,
-    i: usize,
-    e: usize,
+    line: Line,
     counts: &mut DeclarationCounts,
     area1: &mut [u8],
     area5: &mut [u8],
     area6: &mut [u8],
 ) -> Result<usize, Stop>
-    requires i_le_e { (i ≤ e) × (e ≤ length file.source.now) }
+    requires line_inside { (line.start ≤ line.end) × (line.end ≤ length file.source.now) }
     requires held_declared { HeldDeclared area1.old area5.old area6.old counts.old }
-    ensures { DoesDeclared (λ k. declaration file.entry.source.now k i e) area1 area5 area6 counts result }
+    ensures { DoesDeclared (λ k. declaration file.entry.source.now k line.start line.end) area1 area5 area6 counts result }
 {
-    match declaration_of(file.source, i, e) {
+    match declaration_of(file.source, line) {
         Declaration::States(exclusive, a, t) => {
-            declare_start_states(file, exclusive, a, t, &mut counts.names, area1, area6)?;
-            Ok(e)
+            let part = Line { start: a, end: t };
+            declare_start_states(file, exclusive, part, &mut counts.names, area1, area6)?;
+            Ok(line.end)
         }
         Declaration::Expecting(w) => {
-            expected_names(file, i as u16, e, w, area5, &mut counts.expected)?;
-            Ok(e)
+            expected_names(file, line, w, area5, &mut counts.expected)?;
+            Ok(line.end)
         }
-        Declaration::Unknown => Err(Stop::Fault(LexErrorKind::UnknownDeclaration, i as u16)),
+        Declaration::Unknown => {
+            Err(Stop::Fault(LexErrorKind::UnknownDeclaration, line.start as u16))
+        }
     }
 }
 
@@ -87,7 +89,7 @@ pub fn parse_declarations(
 {
     let mut line = next_declaration(file.source, file.flags, i);
     while in_section(file.source, line.start) {
-        parse_declaration(file, line.start, line.end, counts, area1, area5, area6)?;
+        parse_declaration(file, line, counts, area1, area5, area6)?;
         line = next_declaration(file.source, file.flags, line.end);
     }
     let Some(j) = lookahead_is(file.source, b"%%", line.start) else {

@@ -9,64 +9,67 @@ ghost use Rattle.declarations.specs.Declarations.{range, is_quoted, declare_expe
 use area::{Expected, push};
 use fault::{LexErrorKind, Stop};
 use section::LexFile;
+use section::reader::Line;
 use text::scan::{find_ascii_whitespace, skip_ascii_whitespace};
 
 #[tactic(auto, using(crate::proofs::Expecting::quoting))]
-fn is_quoted(src: &[u8], a: usize, e: usize) -> bool
-    requires { (a ≤ e) × (e ≤ length src.now) }
-    ensures { result ≡ is_quoted src.now (range a e) }
+fn is_quoted(src: &[u8], word: Line) -> bool
+    requires { (word.start ≤ word.end) × (word.end ≤ length src.now) }
+    ensures { result ≡ is_quoted src.now (range word.start word.end) }
 {
-    if e - a < 2 {
+    if word.end - word.start < 2 {
         return false;
     }
-    (src[a] == b'"') & (src[e - 1] == b'"')
+    (src[word.start] == b'"') & (src[word.end - 1] == b'"')
 }
 
-// The next name from a on, in the line from i to e.
+// The next name of the line, from a on.
 #[tactic(auto, using(crate::proofs::Expecting::expecting))]
 fn next_expected(
     file: LexFile,
-    i: u16,
-    e: usize,
+    line: Line,
     a: usize,
     area: &mut [u8],
     count: &mut u16,
 ) -> Result<usize, Stop>
-    requires a_lt_e { (a < e) × (e ≤ length file.source.now) }
+    requires line_inside { (line.start ≤ line.end) × (line.end ≤ length file.source.now) }
+    requires a_lt_end { a < line.end }
     requires held { Held expected_format area.old count.old }
     ensures { DoesRecords expected_format
-        (λ c5. declare_expected file.entry.source.now c5 (range i e) (range a (find_ascii_whitespace file.entry.source.now a e)))
+        (λ c5. declare_expected file.entry.source.now c5 (range line.start line.end)
+        (range a (find_ascii_whitespace file.entry.source.now a line.end)))
         area count result }
 {
-    let end = find_ascii_whitespace(file.source, a, e);
-    if is_quoted(file.source, a, end) {
+    let end = find_ascii_whitespace(file.source, a, line.end);
+    if is_quoted(file.source, Line { start: a, end }) {
         let name = Expected {
             start: (a + 1) as u16,
             end: (end - 1) as u16,
         };
         *count = push(area, *count, name)?;
-        return Ok(skip_ascii_whitespace(file.source, end, e));
+        return Ok(skip_ascii_whitespace(file.source, end, line.end));
     }
-    Err(Stop::Fault(LexErrorKind::InvalidName, i))
+    Err(Stop::Fault(LexErrorKind::InvalidName, line.start as u16))
 }
 
-// The names from w to the line's end e, each as far as it goes: no index is counted.
+// The names from w to the line's end, each as far as it goes: no index is counted.
 #[tactic(auto, using(crate::proofs::Expecting::expecting_all))]
 pub fn expected_names(
     file: LexFile,
-    i: u16,
-    e: usize,
+    line: Line,
     w: usize,
     area: &mut [u8],
     count: &mut u16,
 ) -> Result<usize, Stop>
-    requires w_le_e { (w ≤ e) × (e ≤ length file.source.now) }
+    requires line_inside { (line.start ≤ line.end) × (line.end ≤ length file.source.now) }
+    requires w_le_end { w ≤ line.end }
     requires held { Held expected_format area.old count.old }
-    ensures { DoesRecords expected_format (λ c5. expected_names file.entry.source.now c5 (range i e) w) area count result }
+    ensures { DoesRecords expected_format (λ c5. expected_names file.entry.source.now c5 (range line.start line.end) w)
+        area count result }
 {
-    let mut a = skip_ascii_whitespace(file.source, w, e);
-    while a < e {
-        a = next_expected(file, i, e, a, area, count)?;
+    let mut a = skip_ascii_whitespace(file.source, w, line.end);
+    while a < line.end {
+        a = next_expected(file, line, a, area, count)?;
     }
     Ok(a)
 }

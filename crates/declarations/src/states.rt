@@ -14,6 +14,7 @@ use characters::whitespace::whitespace_len;
 use fault::{LexErrorKind, Span, Stop, add_duplicate_occurrence};
 use names::{get_start_state_by_name, validate_start_state_name};
 use section::LexFile;
+use section::reader::Line;
 use text::scan::find_whitespace;
 
 // The span of the state that has the name from a to e, if there is one.
@@ -58,44 +59,42 @@ fn declare_state(
     let next = e + whitespace_len(file.source, e);
     let start = a as u16;
     let end = e as u16;
-    match validate_start_state(file.source, a, e, &Records::new(area1, counts.states)) {
-        Err(kind) => Err(Stop::Fault(kind, start)),
-        Ok(Some(first)) => {
+    let named = validate_start_state(file.source, a, e, &Records::new(area1, counts.states));
+    match named.map_err(|kind| Stop::Fault(kind, start))? {
+        Some(first) => {
             let kind = LexErrorKind::DuplicateStartState;
             let again = Span { start, end };
             counts.faults = add_duplicate_occurrence(area6, counts.faults, kind, first, again)?;
-            Ok(next)
         }
-        Ok(None) => {
+        None => {
             let x = State {
                 start,
                 end,
                 exclusive,
             };
             counts.states = push(area1, counts.states, x)?;
-            Ok(next)
         }
     }
+    Ok(next)
 }
 
-// Declares the names from a to t, each as far as it goes: no index is counted.
+// Declares the names in a part of the line, each as far as it goes: no index is counted.
 #[tactic(auto, using(crate::proofs::Declares::declaring_all))]
 pub fn declare_start_states(
     file: LexFile,
     exclusive: u16,
-    a: usize,
-    t: usize,
+    part: Line,
     counts: &mut NameCounts,
     area1: &mut [u8],
     area6: &mut [u8],
 ) -> Result<usize, Stop>
-    requires t_in_bounds { t ≤ length file.source.now }
+    requires end_in_bounds { part.end ≤ length file.source.now }
     requires held_names { HeldNames area1.old area6.old counts.old }
-    ensures { DoesNames (λ k. state_names file.entry.source.now k exclusive (range a t)) area1 area6 counts result }
+    ensures { DoesNames (λ k. state_names file.entry.source.now k exclusive (range part.start part.end)) area1 area6 counts result }
 {
-    let mut at = a;
-    while at < t {
-        let e = find_whitespace(file.source, at, t);
+    let mut at = part.start;
+    while at < part.end {
+        let e = find_whitespace(file.source, at, part.end);
         at = declare_state(file, exclusive, at, e, counts, area1, area6)?;
     }
     Ok(at)

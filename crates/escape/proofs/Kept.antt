@@ -5,18 +5,15 @@ use mathlib.Core.List.{List}
 use Prim.Native.Nat.{ℕ, ◌+◌}
 use borrow.Author.Rules.{rules}
 use lib.Dec.{ltb, eqb}
+use Rattle.std.proofs.Math.Bool.{or-false}
 use Rattle.characters.specs.Class.{is_hex_digit, is_always_kept}
 use Rattle.characters.specs.Whitespace.{byte}
 use Rattle.escape.specs.Escape.{is_code_letter, is_code, is_kept_by, is_kept}
 use Rattle.escape.specs.Phrases.{starts_code}
 
-or_false : (p : Bool) → p ≡ p || false
-or_false true = refl
-or_false false = refl
-
 pub code_letter : (b : ℕ) → eqb b 0x78 || (eqb b 0x75 || eqb b 0x55) ≡ is_code_letter b
 unfolding is_code_letter
-code_letter b = ap (λ (t : Bool). eqb b 0x78 || (eqb b 0x75 || t)) (or_false (eqb b 0x55))
+code_letter b = ap (λ (t : Bool). eqb b 0x78 || (eqb b 0x75 || t)) (sym (or-false (eqb b 0x55)))
 
 module _ (s : List ℕ) (c q x : ℕ) (r : Bool) (is : x ≡ byte s q) where
   pub code_behind : (y : ℕ) (h : Bool) → r ≡ is_code_letter x → r ≡ true → y ≡ byte s (q + 1) → h ≡ is_hex_digit y → ltb (q + 1) c && h ≡ starts_code s c q

@@ -30,9 +30,6 @@ pub record Writing (whole l : List ℕ) (n : ℕ) (rest a : List ℕ) (m : ℕ) 
   pub has : text_in a m ≡ text_in l n ++ done
   pub long : length a ≡ length l
 
-pub writing_start : {whole l : List ℕ} {n : ℕ} → Held text_format l n → Writing whole l n whole l n
-writing_start {whole} {l} {n} h = record { done = []; same = refl; held = h; has = sym (append-nil (text_in l n)); long = refl }
-
 written : {whole l : List ℕ} {n : ℕ} {rest a : List ℕ} {m : ℕ} (w : Writing whole l n rest a m) → m ≡ length (text_in l n) + length w.done
 written {l = l} {n = n} w =
     sym (contents-length text_sound w.held) ∙ ap length w.has ∙ length-append (text_in l n) w.done

@@ -185,9 +185,9 @@ fn push_backspace(flags: u64, area: &mut [u8], n: u16) -> Result<u16, AreaFull>
     ensures { PushedText (backspace flags) area.old n result area.new }
 {
     if posix_escapes(flags) {
-        return push_text(area, n, b"\\x08", 0, 4);
+        return push_text(area, n, b"\\x08");
     }
-    push_text(area, n, b"\\b", 0, 2)
+    push_text(area, n, b"\\b")
 }
 
 impl<'a> Pattern<'a> {
@@ -212,7 +212,7 @@ impl<'a> Pattern<'a> {
         if byte_at(self.source, e.start) == b'b' {
             return push_backspace(flags, area, n);
         }
-        push_text(area, n, self.source, self.escape_from(e), e.end)
+        push_text(area, n, &self.source[self.escape_from(e)..e.end])
     }
 }
 
@@ -240,10 +240,10 @@ pub fn unescape(
     let mut count = n;
     for e in (Escapes { pattern, at: i }) {
         if p < e.backslash {
-            count = push_text(area, count, src, p, e.backslash)?;
+            count = push_text(area, count, &src[p..e.backslash])?;
         }
         count = pattern.push_escape(flags, e, area, count)?;
         p = e.end;
     }
-    push_text(area, count, src, p, pattern.text_end(p))
+    push_text(area, count, &src[p..pattern.text_end(p)])
 }

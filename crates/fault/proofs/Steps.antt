@@ -6,10 +6,10 @@ use Prim.Native.Nat.{ℕ, zero, suc, ◌+◌, ◌≤◌, ◌<◌}
 use native.Mathlib.Omega.{arith}
 use mathlib.Core.Option.{Option, none, some}
 use mathlib.Core.List.{List}
-use Rattle.std.specs.Prelude.{Result, Ok, Err}
+use Rattle.std.specs.Prelude.{Result, Ok, Err, IsErrAnd}
+use Rattle.std.proofs.lemmas.Result.{err_from_is_err_and}
 use Rattle.area.specs.declared.AreaFull.{AreaFull}
 use Rattle.area.specs.Contents.{Format, contents, left_by}
-use Rattle.area.specs.Areas.{full as full-area}
 use Rattle.fault.specs.declared.Stop.{Stop}
 use Rattle.fault.specs.declared.Stop.TheVariants.{Fault, Full}
 use Rattle.fault.specs.Kinds.{kind_number}
@@ -153,6 +153,12 @@ module _ {S Q : Type 0} {H : Q → Type 0} {f : S → Out S} {s : S} {view : Q �
     holds_err (Fault kind at) e z = d.ends (kind_number kind) at q (ap (λ (y : Result ℕ Stop). outcome y q) e)
     holds_err (Full name) e z = absurd z
 
+  -- where `?` passes on the error x, its answer r comes to what x comes to
+  pub passed_on : (x : Stop) (r : Result ℕ Stop) (q : Q) → IsErrAnd r (λ y. y ≡ x) → Does H f s view (outcome (Err x) q) → Does H f s view (outcome r q)
+  passed_on x r q e d =
+      let p = err_from_is_err_and r e in
+      rw (p.1, p.2) d
+
 -- what an append to an area writes, or that it is full
 module _ {A : Type 0} (F : Format A) (n i : ℕ) (f : Option (List A)) (e : List ℕ) (r : Result ℕ AreaFull) (is : f ≡ left_by F e r) where
   pub written_next : {m : ℕ} → r ≡ Ok m → written n i f ≡ go i (contents F e m)
@@ -160,10 +166,6 @@ module _ {A : Type 0} (F : Format A) (n i : ℕ) (f : Option (List A)) (e : List
 
   pub written_full : {x : AreaFull} → r ≡ Err x → written n i f ≡ full n
   written_full q = ap (written n i) (is ∙ ap (left_by F e) q)
-
--- the area that is full, as what ends the parse
-pub stop_full : {A : Type 0} (F : Format A) {x : AreaFull} → x ≡ full-area F.name → Full x.0 ≡ Full F.name
-stop_full F q = ap (λ (y : AreaFull). Full y.0) q
 
 -- ---- where a step that goes on goes
 

@@ -13,7 +13,7 @@ ghost use Rattle.fault.specs.Faults.{next_number, add_fault, starts_fault, is_fa
 
 pub use crate::kinds::LexErrorKind;
 use area::list::Records;
-use area::{AreaFull, AreaName, FAULT_WIDTH, Fault, MOST_OTHERS, has_room, insert, push};
+use area::{AreaFull, AreaName, Fault, has_room, insert, push};
 use characters::walk::find_last;
 
 // What ends a parse, as the error of a step's Result: a fault of a kind at a place, or an area that is full.
@@ -56,15 +56,9 @@ fn next_number(spans: &Records<Fault>) -> u16
 }
 
 // A fault of one span behind the others. What writes takes the area beside its count: a struct of both that is lent again gets no proof.
-pub fn add_fault(
-    area: &mut [u8],
-    n: u16,
-    kind: LexErrorKind,
-    start: u16,
-    end: u16,
-) -> Result<u16, AreaFull>
+pub fn add_fault(area: &mut [u8], n: u16, kind: LexErrorKind, span: Span) -> Result<u16, AreaFull>
     requires { HeldFaults area.old n }
-    ensures { GrowsFaults (add_fault (length area.old) (kind_number kind) start end) area.old n result area.new }
+    ensures { GrowsFaults (add_fault (length area.old) (kind_number kind) span.start span.end) area.old n result area.new }
 {
     let number = next_number(&Records::new(area, n));
     let code = u16::from(kind);
@@ -74,8 +68,8 @@ pub fn add_fault(
         Fault {
             number,
             kind: code,
-            start,
-            end,
+            start: span.start,
+            end: span.end,
         },
     )
 }
@@ -130,7 +124,7 @@ fn add_span(area: &mut [u8], n: u16, j: usize, second: Span) -> Result<u16, Area
     ensures { GrowsFaults (add_span (length area.old) j second.start second.end) area.old n result area.new }
 {
     let count = n as usize;
-    if has_room(area.len(), FAULT_WIDTH, MOST_OTHERS, count, 1) {
+    if has_room::<Fault>(area, count, 1) {
         let spans = Records::<Fault>::new(area, n);
         let x = spans.get(j);
         let p = fault_end(&spans, x.number);
@@ -153,7 +147,7 @@ fn add_pair(area: &mut [u8], n: u16, kind: u16, first: Span, second: Span) -> Re
         area.old n result area.new }
 {
     let count = n as usize;
-    if has_room(area.len(), FAULT_WIDTH, MOST_OTHERS, count, 2) {
+    if has_room::<Fault>(area, count, 2) {
         let number = next_number(&Records::new(area, n));
         let one = Fault {
             number,

@@ -3,10 +3,10 @@
 use Rattle.characters.specs.Computing.{computing as characters-computing}
 use Rattle.area.specs.Computing.{computing as area-computing}
 use Rattle.winner.specs.Computing.{computing as winner-computing}
-use Rattle.input_check.specs.InputCheck.{good_text, length_fits, good_row}
+use Rattle.input_check.specs.InputCheck.{good_text, length_fits}
 
 unfoldable input_check_file : Unit {0}
-unfolding good_text length_fits good_row
+unfolding good_text length_fits
 input_check_file = tt
 
 unfoldable pub computing : Unit {0}

@@ -1,3 +1,2 @@
 pub mod InputCheck
-pub mod Top
 pub mod Computing

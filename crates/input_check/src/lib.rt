@@ -2,17 +2,15 @@
 // Lengths count from a place in the text, and what they end at is asked of the text: a part of it would move that place.
 #![tactic(auto)]
 
-ghost use Rattle.std.specs.Prelude.{◌≡◌, ◌+◌, ◌*◌, ◌≤◌, length};
+ghost use Rattle.std.specs.Prelude.{◌≡◌, ◌+◌, ◌≤◌, length};
 ghost use Rattle.area.specs.Contents.{contents, entry_format};
 ghost use Rattle.area.specs.Lists.{all};
-ghost use Rattle.area.specs.Records.{entry_width};
 ghost use Rattle.characters.specs.Utf8.{is_continuation, is_edge};
 ghost use Rattle.characters.specs.Walk.{any};
 ghost use Rattle.characters.specs.Whitespace.{byte};
 ghost use Rattle.input_check.specs.InputCheck.{good_text, length_fits};
-ghost use Rattle.input_check.specs.Top.{RowTopIs};
+ghost use Rattle.winner.specs.Top.{RowTopIs};
 
-use area::ENTRY_WIDTH;
 use area::list::Records;
 use characters::utf8::{is_continuation, is_edge, utf8};
 use characters::walk::any_of;
@@ -71,13 +69,9 @@ pub fn row_top<'a>(
     requires { position + left ≤ length text.now }
     ensures { RowTopIs (length_fits text.now left position) rules row.now result }
 {
-    if row.len() != rules as usize * ENTRY_WIDTH {
+    let Some(lengths) = Row::fitting(row, rules, left) else {
         return None;
-    }
-    let lengths = Row::new(row, rules);
-    if left < lengths.top {
-        return None;
-    }
+    };
     if all_at_edge(text, position, lengths) {
         return Some(lengths);
     }

@@ -1,6 +1,7 @@
 -- The quick tests are right where they pass. A number that bits are joined to is 0 only where it was 0 and they are (`or_none`), so at the end
 -- each lane of each rule keeps its limits, and the limits of its lanes are those of a rule's fields and sums.
-use Rattle.std.proofs.Common.{◌≡◌, ℕ, zero, suc, ◌+◌, ◌-◌, ◌*◌, ◌%◌, ◌<◌, ◌≤◌, min, Bool, true, false, eqb, List, [], ◌∷◌, length, get_or, set, sym, refl, ap, ◌∙◌, subst, ⊎_elim, arith, length-set, get_or-set_other, get_or-set_same, eqb-true}
+use Rattle.std.proofs.Common.{◌≡◌, ℕ, zero, suc, ◌+◌, ◌-◌, ◌*◌, ◌%◌, ◌<◌, ◌≤◌, min, Bool, true, false, eqb, List, [], ◌∷◌, length, get_or, set}
+use Rattle.std.proofs.Common.{sym, refl, ap, ◌∙◌, subst, ⊎_elim, arith, length-set, get_or-set_other, get_or-set_same, eqb-true}
 use Rattle.std.specs.List.{fold}
 use borrow.Author.Tests.{eqb-false}
 use lib.Bits.{bit_and, bit_or, or_add_and, and_le_l, and_le_r, and_zero_r, or_zero_l, or_zero_r}
@@ -23,13 +24,6 @@ module _ (x : Lane) where
   fields_within heres order lasts a b p q e =
       let z = or_none a b e in
       record { here = omega (arith, p, z.0); last = omega (arith, q, z.1) }
-
-  pub sum_within : (sums more s p limit r : ℕ) → s ≡ min (x.from + x.last) 65535 → p ≡ (x.place * more) % 65536
-      → limit ≡ (sums + p) % 65536 → r ≡ s - limit → r ≡ 0 → SumWithin x sums more
-  sum_within sums more s p limit r is product added over e =
-      let h : s ≤ limit = omega (arith, over, e) in
-      let g : limit ≡ (sums + (x.place * more) % 65536) % 65536 = added ∙ ap (λ (v : ℕ). (sums + v) % 65536) product in
-      record { inside = subst (λ (v : ℕ). min (x.from + x.last) 65535 ≤ v) g (subst (λ (v : ℕ). v ≤ limit) is h) }
 
 -- ---- lanes, joined
 
@@ -242,9 +236,6 @@ rules_within l limits count source highest entries text f t joined none small ar
 -- ---- the entries of an area
 
 module _ (l : List ℕ) (from highest : ℕ) where
-  pub entries_none : EntriesWithin l from from highest
-  entries_none = record { each = λ i h g. absurd (omega (arith, h, g)) }
-
   pub entries_next : (k : ℕ) → EntriesWithin l from k highest → entry_at l k ≤ highest → EntriesWithin l from (k + 1) highest
   entries_next k before h = record {
     each = λ i g w. ⊎_elim
@@ -255,10 +246,6 @@ module _ (l : List ℕ) (from highest : ℕ) where
 
   pub entries_to : (k n : ℕ) → k ≡ n → EntriesWithin l from k highest → EntriesWithin l from n highest
   entries_to k n e before = subst (λ (m : ℕ). EntriesWithin l from m highest) e before
-
-  pub entries_join : (k m n : ℕ) → EntriesWithin l from k highest → EntriesWithin l m n highest → m ≤ k → EntriesWithin l from n highest
-  entries_join k m n before behind h =
-      record { each = λ i g w. ⊎_elim (λ e. behind.each i (omega (arith, h, e)) w) (λ e. before.each i g e) (le_or_lt k i) }
 
   -- an excess is joined to those before
   pub excess_next : (k excess a x : ℕ) → (excess ≡ 0 → EntriesWithin l from k highest) → x ≡ entry_at l k → a ≡ x - highest → bit_or excess a ≡ 0

@@ -1,6 +1,7 @@
 // Quick tests of the rules and the list entries of a sheet, eight fields at a time. The compiler makes one vector of each eight, so every
 // lane does what every other does, and a field that is not asked for has no limit. Where a test passes, every record keeps the limits; where
-// it does not, nothing is known.
+// it does not, nothing is known. The areas are lent as bytes, with a place or a count: a lane goes by the numbers of its fields, and a record of the
+// list that `area` has knows its fields by name.
 #![tactic(auto)]
 
 ghost use Rattle.std.specs.Prelude.{◌≡◌, ◌+◌, ◌*◌, ◌≤◌, true, length, bit_or};

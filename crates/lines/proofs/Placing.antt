@@ -1,14 +1,15 @@
 -- The place of an offset: it begins at line 1 and column 1 and goes on block by block; number 11 where the offset is not allowed.
 use mathlib.Core.Path.{◌≡◌, sym, ap, ◌∙◌}
-use mathlib.Core.Bool.{Bool, true, false, not}
+use mathlib.Core.Bool.{Bool, true, false}
 use mathlib.Core.List.{List}
-use Prim.Native.Nat.{ℕ, ◌≤◌, ◌<◌}
+use Prim.Native.Nat.{ℕ, ◌≤◌}
 use native.Mathlib.Omega.{arith}
-use borrow.Author.Tests.{le-leb, lt-leb}
+use borrow.Author.Tests.{leb-true}
+use lib.Dec.{leb}
 use lib.ListN.{length}
 use Rattle.std.specs.Prelude.{Ok, Err}
-use Rattle.characters.specs.Utf8.{is_continuation, at_edge}
-use Rattle.characters.specs.Whitespace.{byte}
+use Rattle.characters.specs.Utf8.{at_edge, is_edge}
+use Rattle.characters.proofs.Tests.{and_left}
 use Rattle.lines.specs.declared.Place.{Place}
 use Rattle.lines.specs.declared.PlaceError.TheVariants.{NoSuchPlace}
 use Rattle.lines.specs.Lines.{line_num, col_num, place, place_in}
@@ -27,21 +28,16 @@ place_begins s p is = is ∙ first_placed s
 
 -- ---- number 11
 
-module _ (s : List ℕ) (b : ℕ) where
-  pub place_above : length s < b → Err NoSuchPlace ≡ place_in s b
+module _ (s : List ℕ) (b : ℕ) (r : Bool) (is : r ≡ is_edge s b) where
+  pub no_place : r ≡ false → Err NoSuchPlace ≡ place_in s b
   unfolding place_in
-  place_above h = rw (lt-leb b (length s) h)
+  no_place t = rw (← is, t)
 
-  module _ (h : b ≤ length s) (x : ℕ) (q : x ≡ byte s b) (r : Bool) (inside : r ≡ is_continuation x) where
-    edge_answer : at_edge s b ≡ not r
-    edge_answer = ap (λ (y : ℕ). not (is_continuation y)) (sym q) ∙ ap not (sym inside)
+  pub place_known : (p : Place) → r ≡ true → p ≡ place_at s b → Ok p ≡ place_in s b
+  unfolding place_in place_at
+  place_known p t at = rw (← is, t) (ap Ok at)
 
-    pub place_inside : r ≡ true → Err NoSuchPlace ≡ place_in s b
-    unfolding place_in
-    place_inside t = rw (le-leb b (length s) h, edge_answer, t)
+  pub edge_inside : r ≡ true → b ≤ length s
+  edge_inside t = leb-true b (length s) (and_left (leb b (length s)) (at_edge s b) (sym is ∙ t))
 
-    pub place_known : (p : Place) → r ≡ false → p ≡ place_at s b → Ok p ≡ place_in s b
-    unfolding place_in place_at
-    place_known p t is = rw (le-leb b (length s) h, edge_answer, t) (ap Ok is)
-
-pub ruleset judging_offset = (place_above, place_inside, place_known)
+pub ruleset judging_offset = (no_place, place_known, edge_inside)

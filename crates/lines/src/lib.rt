@@ -7,6 +7,12 @@ mod counts; // what is counted in a block
 mod places; // from offset to place
 mod search; // from place to offset
 
+ghost use Rattle.std.specs.Prelude.{◌≡◌};
+ghost use Rattle.answers.specs.Numbers.{number_of};
+ghost use Rattle.lines.specs.Lines.{refusal_number};
+
+use answers::Number;
+
 // A byte offset.
 #[derive(Clone, Copy, PartialEq, Eq, PartialOrd, Ord, Debug)]
 pub struct Byte(pub usize);
@@ -36,4 +42,17 @@ pub enum PlaceError {
     LongFile,
     InvalidUtf8,
     NoSuchPlace,
+}
+
+impl From<PlaceError> for Number {
+    ghost from_gives = { λ error number. number_of number ≡ refusal_number error };
+
+    #[tactic(auto, unfolding(crate::specs::Lines::refusal_number))]
+    fn from(error: PlaceError) -> Number {
+        match error {
+            PlaceError::LongFile => Number::LongFile,
+            PlaceError::InvalidUtf8 => Number::InvalidUtf8,
+            PlaceError::NoSuchPlace => Number::NoSuchPlace,
+        }
+    }
 }

@@ -5,8 +5,7 @@ ghost use Rattle.lines.specs.Places.{place_at, is_past};
 
 use crate::counts::{Block, Source};
 use crate::{Byte, ColNum, LineNum, Place, PlaceError};
-use characters::utf8::is_continuation;
-use characters::whitespace::byte_at;
+use characters::utf8::is_edge;
 
 // How many bytes are looked at together.
 pub const BLOCK: usize = 64;
@@ -84,11 +83,7 @@ impl Source<'_> {
     pub fn place_in(&self, byte: Byte) -> Result<Place, PlaceError>
         ensures { result ≡ place_in self.now.bytes.now byte.0 }
     {
-        let b = byte.0;
-        if b > self.bytes.len() {
-            return Err(PlaceError::NoSuchPlace);
-        }
-        if is_continuation(byte_at(self.bytes, b)) {
+        if !is_edge(self.bytes, byte.0) {
             return Err(PlaceError::NoSuchPlace);
         }
         Ok(self.place_of(byte))

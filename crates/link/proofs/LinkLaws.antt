@@ -23,6 +23,7 @@ use Rattle.sheet_check.specs.declared.Sizes.{Sizes}
 use Rattle.sheet_check.specs.SheetCheck.{SheetBytes, sheet_bytes, name_in, count, decoded, sizes_of, mark, ordered, within, declared, text_bytes, good_rule, good_records, sheet_check}
 use Rattle.area.proofs.All.{all_map}
 use Rattle.sheet_check.proofs.Checked.{GoodRecords, good_rule_lem, checked_sizes, checked_long, checked_records, rules_count}
+use Rattle.link.specs.declared.LinkArea.TheVariants.{Unmapped, Unused}
 use Rattle.link.specs.declared.LinkError.TheVariants.{BrokenSheet, BrokenMap, AreaFull}
 use Rattle.name_map.specs.Map.{Entry, entries_of, nth, id_at, id_of, distinct, map_check}
 use Rattle.link.specs.Link.{is_named, with_id, with_found, link_rule, link_rules, LinkAnswer, linked_answer, LinkLeft, link_left, fits, unmapped, unused, link_all, link_checked, link_call}
@@ -164,7 +165,7 @@ module _ (b : SheetBytes) (names entries x7 x8 : List ℕ) where
   -- area 2 is as it was, or it has the linked rules
   module _ (P : List ℕ → Type 0) (p : P b.area2) where
     by_areas : (t u : Bool) → P (relaid rule_format b.area2 (link_rules (name_in b) es (decoded b).rules))
-        → P (cond t (cond u done (refused (Err (AreaFull 8)))) (refused (Err (AreaFull 7)))).area2
+        → P (cond t (cond u done (refused (Err (AreaFull Unused)))) (refused (Err (AreaFull Unmapped)))).area2
     unfolding link_all
     by_areas true true q = q
     by_areas true false q = p

@@ -5,17 +5,17 @@ use mathlib.Core.Path.{◌≡◌, refl, sym, ap, ◌∙◌}
 use mathlib.Core.Bool.{Bool, true, false, cond}
 use mathlib.Core.List.{List}
 use Prim.Native.Nat.{ℕ, ◌+◌, ◌*◌, ◌≤◌, ◌<◌}
+use native.Mathlib.Omega.{arith}
 use borrow.Author.Tests.{eqb-true, eq-eqb, ne_eqb}
 use lib.Dec.{ltb}
 use lib.ListN.{length, get_or}
 use Rattle.area.specs.declared.Rule.{Rule}
-use Rattle.area.specs.Records.{rule_width, rule_at, rule_bytes}
+use Rattle.area.specs.Records.{rule_width, rule_at, rule_bytes, nth_rule}
 use Rattle.area.specs.Contents.{contents, rule_format, relaid}
-use Rattle.area.proofs.Contents.{rule_sound}
+use Rattle.area.proofs.Contents.{rule_sound, contents_read}
 use Rattle.area.proofs.Relaid.{rule_local, after_none, after_read, after_next}
 use Rattle.area.proofs.Rooms.{record_fits}
 use lib.Seq.{sets}
-use Rattle.name_map.proofs.Maps.{some_found}
 use Rattle.name_map.specs.Map.{Entry, nth, find_entry, found_entry, option_of, id_at, id_of}
 use mathlib.Core.Option as M
 use mathlib.Core.Option.{some, none}
@@ -63,17 +63,15 @@ module _ (name : Rule → List ℕ) (es : List Entry) (l : List ℕ) where
   unfolding link_rules
   rules_none = after_none rule_sound rule_local (link_rule name es) l
 
-  module _ (k count : ℕ) (a : List ℕ) (is : a ≡ linked_to k) (h : k < count) (found : List (Option ℕ)) (F : EntriesFound name es l count found) (x : Rule)
-      (read : x ≡ rule_at a k) where
-    as_before : x ≡ rule_at l k
+  module _ (k count : ℕ) (a : List ℕ) (is : a ≡ linked_to k) (h : k < count) (found : List (Option ℕ))
+      (F : EntriesFound name es (contents rule_format l count) count found) (x : Rule) (read : x ≡ rule_at a k) where
+    as_before : x ≡ nth_rule (contents rule_format l count) k
     unfolding link_rules
-    as_before = read ∙ after_read rule_sound rule_local (link_rule name es) l k a is
+    as_before = read ∙ after_read rule_sound rule_local (link_rule name es) l k a is ∙ sym (contents_read rule_format l count k h)
 
     by_name : x.named ≡ 1 → get_or found k None ≡ found_entry es (name x)
-    by_name named = F.each k h (ap (λ (w : Rule). w.named) (sym as_before) ∙ named) ∙ ap (λ (w : Rule). found_entry es (name w)) (sym as_before)
-
-    pub found_inside : x.named ≡ 1 → (j : ℕ) → get_or found k None ≡ Some j → j < length es
-    found_inside named j e = (some_found es (name x) j (sym e ∙ by_name named)).0
+    by_name named =
+        F.each k h (ap (λ (w : Rule). w.named) (sym as_before) ∙ named) ∙ ap (λ (w : Rule). found_entry es (name w)) (sym as_before)
 
     pub rules_next : count * rule_width ≤ length a → (y : Rule) (e : List ℕ)
         → y ≡ link_to es (get_or found k None) x → e ≡ sets a (k * rule_width) (rule_bytes y) → e ≡ linked_to (k + 1)
@@ -81,3 +79,8 @@ module _ (name : Rule → List ℕ) (es : List Entry) (l : List ℕ) where
     rules_next long y e z p =
         after_next rule_sound rule_local (link_rule name es) l k a is x y e (record_fits rule_width (length a) count k h long) read
         (z ∙ linked_by name es (get_or found k None) x by_name) p
+
+  pub rules_all : (k count : ℕ) (a : List ℕ) → a ≡ linked_to k → count ≤ k → k ≤ count → a ≡ linked_to count
+  rules_all k count a is h g =
+      let q : k ≡ count = omega (arith, h, g) in
+      is ∙ ap linked_to q

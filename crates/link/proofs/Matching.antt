@@ -1,31 +1,32 @@
 -- One pass over the rules. The names of a map are distinct, so an entry has a rule's name exactly if it is the entry that was found for it. A named
 -- rule marks that entry alone; so the entries without a mark are the unused ones.
-use Rattle.std.specs.Prelude.{Option, Some, None}
+use Rattle.std.specs.Prelude.{Option, Some, None, is_some}
+use Rattle.std.specs.Option.{unwrap_or}
 use mathlib.Core.Path.{◌≡◌, refl, sym, ap, subst, ◌∙◌}
-use mathlib.Core.Bool.{Bool, true, false, not, ◌&&◌, and-true}
+use mathlib.Core.Bool.{Bool, true, false, not, ◌&&◌, and-true, false≢true}
 use mathlib.Core.List.{List}
 use mathlib.Core.Logic.{⊎_elim}
 use Prim.Native.Nat.{ℕ, ◌+◌, ◌≤◌, ◌<◌}
+use native.Mathlib.Numerals.{add-one}
 use native.Mathlib.Omega.{arith}
 use borrow.Author.Tests.{eqb-true, eqb-false, eq-eqb, ne_eqb, lt-ltb, le-ltb}
 use lib.Dec.{eqb}
-use lib.ListN.{length, get_or, set, replicate, length-set, length-replicate, get_or-replicate}
-use lib.Seq.{get_or-set_same, get_or-set_other}
+use lib.ListN.{length, get_or, set, take, replicate, length-set, length-replicate, get_or-replicate, get_or-eq_default}
+use lib.Seq.{get_or-set_same, get_or-set_other, take-suc, take-length}
 use Rattle.characters.proofs.Tests.{le_or_lt, and_false}
 use Rattle.characters.proofs.Firsts.{first_passes}
 use Rattle.text.specs.Range.{same_bytes}
 use Rattle.text.proofs.Ranges.{same_equal}
 use Rattle.area.specs.declared.Rule.{Rule}
-use Rattle.area.specs.Records.{most_rules, rule_at}
-use Rattle.area.specs.Contents.{contents, rule_format}
-use Rattle.area.specs.Lists.{numbers}
-use Rattle.area.proofs.All.{all_none, all_next}
-use Rattle.area.proofs.Numbers.{numbers_same, count_none, count_yes, count_no, counted, passes_at, record_fails, record_passes}
-use Rattle.name_map.specs.Map.{most_entries, entry_count, Entry, entries_of, nth, find_entry, found_entry, id_at, id_of, distinct}
-use Rattle.link.specs.Link.{is_none, is_unmapped, has_that_name, is_unused, unused}
-use Rattle.link.specs.Matches.{unmarked, EntriesFound, Matched}
-use Rattle.name_map.proofs.Maps.{some_found, none_found, entries_count, entry_first}
-use Rattle.link.proofs.Counting.{unmapped_is}
+use Rattle.area.specs.Records.{most_rules, nth_rule}
+use Rattle.area.specs.Contents.{rule_format}
+use Rattle.area.specs.Lists.{all, numbers}
+use Rattle.area.proofs.All.{all_one_more}
+use Rattle.area.proofs.Numbers.{numbers_same, count_none, count_yes, count_no}
+use Rattle.name_map.specs.Map.{most_entries, Entry, nth, find_entry, found_entry, id_at, id_of, distinct}
+use Rattle.link.specs.Link.{is_none, is_unmapped, has_that_name, is_unused, unmapped, unused}
+use Rattle.link.specs.Matches.{unmarked, FoundInside, EntriesFound, Matched}
+use Rattle.name_map.proofs.Maps.{some_found, none_found, entry_first}
 
 -- ---- an entry by a name
 
@@ -78,163 +79,202 @@ module _ (name : Rule → List ℕ) (es : List Entry) (x : Rule) where
 
 -- ---- the entries that were found for the first k rules
 
-module _ (name : Rule → List ℕ) (es : List Entry) (l : List ℕ) where
-  found_none : (found : List (Option ℕ)) → length found ≡ most_rules → EntriesFound name es l 0 found
-  found_none found long = record { long = long; each = λ i h. absurd (omega (arith, h)) }
+-- no mark is set and nothing is found at first, within the array and past its end
+blank_at : {A : Type 0} (n i : ℕ) (d : A) (l : List A) → l ≡ replicate n d → get_or l i d ≡ d
+blank_at {A} n i d l e = ap (λ (m : List A). get_or m i d) e ∙ ⊎_elim past inside (le_or_lt n i)
+  where
+    past : n ≤ i → get_or (replicate n d) i d ≡ d
+    past h = get_or-eq_default {A = A} (replicate n d) d {n = i} (omega (arith, h, length-replicate {A = A} n d))
 
-  module _ {k : ℕ} {found : List (Option ℕ)} (F : EntriesFound name es l k found) (x : Rule) (is : x ≡ rule_at l k) where
+    inside : i < n → get_or (replicate n d) i d ≡ d
+    inside h = get_or-replicate {A = A} n i d d h
+
+module _ (name : Rule → List ℕ) (es : List Entry) (xs : List Rule) where
+  -- nothing is found so far for the rules from k on
+  pub record Finding (k : ℕ) (found : List (Option ℕ)) : Type 0 where
+    pub kept : EntriesFound name es xs k found
+    pub inside : FoundInside es found
+    pub later : (i : ℕ) → k ≤ i → get_or found i None ≡ None
+    pub long : length found ≡ most_rules
+
+  found_none : (found : List (Option ℕ)) → found ≡ replicate most_rules None → Finding 0 found
+  found_none found e =
+      let nothing : (i : ℕ) → get_or found i None ≡ None = λ i. blank_at most_rules i None found e in
+      record {
+        kept = record { each = λ i h. absurd (omega (arith, h)) };
+        inside = record { each = λ i j q. absurd (false≢true (ap is_some (sym (nothing i) ∙ q))) };
+        later = λ i h. nothing i;
+        long = ap length e ∙ length-replicate {A = Option ℕ} most_rules None;
+      }
+
+  module _ {k : ℕ} {found : List (Option ℕ)} (F : Finding k found) where
     -- the rules before k, and rule k
-    found_next : (m : List (Option ℕ)) → length m ≡ length found → ((i : ℕ) → i < k → get_or m i None ≡ get_or found i None)
-        → (x.named ≡ 1 → get_or m k None ≡ found_entry es (name x)) → EntriesFound name es l (k + 1) m
-    found_next m long same here = record {
-      long = long ∙ F.long;
+    kept_next : (m : List (Option ℕ)) → ((i : ℕ) → i < k → get_or m i None ≡ get_or found i None)
+        → ((nth_rule xs k).named ≡ 1 → get_or m k None ≡ found_entry es (name (nth_rule xs k))) → EntriesFound name es xs (k + 1) m
+    kept_next m same here = record {
       each = λ i h. ⊎_elim
           (λ g.
           let q : k ≡ i = omega (arith, h, g) in
-          subst (λ (j : ℕ). (rule_at l j).named ≡ 1 → get_or m j None ≡ found_entry es (name (rule_at l j))) q
-          (subst (λ (y : Rule). y.named ≡ 1 → get_or m k None ≡ found_entry es (name y)) is here))
-          (λ g named. same i g ∙ F.each i g named)
+          subst (λ (j : ℕ). (nth_rule xs j).named ≡ 1 → get_or m j None ≡ found_entry es (name (nth_rule xs j))) q here)
+          (λ g named. same i g ∙ F.kept.each i g named)
           (le_or_lt k i);
     }
 
-    found_unnamed : (x.named ≡ 1 → ⊥) → EntriesFound name es l (k + 1) found
-    found_unnamed d = found_next found refl (λ i h. refl) (λ named. absurd (d named))
+    found_kept : ((nth_rule xs k).named ≡ 1 → None ≡ found_entry es (name (nth_rule xs k))) → Finding (k + 1) found
+    found_kept f = record {
+      kept = kept_next found (λ i h. refl) (λ named. F.later k (omega arith) ∙ f named);
+      inside = F.inside;
+      later = λ i h. F.later i (omega (arith, h));
+      long = F.long;
+    }
 
-    found-set : (o : Option ℕ) → o ≡ found_entry es (name x) → k < most_rules → EntriesFound name es l (k + 1) (set found k o)
-    found-set o is_found h =
-        found_next (set found k o) (length-set found k o)
-        (λ i g. get_or-set_other found k i o None (λ q. omega (arith, g, q)))
-        (λ _. get_or-set_same found k o None (omega (arith, h, F.long)) ∙ is_found)
+    found-set : (j : ℕ) → k < most_rules → j < length es → Some j ≡ found_entry es (name (nth_rule xs k)) → Finding (k + 1) (set found k (Some j))
+    found-set j few h is = record {
+      kept = kept_next (set found k (Some j)) (λ i g. other i (λ q. omega (arith, g, q))) (λ _. here ∙ is);
+      inside = record { each = λ i n q. inside i n q (eqb i k) refl };
+      later = λ i g. other i (λ q. omega (arith, g, q)) ∙ F.later i (omega (arith, g));
+      long = length-set found k (Some j) ∙ F.long;
+    }
+      where
+        here : get_or (set found k (Some j)) k None ≡ Some j
+        here = get_or-set_same found k (Some j) None (omega (arith, few, F.long))
+
+        other : (i : ℕ) → (i ≡ k → ⊥) → get_or (set found k (Some j)) i None ≡ get_or found i None
+        other i d = get_or-set_other found k i (Some j) None d
+
+        inside : (i n : ℕ) → get_or (set found k (Some j)) i None ≡ Some n → (t : Bool) → eqb i k ≡ t → n < length es
+        inside i n q true e =
+            let at : Some j ≡ Some n = sym here ∙ ap (λ (m : ℕ). get_or (set found k (Some j)) m None) (sym (eqb-true i k e)) ∙ q in
+            omega (arith, h, ap (λ (o : Option ℕ). unwrap_or o 0) at)
+        inside i n q false e = F.inside.each i n (sym (other i (eqb-false i k e)) ∙ q)
 
 -- ---- the marks of the entries that the first k rules have
 
-pub record EntriesMarked (name : Rule → List ℕ) (es : List Entry) (l : List ℕ) (k : ℕ) (used : List ℕ) : Type 0 where
+pub record EntriesMarked (name : Rule → List ℕ) (es : List Entry) (xs : List Rule) (k : ℕ) (used : List Bool) : Type 0 where
   pub long : length used ≡ most_entries
-  pub each : (j : ℕ) → j < length es → eqb (get_or used j 0) 0 ≡ is_unused name (contents rule_format l k) (nth es j).name
+  pub each : (j : ℕ) → j < length es → not (get_or used j false) ≡ is_unused name (take k xs) (nth es j).name
 
--- a mark that is set is not 0, and the others are as they were
-mark_set : (used : List ℕ) (i j : ℕ) → i < length used → eqb (get_or (set used i 1) j 0) 0 ≡ eqb (get_or used j 0) 0 && not (eqb i j)
+-- a mark is set, and the others are as they were
+mark_set : (used : List Bool) (i j : ℕ) → i < length used → not (get_or (set used i true) j false) ≡ not (get_or used j false) && not (eqb i j)
 mark_set used i j h = by (eqb i j) refl
   where
-    by : (t : Bool) → eqb i j ≡ t → eqb (get_or (set used i 1) j 0) 0 ≡ eqb (get_or used j 0) 0 && not t
+    by : (t : Bool) → eqb i j ≡ t → not (get_or (set used i true) j false) ≡ not (get_or used j false) && not t
     by true e =
-        ap (λ (m : ℕ). eqb (get_or (set used i 1) m 0) 0) (sym (eqb-true i j e)) ∙ ap (λ (v : ℕ). eqb v 0) (get_or-set_same used i 1 0 h)
-        ∙ sym (and_false (eqb (get_or used j 0) 0))
-    by false e = ap (λ (v : ℕ). eqb v 0) (get_or-set_other used i j 1 0 (λ q. eqb-false i j e (sym q))) ∙ sym (and-true (eqb (get_or used j 0) 0))
+        ap (λ (m : ℕ). not (get_or (set used i true) m false)) (sym (eqb-true i j e)) ∙ ap not (get_or-set_same used i true false h)
+        ∙ sym (and_false (not (get_or used j false)))
+    by false e = ap not (get_or-set_other used i j true false (λ q. eqb-false i j e (sym q))) ∙ sym (and-true (not (get_or used j false)))
 
-module _ (name : Rule → List ℕ) (es : List Entry) (l : List ℕ) where
-  marked_none : (used : List ℕ) → used ≡ replicate most_entries 0 → length es ≤ most_entries → EntriesMarked name es l 0 used
-  unfolding is_unused
-  marked_none used e few = record {
-    long = ap length e ∙ length-replicate {A = ℕ} most_entries 0;
-    each = λ j h.
-        eq-eqb (get_or used j 0) 0 (ap (λ (m : List ℕ). get_or m j 0) e ∙ get_or-replicate {A = ℕ} most_entries j 0 0 (omega (arith, h, few)))
-        ∙ all_none rule_format (λ x. not (has_that_name name (nth es j).name x)) l;
+module _ (name : Rule → List ℕ) (es : List Entry) (xs : List Rule) where
+  marked_none : (used : List Bool) → used ≡ replicate most_entries false → EntriesMarked name es xs 0 used
+  unfolding is_unused all
+  marked_none used e = record {
+    long = ap length e ∙ length-replicate {A = Bool} most_entries false;
+    each = λ j h. ap not (blank_at most_entries j false used e);
   }
 
-  module _ {k : ℕ} {used : List ℕ} (U : EntriesMarked name es l k used) (x : Rule) (is : x ≡ rule_at l k) where
-    -- a mark stays 0 where the rule does not have the name
-    marked_next : (m : List ℕ) → length m ≡ length used
-        → ((j : ℕ) → j < length es → eqb (get_or m j 0) 0 ≡ eqb (get_or used j 0) 0 && not (has_that_name name (nth es j).name x))
-        → EntriesMarked name es l (k + 1) m
+  module _ {k : ℕ} {used : List Bool} (U : EntriesMarked name es xs k used) (h : k < length xs) where
+    abbrev x : Rule
+    x = nth_rule xs k
+
+    -- a mark stays off where the rule does not have the name
+    marked_next : (m : List Bool) → length m ≡ length used
+        → ((j : ℕ) → j < length es → not (get_or m j false) ≡ not (get_or used j false) && not (has_that_name name (nth es j).name x))
+        → EntriesMarked name es xs (k + 1) m
     unfolding is_unused
     marked_next m long f = record {
       long = long ∙ U.long;
-      each = λ j h.
-          f j h
-          ∙ all_next rule_format (λ y. not (has_that_name name (nth es j).name y)) l k (eqb (get_or used j 0) 0) (not (has_that_name name (nth es j).name x)) x
-          (U.each j h) is refl;
+      each = λ j g.
+          let test : Rule → Bool = λ y. not (has_that_name name (nth es j).name y) in
+          f j g ∙ ap (λ (t : Bool). t && test x) (U.each j g) ∙ sym (all_one_more test (take k xs) x)
+          ∙ ap (all test) (sym (take-suc xs k rule_format.blank h) ∙ ap (λ (n : ℕ). take n xs) (sym (add-one k)));
     }
 
-    marked_kept : ((j : ℕ) → j < length es → has_that_name name (nth es j).name x ≡ false) → EntriesMarked name es l (k + 1) used
+    marked_kept : ((j : ℕ) → j < length es → has_that_name name (nth es j).name x ≡ false) → EntriesMarked name es xs (k + 1) used
     marked_kept f =
-        marked_next used refl (λ j h. sym (ap (λ (t : Bool). eqb (get_or used j 0) 0 && not t) (f j h) ∙ and-true (eqb (get_or used j 0) 0)))
+        marked_next used refl (λ j g. sym (ap (λ (t : Bool). not (get_or used j false) && not t) (f j g) ∙ and-true (not (get_or used j false))))
 
     module _ (different : distinct es ≡ true) (named : x.named ≡ 1) (j : ℕ) (at : j ≡ find_entry es (name x)) where
-      marked-set : j < length es → length es ≤ most_entries → EntriesMarked name es l (k + 1) (set used j 1)
-      marked-set h few =
-          marked_next (set used j 1) (length-set used j 1)
-          (λ i g. mark_set used j i (omega (arith, h, few, U.long))
-          ∙ ap (λ (t : Bool). eqb (get_or used i 0) 0 && not t) (sym (named_has name es x named j at different i g)))
+      marked-set : j < most_entries → EntriesMarked name es xs (k + 1) (set used j true)
+      marked-set few =
+          marked_next (set used j true) (length-set used j true)
+          (λ i g. mark_set used j i (omega (arith, few, U.long))
+          ∙ ap (λ (t : Bool). not (get_or used i false) && not t) (sym (named_has name es x named j at different i g)))
 
-      marked_missing : length es ≤ j → EntriesMarked name es l (k + 1) used
-      marked_missing h = marked_kept (λ i g. named_has name es x named j at different i g ∙ ne_eqb j i (λ q. omega (arith, h, g, q)))
+      marked_missing : length es ≤ j → EntriesMarked name es xs (k + 1) used
+      marked_missing l = marked_kept (λ i g. named_has name es x named j at different i g ∙ ne_eqb j i (λ q. omega (arith, l, g, q)))
 
 -- the entries without a mark are the unused ones
-unmarked_unused : (name : Rule → List ℕ) (names entries l : List ℕ) (k : ℕ) (used : List ℕ) → EntriesMarked name (entries_of names entries) l k used
-    → unmarked used (entry_count entries) ≡ unused name (entries_of names entries) (contents rule_format l k)
+unmarked_unused : (name : Rule → List ℕ) (es : List Entry) (xs : List Rule) (used : List Bool) → EntriesMarked name es xs (length xs) used
+    → unmarked used (length es) ≡ unused name es xs
 unfolding unused
-unmarked_unused name names entries l k used U =
-    ap (unmarked used) (sym (entries_count names entries))
-    ∙ numbers_same (λ j. eqb (get_or used j 0) 0) (λ j. is_unused name (contents rule_format l k) (nth (entries_of names entries) j).name)
-    (length (entries_of names entries)) U.each
+unmarked_unused name es xs used U =
+    numbers_same (λ j. not (get_or used j false)) (λ j. is_unused name xs (nth es j).name) (length es)
+    (λ j h. U.each j h ∙ ap (λ (ys : List Rule). is_unused name ys (nth es j).name) (take-length xs))
 
 -- ---- the loop over the rules
 
-pub record Matching (name : Rule → List ℕ) (names entries l : List ℕ) (count k n : ℕ) (found : List (Option ℕ)) (used : List ℕ) : Type 0 where
-  pub missing : n ≡ length (numbers (passes_at rule_format (is_unmapped name (entries_of names entries)) l count) k)
-  pub kept : EntriesFound name (entries_of names entries) l k found
-  pub marks : EntriesMarked name (entries_of names entries) l k used
+module _ (name : Rule → List ℕ) (es : List Entry) (xs : List Rule) where
+  abbrev test : ℕ → Bool
+  test k = is_unmapped name es (nth_rule xs k)
 
-module _ (name : Rule → List ℕ) (names entries l : List ℕ) (count : ℕ) where
-  abbrev es : List Entry
-  es = entries_of names entries
+  pub record Matching (k n : ℕ) (found : List (Option ℕ)) (used : List Bool) : Type 0 where
+    pub missing : n ≡ length (numbers (λ j. is_unmapped name es (nth_rule xs j)) k)
+    pub entries : Finding name es xs k found
+    pub marks : EntriesMarked name es xs k used
 
-  pub matching_none : (found : List (Option ℕ)) (used : List ℕ) → length found ≡ most_rules → used ≡ replicate most_entries 0 → entry_count entries ≤ most_entries
-      → Matching name names entries l count 0 0 found used
-  matching_none found used long zeros few = record {
-    missing = count_none (passes_at rule_format (is_unmapped name es) l count);
-    kept = found_none name es l found long;
-    marks = marked_none name es l used zeros (omega (arith, few, entries_count names entries));
+  pub matching_none : (found : List (Option ℕ)) (used : List Bool) → found ≡ replicate most_rules None → used ≡ replicate most_entries false → Matching 0 0 found used
+  matching_none found used nothing unset = record {
+    missing = count_none test;
+    entries = found_none name es xs found nothing;
+    marks = marked_none name es xs used unset;
   }
 
-  module _ {k n : ℕ} {found : List (Option ℕ)} {used : List ℕ} (M : Matching name names entries l count k n found used) where
-    module _ (h : k < count) (x : Rule) (is : x ≡ rule_at l k) where
-      abbrev test : ℕ → Bool
-      test = passes_at rule_format (is_unmapped name es) l count
+  module _ {k n : ℕ} {found : List (Option ℕ)} {used : List Bool} (M : Matching k n found used) where
+    module _ (h : k < length xs) (x : Rule) (is : x ≡ nth_rule xs k) where
+      here : (P : Rule → Type 0) → P x → P (nth_rule xs k)
+      here P p = subst P is p
 
-      one_counted : is_unmapped name es x ≡ true → n + 1 ≡ length (numbers test (k + 1))
-      one_counted e =
-          count_yes test k n M.missing (record_passes rule_format (is_unmapped name es) l count k h x is (is_unmapped name es x) refl e)
+      pub matching_unnamed : (x.named ≡ 1 → ⊥) → Matching (k + 1) n found used
+      matching_unnamed d =
+          let e : ((nth_rule xs k).named ≡ 1 → ⊥) = here (λ y. y.named ≡ 1 → ⊥) d in
+          record {
+            missing = count_no test k n M.missing (unnamed_mapped name es (nth_rule xs k) e);
+            entries = found_kept name es xs M.entries (λ named. absurd (e named));
+            marks = marked_kept name es xs M.marks h (λ j _. unnamed_lacks name es (nth_rule xs k) e (nth es j).name);
+          }
 
-      none_counted : is_unmapped name es x ≡ false → n ≡ length (numbers test (k + 1))
-      none_counted e =
-          count_no test k n M.missing (record_fails rule_format (is_unmapped name es) l count k h x is (is_unmapped name es x) refl e)
+      module _ (different : distinct es ≡ true) (named : x.named ≡ 1) where
+        is_named : (nth_rule xs k).named ≡ 1
+        is_named = here (λ y. y.named ≡ 1) named
 
-      pub matching_unnamed : (x.named ≡ 1 → ⊥) → Matching name names entries l count (k + 1) n found used
-      matching_unnamed d = record {
-        missing = none_counted (unnamed_mapped name es x d);
-        kept = found_unnamed name es l M.kept x is d;
-        marks = marked_kept name es l M.marks x is (λ j _. unnamed_lacks name es x d (nth es j).name);
-      }
-
-      module _ (different : distinct es ≡ true) (few : count ≤ most_rules) (named : x.named ≡ 1) where
-        pub matching_found : (j : ℕ) → Some j ≡ found_entry es (name x) → entry_count entries ≤ most_entries
-            → Matching name names entries l count (k + 1) n (set found k (Some j)) (set used j 1)
-        matching_found j is_found most =
-            let at = some_found es (name x) j is_found in
+        pub matching_found : (j : ℕ) → Some j ≡ found_entry es (name x) → k < most_rules → j < most_entries
+            → Matching (k + 1) n (set found k (Some j)) (set used j true)
+        matching_found j is_found few room =
+            let own : Some j ≡ found_entry es (name (nth_rule xs k)) = here (λ y. Some j ≡ found_entry es (name y)) is_found in
+            let at = some_found es (name (nth_rule xs k)) j own in
             record {
-              missing = none_counted (found_mapped name es x named j at.1 at.0);
-              kept = found-set name es l M.kept x is (Some j) is_found (omega (arith, h, few));
-              marks = marked-set name es l M.marks x is different named j at.1 at.0 (omega (arith, most, entries_count names entries));
+              missing = count_no test k n M.missing (found_mapped name es (nth_rule xs k) is_named j at.1 at.0);
+              entries = found-set name es xs M.entries j few at.0 own;
+              marks = marked-set name es xs M.marks h different is_named j at.1 room;
             }
 
-        pub matching_missing : None ≡ found_entry es (name x) → Matching name names entries l count (k + 1) (n + 1) (set found k None) used
+        pub matching_missing : None ≡ found_entry es (name x) → Matching (k + 1) (n + 1) found used
         matching_missing is_found =
-            let past : length es ≤ find_entry es (name x) = none_found es (name x) is_found in
+            let own : None ≡ found_entry es (name (nth_rule xs k)) = here (λ y. None ≡ found_entry es (name y)) is_found in
+            let past : length es ≤ find_entry es (name (nth_rule xs k)) = none_found es (name (nth_rule xs k)) own in
             record {
-              missing = one_counted (missing_unmapped name es x named (find_entry es (name x)) refl past);
-              kept = found-set name es l M.kept x is None is_found (omega (arith, h, few));
-              marks = marked_missing name es l M.marks x is different named (find_entry es (name x)) refl past;
+              missing = count_yes test k n M.missing (missing_unmapped name es (nth_rule xs k) is_named (find_entry es (name (nth_rule xs k))) refl past);
+              entries = found_kept name es xs M.entries (λ _. own);
+              marks = marked_missing name es xs M.marks h different is_named (find_entry es (name (nth_rule xs k))) refl past;
             }
 
-    pub matched : count ≤ k → k ≤ count → Matched name names entries l count n found used
+    pub matched : length xs ≤ k → k ≤ length xs → Matched name es xs n found used
+    unfolding unmapped
     matched h g =
-        let q : k ≡ count = omega (arith, h, g) in
-        let marks = subst (λ (m : ℕ). EntriesMarked name es l m used) q M.marks in
+        let q : k ≡ length xs = omega (arith, h, g) in
         record {
-          missing = counted _ n k count _ (unmapped_is l count name es) h g M.missing;
-          kept = subst (λ (m : ℕ). EntriesFound name es l m found) q M.kept;
-          long = marks.long;
-          without_mark = unmarked_unused name names entries l count used marks;
+          missing = M.missing ∙ ap (λ (m : ℕ). length (numbers test m)) q;
+          kept = subst (λ (m : ℕ). EntriesFound name es xs m found) q M.entries.kept;
+          inside = M.entries.inside;
+          without_mark = unmarked_unused name es xs used (subst (λ (m : ℕ). EntriesMarked name es xs m used) q M.marks);
         }

@@ -15,13 +15,15 @@ use Rattle.area.specs.Records.{rule_width, most_rules, rule_of, nth_rule}
 use Rattle.area.specs.Contents.{contents, rule_format, entry_format, relaid, laid}
 use Rattle.area.proofs.Contents.{rule_sound, contents_count}
 use Rattle.sheet_check.specs.SheetCheck.{SheetBytes, name_in, count, decoded, sheet_check}
-use Rattle.area.specs.Lists.{all, numbers}
+use Rattle.area.specs.Lists.{numbers}
 use Rattle.area.proofs.Relaid.{rule_local, relaid_contents}
 use Rattle.area.proofs.Numbers.{numbers_same}
 use Rattle.sheet_check.proofs.Checked.{checked_long, checked_counts}
+use Rattle.link.specs.declared.LinkArea.{LinkArea}
+use Rattle.link.specs.declared.LinkArea.TheVariants.{Unmapped, Unused}
 use Rattle.link.specs.declared.LinkError.{LinkError}
 use Rattle.link.specs.declared.LinkError.TheVariants.{BrokenSheet, BrokenMap, AreaFull}
-use Rattle.name_map.specs.Map.{map_width, most_entries, map_format, entry_count, Entry, entries_of, id_of, name_inside, distinct, map_check}
+use Rattle.name_map.specs.Map.{Entry, entries_of, id_of, map_check}
 use Rattle.link.specs.Link.{is_named, with_id, with_found, link_rule, link_rules, is_none, is_unmapped, is_unlinked, unmapped, unlinked, unused, LinkAnswer, linked_answer, link_left, fits, room_for, link_all, link_checked, link_call}
 
 -- ---- linked rules
@@ -87,7 +89,7 @@ module _ (name : Rule → List ℕ) (es : List Entry) (x2 : List ℕ) (n : ℕ) 
 
 -- ---- areas 7 and 8 have room, or one of them has not
 
-module _ (ns l : List ℕ) (m area : ℕ) (counted : m ≡ length ns) where
+module _ (ns l : List ℕ) (m : ℕ) (area : LinkArea) (counted : m ≡ length ns) where
   room_is : room_for m l area ≡ cond (fits ns l) (Ok tt) (Err (AreaFull area))
   unfolding room_for fits
   room_is = rw counted
@@ -107,34 +109,25 @@ module _ (ns l : List ℕ) (m area : ℕ) (counted : m ≡ length ns) where
       by false q = (refl, cc)
 
 module _ (name : Rule → List ℕ) (xs : List Rule) (es : List Entry) (x2 x7 x8 : List ℕ) (m : ℕ) (missing : m ≡ length (unmapped name es xs)) where
-  pub short_7 : (e : LinkError) → Err e ≡ room_for m x7 7 → link_left (Err e) x2 x7 x8 ≡ link_checked name xs es x2 x7 x8
+  pub short_7 : (e : LinkError) → Err e ≡ room_for m x7 Unmapped → link_left (Err e) x2 x7 x8 ≡ link_checked name xs es x2 x7 x8
   unfolding link_checked
   short_7 e q =
-      let full = room_full (unmapped name es xs) x7 m 7 missing e q in
+      let full = room_full (unmapped name es xs) x7 m Unmapped missing e q in
       rw (full.0, full.1)
 
-  module _ (u : Unit {0}) (room : Ok u ≡ room_for m x7 7) (k : ℕ) (idle : k ≡ length (unused name es xs)) where
-    pub short_8 : (e : LinkError) → Err e ≡ room_for k x8 8 → link_left (Err e) x2 x7 x8 ≡ link_checked name xs es x2 x7 x8
+  module _ (u : Unit {0}) (room : Ok u ≡ room_for m x7 Unmapped) (k : ℕ) (idle : k ≡ length (unused name es xs)) where
+    pub short_8 : (e : LinkError) → Err e ≡ room_for k x8 Unused → link_left (Err e) x2 x7 x8 ≡ link_checked name xs es x2 x7 x8
     unfolding link_checked
     short_8 e q =
-        let full = room_full (unused name es xs) x8 k 8 idle e q in
-        rw (room_left (unmapped name es xs) x7 m 7 missing u room, full.0, full.1)
+        let full = room_full (unused name es xs) x8 k Unused idle e q in
+        rw (room_left (unmapped name es xs) x7 m Unmapped missing u room, full.0, full.1)
 
-    pub none_short : (v : Unit {0}) → Ok v ≡ room_for k x8 8 → link_all name (linked_answer m k) xs es x2 x7 x8 ≡ link_checked name xs es x2 x7 x8
+    pub none_short : (v : Unit {0}) → Ok v ≡ room_for k x8 Unused → link_all name (linked_answer m k) xs es x2 x7 x8 ≡ link_checked name xs es x2 x7 x8
     unfolding link_checked
     none_short v q =
-        rw (room_left (unmapped name es xs) x7 m 7 missing u room, room_left (unused name es xs) x8 k 8 idle v q, ← missing, ← idle)
+        rw (room_left (unmapped name es xs) x7 m Unmapped missing u room, room_left (unused name es xs) x8 k Unused idle v q, ← missing, ← idle)
 
 -- ---- the call
-
-pub map_few : (names entries : List ℕ) → map_check names entries ≡ true → entry_count entries ≤ most_entries
-unfolding map_check
-map_few names entries e =
-    let a1 : Bool = eqb (length entries % map_width) 0 in
-    let a2 : Bool = leb (entry_count entries) most_entries in
-    let a3 : Bool = all (name_inside (length names)) (contents map_format entries (entry_count entries)) in
-    let a4 : Bool = distinct (entries_of names entries) in
-    leb-true (entry_count entries) most_entries (and_right a1 a2 (and_left (a1 && a2) a3 (and_left (a1 && a2 && a3) a4 e)))
 
 module _ (b : SheetBytes) (t : Bool) (is : t ≡ sheet_check b) (h : t ≡ true) where
   passed : sheet_check b ≡ true
@@ -143,20 +136,17 @@ module _ (b : SheetBytes) (t : Bool) (is : t ≡ sheet_check b) (h : t ≡ true)
   pub call_rules : (count b 2 ≤ most_rules) × (count b 2 * rule_width ≤ length b.area2)
   call_rules = ((checked_counts b passed).2, (checked_long b passed).long2)
 
-pub call_entries : (names entries : List ℕ) (u : Bool) → u ≡ map_check names entries → u ≡ true → entry_count entries ≤ most_entries
-call_entries names entries u says g = map_few names entries (sym says ∙ g)
-
 module _ (b : SheetBytes) (names entries x7 x8 : List ℕ) (t : Bool) (is : t ≡ sheet_check b) where
   pub call_sheet : t ≡ false → link_left (Err BrokenSheet) b.area2 x7 x8 ≡ link_call b names entries x7 x8
   unfolding link_call
   call_sheet h = rw (← is, h)
 
-  module _ (h : t ≡ true) (u : Bool) (says : u ≡ map_check names entries) where
-    pub call_map : u ≡ false → link_left (Err BrokenMap) b.area2 x7 x8 ≡ link_call b names entries x7 x8
+  module _ (h : t ≡ true) where
+    pub call_map : false ≡ map_check names entries → link_left (Err BrokenMap) b.area2 x7 x8 ≡ link_call b names entries x7 x8
     unfolding link_call
-    call_map g = rw (passed b t is h, ← says, g)
+    call_map g = rw (passed b t is h, ← g)
 
-    pub call_linked : u ≡ true
-        → link_checked (name_in b) (contents rule_format b.area2 (count b 2)) (entries_of names entries) b.area2 x7 x8 ≡ link_call b names entries x7 x8
+    pub call_linked : true ≡ map_check names entries → (es : List Entry) → es ≡ entries_of names entries
+        → link_checked (name_in b) (contents rule_format b.area2 (count b 2)) es b.area2 x7 x8 ≡ link_call b names entries x7 x8
     unfolding link_call decoded
-    call_linked g = rw (passed b t is h, ← says, g)
+    call_linked g es e = rw (passed b t is h, ← g, e)

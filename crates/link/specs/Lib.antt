@@ -1,3 +1,4 @@
+pub mod Areas
 pub mod Link
 pub mod Matches
 pub mod Phrases

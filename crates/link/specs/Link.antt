@@ -10,8 +10,11 @@ use Rattle.answers.specs.Numbers.{accepted_number, area_full_number, broken_shee
 use Rattle.answers.specs.Words.{Fields, fields, word}
 use Rattle.sheet_check.specs.SheetCheck.{SheetBytes, name_in, decoded, sheet_check}
 use Rattle.link.specs.declared.Linked.{Linked}
+use Rattle.link.specs.declared.LinkArea.{LinkArea}
+use Rattle.link.specs.declared.LinkArea.TheVariants.{Unmapped, Unused}
 use Rattle.link.specs.declared.LinkError.{LinkError}
 use Rattle.link.specs.declared.LinkError.TheVariants.{BrokenSheet, BrokenMap, AreaFull}
+use Rattle.link.specs.Areas.{link_area_number}
 use Rattle.name_map.specs.Map.{Entry, entry, entries_of, id_of, map_check}
 
 -- ---- a rule
@@ -110,7 +113,7 @@ unfoldable pub fits : List ℕ → List ℕ → Bool
 fits ns l = leb (length ns * entry_width) (length l)
 
 -- the same of so many numbers, or number 4 for that area
-unfoldable pub room_for : ℕ → List ℕ → ℕ → Result (Unit {0}) LinkError
+unfoldable pub room_for : ℕ → List ℕ → LinkArea → Result (Unit {0}) LinkError
 room_for n l area = cond (leb (n * entry_width) (length l)) (Ok tt) (Err (AreaFull area))
 
 module _ (name : Rule → List ℕ) where
@@ -127,8 +130,8 @@ module _ (name : Rule → List ℕ) where
       cond (fits (unmapped name es xs) x7)
       (cond (fits (unused name es xs) x8)
       (link_all (linked_answer (length (unmapped name es xs)) (length (unused name es xs))) xs es x2 x7 x8)
-      (link_left (Err (AreaFull 8)) x2 x7 x8))
-      (link_left (Err (AreaFull 7)) x2 x7 x8)
+      (link_left (Err (AreaFull Unused)) x2 x7 x8))
+      (link_left (Err (AreaFull Unmapped)) x2 x7 x8)
 
 -- the link call: 6, 7, then 4; a refusal changes nothing
 unfoldable pub link_call : SheetBytes → List ℕ → List ℕ → List ℕ → List ℕ → LinkLeft
@@ -144,7 +147,7 @@ unfoldable pub link_fields : LinkAnswer → Fields
 link_fields (Ok x) = fields accepted_number x.unmapped_count x.unused_count 0
 link_fields (Err BrokenSheet) = fields broken_sheet_number 0 0 0
 link_fields (Err BrokenMap) = fields broken_map_number 0 0 0
-link_fields (Err (AreaFull n)) = fields area_full_number n 0 0
+link_fields (Err (AreaFull a)) = fields area_full_number (link_area_number a) 0 0
 
 abbrev pub link_word : LinkAnswer → ℕ
 link_word x = word (link_fields x)

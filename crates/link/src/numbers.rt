@@ -2,15 +2,17 @@
 // them. A count beside an area is not the area's length: memory is fixed, and what is in use fills a part of it.
 ghost use Rattle.std.specs.Prelude.{◌≡◌, ℕ, Bool, ◌+◌, ◌*◌, ◌≤◌, ◌<◌, true, length};
 ghost use Rattle.std.proofs.lemmas.List.Edits.{sets};
-ghost use Rattle.area.specs.Records.{rule_width, entry_width, entry_bytes};
-ghost use Rattle.area.specs.Contents.{contents, rule_format, entry_format, laid};
+ghost use Rattle.area.specs.Records.{most_rules, entry_width, entry_bytes};
+ghost use Rattle.area.specs.Contents.{entry_format, laid};
+ghost use Rattle.name_map.specs.Map.{most_entries};
 ghost use Rattle.area.specs.Lists.{numbers};
 ghost use Rattle.link.specs.Link.{is_unlinked, unlinked, fits};
 ghost use Rattle.link.specs.Matches.{unmarked, Tests};
 ghost use Rattle.area.specs.Phrases.{before, after};
-ghost use Rattle.link.specs.Phrases.{rules_in};
 
-use area::{Rule, clear, read, write_field};
+use area::list::Records;
+use area::{Rule, clear, write_field};
+use name_map::MOST_ENTRIES;
 
 // How many bytes a number has.
 pub const NUMBER_WIDTH: usize = 2;
@@ -48,34 +50,38 @@ fn is_unlinked(x: Rule) -> bool
     (x.named == 1) & (x.has_id == 0)
 }
 
-// The named rules that have no id, of an area whose rules are linked.
-pub fn write_unlinked(area: &[u8], count: u16, into: &mut [u8])
-    requires rule_width_in_bounds { count * rule_width ≤ length area.now }
-    requires room { fits (unlinked (contents rule_format area.now count)) into.old ≡ true }
-    ensures { into.new ≡ laid entry_format (length into.old) (unlinked (rules_in area.now count)) }
+// The named rules that have no id, where the rules are linked.
+pub fn write_unlinked(rules: &Records<Rule>, into: &mut [u8])
+    requires rules_le_most_rules { length rules.now ≤ most_rules }
+    requires room { fits (unlinked rules.now) into.old ≡ true }
+    ensures { into.new ≡ laid entry_format (length into.old) (unlinked rules.now) }
 {
-    write_numbers(count, |k| is_unlinked(read(area, k as usize)), into);
+    write_numbers(
+        rules.count() as u16,
+        |k| is_unlinked(rules.get(k as usize)),
+        into,
+    );
 }
 
 // How many of so many entries have no mark. Each mark is added, with no branch, so that the compiler takes many at once; a filter and its count
 // go one by one.
-#[tactic(auto, using(area::proofs::Numbers::count_none, crate::proofs::Counting::mark_counted))]
-pub fn count_unused(used: &[u8], most: u16) -> u16
-    requires { most ≤ length used.now }
+#[tactic(auto, using(area::proofs::Numbers::count_none))]
+pub fn count_unused(used: &[bool; MOST_ENTRIES], most: u16) -> u16
+    requires { most ≤ most_entries }
     ensures { result ≡ length (unmarked used.now most) }
 {
     let mut n = 0;
     for j in 0..most as usize {
-        n += (used[j] == 0) as u16;
+        n += !used[j] as u16;
     }
     n
 }
 
 // Their numbers.
-pub fn write_unused(used: &[u8], most: u16, into: &mut [u8])
-    requires most_le_most_entries { most ≤ length used.now }
+pub fn write_unused(used: &[bool; MOST_ENTRIES], most: u16, into: &mut [u8])
+    requires most_le_most_entries { most ≤ most_entries }
     requires room { fits (unmarked used.now most) into.old ≡ true }
     ensures { into.new ≡ laid entry_format (length into.old) (unmarked used.now most) }
 {
-    write_numbers(most, |j| used[j as usize] == 0, into);
+    write_numbers(most, |j| !used[j as usize], into);
 }

@@ -1,17 +1,17 @@
 // The ids of the rules: a named rule gets its entry's id, or none (01, Linking).
-ghost use Rattle.std.specs.Prelude.{◌≡◌, ℕ, ◌*◌, ◌<◌, ◌≤◌, length};
+ghost use Rattle.std.specs.Prelude.{◌≡◌, ℕ, List, ◌*◌, ◌<◌, ◌≤◌, length, slice_index_or, Some, None};
+ghost use Rattle.area.specs.declared.Rule.{Rule};
 ghost use Rattle.area.specs.Records.{rule_width, most_rules};
 ghost use Rattle.area.specs.Contents.{rule_format, relaid};
-ghost use Rattle.names.specs.Names.{name_of};
-ghost use Rattle.name_map.specs.Map.{entry_count, option_of};
+ghost use Rattle.name_map.specs.Map.{option_of};
 ghost use Rattle.link.specs.Link.{with_found, link_rules};
-ghost use Rattle.link.specs.Matches.{EntriesFound, link_to};
+ghost use Rattle.link.specs.Matches.{EntriesFound, FoundInside, link_to};
 ghost use Rattle.area.specs.Phrases.{before, after};
 ghost use Rattle.name_map.specs.Phrases.{map_in};
-ghost use Rattle.link.specs.Phrases.{rules_in, rule_names_in};
+ghost use Rattle.link.specs.Phrases.{rules_in};
 
-use area::{RULE_WIDTH, Record, Rule, read};
-use name_map::map::NameMap;
+use area::{MOST_RULES, RULE_WIDTH, Record, Rule, read};
+use name_map::NameMap;
 
 #[tactic(auto, unfolding(crate::specs::Link::with_id, crate::specs::Link::with_found))]
 fn with_id(x: Rule, id: Option<u16>) -> Rule
@@ -29,24 +29,26 @@ fn with_id(x: Rule, id: Option<u16>) -> Rule
 
 // A named rule gets the id of the entry that was found, or none.
 fn link_rule(map: &NameMap, found: Option<u16>, x: Rule) -> Rule
-    requires { x.named ≡ 1 → (j : ℕ) → found ≡ Some j → j < entry_count map.now.entries.now }
+    requires { (j : ℕ) → found ≡ Some j → j < length map.now.entries }
     ensures { result ≡ link_to (map_in map.now) found x }
 {
     if x.named != 1 {
         return x;
     }
+    // by `map` of the Option the closure's answer was not known to the proof
     match found {
-        Some(j) => with_id(x, Some(map.entry(j as usize).id)),
+        Some(j) => with_id(x, Some(map.entries.get(j as usize).id)),
         None => with_id(x, None),
     }
 }
 
-// The rules by the entries that were found. Every rule is written back whole, so that an area holds the linked rules. The source stands for the
-// contract alone, and the count for the rules in use, which fill a part of the area.
-pub fn link_rules(src: &[u8], area: &mut [u8], count: u16, map: &NameMap, found: &[Option<u16>])
+// The rules by the entries that were found, whatever says which name a rule has. Every rule is written back whole, so that an area holds the
+// linked rules. The count is that of the rules in use, which fill a part of the area.
+pub fn link_rules(area: &mut [u8], count: u16, map: &NameMap, found: &[Option<u16>; MOST_RULES])
     requires count_le_most_rules { (count ≤ most_rules) × (count * rule_width ≤ length area.old) }
-    requires entries_found { EntriesFound (name_of src.now) (map_in map.now) area.old count found.now }
-    ensures { area.new ≡ relaid rule_format area.old (link_rules (rule_names_in src.now) (map_in map.now) (rules_in area.old count)) }
+    requires found_inside { FoundInside (map_in map.now) found.now }
+    ensures { (name : Rule → List ℕ) → EntriesFound name (map_in map.now) (rules_in area.old count) count found.now
+        → area.new ≡ relaid rule_format area.old (link_rules name (map_in map.now) (rules_in area.old count)) }
 {
     for k in 0..count {
         let at = k as usize;

@@ -34,7 +34,8 @@ use Rattle.winner.specs.Winner.{Lexer, length_in, weight, greatest}
 use Rattle.winner.proofs.Winning.{weights_low}
 use Rattle.std.specs.Prelude.{Ok, Err, Option, Some, None}
 use Rattle.run.specs.Run.{StartAnswer, start_accepted, start_refused, StepAnswer, Running, current, Input, RunLeft, good_run, fits_in}
-use Rattle.run.specs.Run.{good_row, won_by, choose, step_row, step_run, lexer_of, step_call, start_fields, view, view_fields, step_fields}
+use Rattle.winner.specs.Top.{good_row}
+use Rattle.run.specs.Run.{won_by, choose, step_row, step_run, lexer_of, step_call, start_fields, view, view_fields, step_fields}
 use Rattle.run.proofs.Fitting.{run_is}
 
 -- ---- the pattern call

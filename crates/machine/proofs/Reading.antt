@@ -22,7 +22,7 @@ use Rattle.area.specs.Lists.{all}
 use Rattle.parse.specs.Parse.{Contents}
 use Rattle.name_map.specs.Map.{Entry, nth, find_entry, id_at, id_of}
 use Rattle.winner.specs.Winner.{find_in_list, in_list, live}
-use Rattle.run.specs.Run.{good_row}
+use Rattle.winner.specs.Top.{good_row}
 use Rattle.run_laws.proofs.Stacks.{entry_bytes_lem}
 use Rattle.machine.specs.File.{FileState, file_state, file_rule}
 use Rattle.machine.specs.Machine.{lengths, fits, has, is_empty, is_exclusive, is_live, id_in}

@@ -13,6 +13,7 @@ use Rattle.area.specs.Contents.{contents, rule_format, relaid}
 use Rattle.parse.specs.Parse.{Contents}
 use Rattle.sheet_check.specs.SheetCheck.{SheetBytes, name_in, decoded, sheet_check}
 use Rattle.area.specs.Lists.{all}
+use Rattle.link.specs.declared.LinkArea.TheVariants.{Unmapped, Unused}
 use Rattle.link.specs.declared.LinkError.TheVariants.{BrokenSheet, BrokenMap, AreaFull}
 use Rattle.name_map.specs.Map.{Entry, entry, nth, map_width, most_entries, map_format, entry_count, entries_of, id_of, name_inside, distinct, map_check}
 use Rattle.link.specs.Link.{LinkAnswer, linked_answer, LinkLeft, link_left, link_rules, fits, unmapped, unused, link_all, link_checked, link_call}
@@ -49,9 +50,8 @@ module _ (b : SheetBytes) (names entries x7 x8 : List ℕ) (p q : ℕ) (accepted
       left a = link_left a b.area2 x7 x8
 
       go : (t u v w : Bool)
-          → (cond t (cond u (cond v (cond w done (left (Err (AreaFull 8)))) (left (Err (AreaFull 7)))) (left (Err BrokenMap))) (left (Err BrokenSheet))).answer
-          ≡ linked_answer p q
-          → (cond t (cond u (cond v (cond w done (left (Err (AreaFull 8)))) (left (Err (AreaFull 7)))) (left (Err BrokenMap))) (left (Err BrokenSheet))).area2
+          → (cond t (cond u (cond v (cond w done (left (Err (AreaFull Unused)))) (left (Err (AreaFull Unmapped)))) (left (Err BrokenMap))) (left (Err BrokenSheet))).answer ≡ linked_answer p q
+          → (cond t (cond u (cond v (cond w done (left (Err (AreaFull Unused)))) (left (Err (AreaFull Unmapped)))) (left (Err BrokenMap))) (left (Err BrokenSheet))).area2
           ≡ relaid rule_format b.area2 (link_rules (name_in b) (entries_of names entries) (decoded b).rules)
       go true true true true e = refl
       go true true true false e = absurd (omega (arith, ap is_linked e))

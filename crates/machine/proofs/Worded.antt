@@ -14,6 +14,7 @@ use Rattle.answers.proofs.Words.{two_bytes, no_values}
 use Rattle.parse.specs.declared.ParseError.TheVariants as P
 use Rattle.parse.specs.Parse.{ParseAnswer, parse_accepted, parse_fields, parse_word}
 use Rattle.sheet_check.specs.SheetCheck.{SheetBytes}
+use Rattle.link.specs.declared.LinkArea.TheVariants as Area
 use Rattle.link.specs.declared.LinkError.TheVariants as L
 use Rattle.name_map.specs.Map.{Entry}
 use Rattle.link.specs.Link.{LinkAnswer, linked_answer, link_fields, link_word}
@@ -49,7 +50,8 @@ unfolding link_fields
 link_zero (Ok x) e = (x.unmapped_count, x.unused_count, refl)
 link_zero (Err L.BrokenSheet) e = absurd (omega (arith, e))
 link_zero (Err L.BrokenMap) e = absurd (omega (arith, e))
-link_zero (Err (L.AreaFull n)) e = absurd (omega (arith, e))
+link_zero (Err (L.AreaFull Area.Unmapped)) e = absurd (omega (arith, e))
+link_zero (Err (L.AreaFull Area.Unused)) e = absurd (omega (arith, e))
 
 start_zero : (x : StartAnswer) → start_word x ≡ 0 → x ≡ start_accepted
 unfolding start_fields

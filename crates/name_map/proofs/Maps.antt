@@ -1,22 +1,19 @@
--- A map read from its bytes: entry j of the list is what entry j of the bytes says. A search keeps that the first entry of the name is the same
--- from where it stands, and a check that the tests so far are those of the entries so far.
-use Rattle.std.proofs.Common.{◌≡◌, ℕ, zero, suc, ◌+◌, ◌*◌, ◌%◌, ◌<◌, ◌≤◌, Bool, true, false, not, ◌&&◌, cond, eqb, leb, ltb, ◌⊎◌, List, [], length, Option, Some, None, sym, refl, ap, ◌∙◌, inl, inr, true≢false, add-zero, eq-or-lt_of_le, arith, rules, eq-eqb, ne_eqb, eqb-true, le-leb}
+-- A map as a list of names and ids: entry j is what record j of the entries says. Then the entry that a search finds, and the map check.
+use Rattle.std.proofs.Common.{◌≡◌, ℕ, zero, suc, ◌+◌, ◌%◌, ◌<◌, ◌≤◌, Bool, true, false, not, ◌&&◌, cond, eqb, leb, ltb, ◌⊎◌, List, [], map, length, get_or, Option, Some, None, sym, refl, ap, ◌∙◌, inl, inr, true≢false, eq-or-lt_of_le, arith, eq-eqb, ne_eqb, eqb-true, le-leb}
 use Rattle.std.specs.Option.{option_eq}
 use borrow.Author.Tests.{lt-leb, lt-ltb, le-ltb, ltb-true, ltb-false}
 use lib.ListN.{length-map, get_or-map}
-use Rattle.characters.specs.Walk.{first}
-use Rattle.text.specs.Range.{part, same_bytes, same_range}
-use Rattle.characters.proofs.Tests.{answer, le_or_lt}
-use Rattle.characters.proofs.Walks.{first_found, first_again, first_ended}
+use Rattle.characters.specs.Walk.{first, Below}
+use Rattle.text.specs.Range.{part, same_bytes}
+use Rattle.characters.proofs.Tests.{le_or_lt}
 use Rattle.text.proofs.Ranges.{same_self}
 use Rattle.characters.proofs.Firsts.{first_passes, first_low}
-use Rattle.area.specs.Bytes.{field_at, field_from}
 use Rattle.area.specs.Contents.{contents}
 use Rattle.area.specs.Lists.{all, all_below}
 use Rattle.area.proofs.All.{below_at, below_same}
-use Rattle.area.proofs.Contents.{contents_count, contents_read}
+use Rattle.area.proofs.Contents.{contents_count}
 use Rattle.name_map.specs.declared.MapEntry.{MapEntry}
-use Rattle.name_map.specs.Map.{map_width, most_entries, map_entry_of, map_entry_at, map_format, entry_count, Entry, entry, entry_of, entries_of, nth, find_entry, found_entry, option_of, id_at, distinct, name_inside, map_check}
+use Rattle.name_map.specs.Map.{map_width, most_entries, map_entry_of, map_format, entry_count, Entry, entry, entry_of, entries_of, nth, find_entry, found_entry, option_of, id_at, distinct, name_inside, map_check}
 
 -- ---- an answer of the code
 
@@ -59,82 +56,68 @@ module _ (es : List Entry) (name : List ℕ) where
       by true q e = absurd (cc)
       by false q e = ltb-false (find_entry es name) (length es) q
 
--- ---- an entry
+-- ---- the entries
 
-pub map_entry_made : (l : List ℕ) (k a b c : ℕ) → a ≡ field_at l (k * map_width) → b ≡ field_at l (k * map_width + 2) → c ≡ field_at l (k * map_width + 4)
-    → record { name_from = a; name_length = b; id = c } ≡ map_entry_at l k
-unfolding map_entry_at map_entry_of field_from
-map_entry_made l k a b c e1 e2 e3 = simp (e1, e2, e3, add-zero)
+pub entries_count : (names entries : List ℕ) → length (entries_of names entries) ≡ entry_count entries
+unfolding entries_of
+entries_count names entries =
+    length-map (contents map_format entries (entry_count entries)) (entry_of names) ∙ contents_count map_format entries (entry_count entries)
 
-module _ (names entries : List ℕ) where
-  pub entries_count : length (entries_of names entries) ≡ entry_count entries
-  unfolding entries_of
-  entries_count = length-map (contents map_format entries (entry_count entries)) (entry_of names) ∙ contents_count map_format entries (entry_count entries)
+module _ (names : List ℕ) (xs : List MapEntry) where
+  abbrev es : List Entry
+  es = map (entry_of names) xs
 
-  blank_entry : entry [] 0 ≡ entry_of names (map_entry_of (λ _. 0))
+  pub named_count : length (map (entry_of names) xs) ≡ length xs
+  named_count = length-map xs (entry_of names)
+
+  blank_entry : entry [] 0 ≡ entry_of names map_format.blank
   unfolding entry_of map_entry_of part
   blank_entry = refl
 
-  pub entries_at : (j : ℕ) → j < entry_count entries → nth (entries_of names entries) j ≡ entry_of names (map_entry_at entries j)
-  unfolding entries_of
-  entries_at j h =
-      rw (blank_entry)
-      (get_or-map (entry_of names) (contents map_format entries (entry_count entries)) j (map_entry_of (λ _. 0))
-      ∙ ap (entry_of names) (contents_read map_format entries (entry_count entries) j h))
+  entry_at : (j : ℕ) → nth es j ≡ entry_of names (get_or xs j map_format.blank)
+  entry_at j = rw (blank_entry) (get_or-map (entry_of names) xs j map_format.blank)
 
-  module _ (j : ℕ) (h : j < entry_count entries) (x : MapEntry) (is : x ≡ map_entry_at entries j) where
-    entry_is : nth (entries_of names entries) j ≡ entry_of names x
-    entry_is = entries_at j h ∙ ap (entry_of names) (sym is)
+  module _ (j : ℕ) (x : MapEntry) (is : x ≡ get_or xs j map_format.blank) where
+    entry_is : nth es j ≡ entry_of names x
+    entry_is = entry_at j ∙ ap (entry_of names) (sym is)
 
     -- its id
-    pub id_read : option_of (Some x.id) ≡ id_at (entries_of names entries) j
+    pub id_read : j < length xs → option_of (Some x.id) ≡ id_at (map (entry_of names) xs) j
     unfolding id_at entry_of
-    id_read =
-        let id : x.id ≡ (nth (entries_of names entries) j).id = sym (ap (λ (y : Entry). y.id) entry_is) in
-        rw (lt-ltb j (length (entries_of names entries)) (omega (arith, h, entries_count)), id)
+    id_read h =
+        let id : x.id ≡ (nth es j).id = sym (ap (λ (y : Entry). y.id) entry_is) in
+        rw (lt-ltb j (length es) (omega (arith, h, named_count)), id)
 
-    -- the range of an entry's name is its name
-    module _ (end : ℕ) (ends : end ≡ x.name_from + x.name_length) where
-      pub name-at : part names x.name_from end ≡ (nth (entries_of names entries) j).name
-      unfolding entry_of
-      name-at = ap (part names x.name_from) ends ∙ sym (ap (λ (y : Entry). y.name) entry_is)
+    -- its name
+    pub name-at : (entry_of names x).name ≡ (nth (map (entry_of names) xs) j).name
+    name-at = sym (ap (λ (y : Entry). y.name) entry_is)
 
-      pub name_compared : (r : Bool) (t : List ℕ) (a e : ℕ) → r ≡ same_range names x.name_from end t a e
-          → r ≡ same_bytes (nth (entries_of names entries) j).name (part t a e)
-      unfolding same_range
-      name_compared r t a e q = q ∙ ap (λ (l : List ℕ). same_bytes l (part t a e)) name-at
+    pub name_compared : (name : List ℕ) (r : Bool) → r ≡ same_bytes (entry_of names x).name name → r ≡ same_bytes (nth (map (entry_of names) xs) j).name name
+    name_compared name r e = e ∙ ap (λ (l : List ℕ). same_bytes l name) name-at
 
-      -- whether the first entry of its name is entry j
-      pub first_compared : (o : Option ℕ) → o ≡ found_entry (entries_of names entries) (part names x.name_from end)
-          → option_eq eqb o (Some j) ≡ eqb (find_entry (entries_of names entries) (nth (entries_of names entries) j).name) j
-      unfolding found_entry
-      first_compared o q =
-          let es : List Entry = entries_of names entries in
-          ap (λ (y : Option ℕ). option_eq eqb y (Some j)) (q ∙ ap (found_entry es) name-at)
-          ∙ found_is es (nth es j).name j (omega (arith, h, entries_count))
+    -- whether the first entry of its name is entry j
+    pub first_compared : j < length xs → (name : List ℕ) → name ≡ (entry_of names x).name → (o : Option ℕ) → o ≡ found_entry (map (entry_of names) xs) name
+        → option_eq eqb o (Some j) ≡ eqb (find_entry (map (entry_of names) xs) (nth (map (entry_of names) xs) j).name) j
+    first_compared h name own o q =
+        ap (λ (y : Option ℕ). option_eq eqb y (Some j)) (q ∙ ap (found_entry es) (own ∙ name-at))
+        ∙ found_is es (nth es j).name j (omega (arith, h, named_count))
 
--- ---- the first entry of a name; the loop stands at j
+  -- ---- the first entry of a name
 
-module _ (names entries name : List ℕ) where
-  abbrev pub has : ℕ → Bool
-  has i = same_bytes (nth (entries_of names entries) i).name name
+  module _ (name : List ℕ) where
+    abbrev pub has : ℕ → Bool
+    has j = same_bytes (nth es j).name name
 
-  module _ (j : ℕ) (before : first has 0 (entry_count entries) ≡ first has j (entry_count entries)) where
-    whole : first has 0 (entry_count entries) ≡ find_entry (entries_of names entries) name
+    pub found_below : (r : Option ℕ) → Below (length xs) (first has 0 (length xs)) r → r ≡ found_entry (map (entry_of names) xs) name
     unfolding find_entry
-    whole = ap (first has 0) (sym (entries_count names entries))
+    found_below r b = by r b
+      where
+        whole : first has 0 (length xs) ≡ find_entry es name
+        whole = ap (first has 0) (sym named_count)
 
-    pub entry_found : j < entry_count entries → has j ≡ true → Some j ≡ found_entry (entries_of names entries) name
-    entry_found h t =
-        found_some (entries_of names entries) name j (omega (arith, h, entries_count names entries))
-        (first_found has 0 j (entry_count entries) before h t ∙ whole)
-
-    pub entry_missing : entry_count entries ≤ j → None ≡ found_entry (entries_of names entries) name
-    entry_missing h =
-        found_none (entries_of names entries) name
-        (omega (arith, h, entries_count names entries, first_ended has 0 j (entry_count entries) before h ∙ whole))
-
-pub ruleset finding_entries = (rules, answer, first_again, entry_found, entry_missing)
+        by : (o : Option ℕ) → Below (length xs) (first has 0 (length xs)) o → o ≡ found_entry es name
+        by (Some k) q = found_some es name k (omega (arith, q.0, named_count)) (q.1 ∙ whole)
+        by None q = found_none es name (omega (arith, q, whole, named_count))
 
 -- ---- the map check
 
@@ -176,13 +159,11 @@ pub distinct_firsts : (es : List Entry) → distinct es ≡ all_below (λ j. eqb
 unfolding distinct
 distinct_firsts es = below_same _ _ (length es) (first_of_name es)
 
-pub distinct_read : (names entries : List ℕ) (k : ℕ) (good : Bool) → entry_count entries ≤ k → k ≤ entry_count entries
-    → good ≡ all_below (λ j. eqb (find_entry (entries_of names entries) (nth (entries_of names entries) j).name) j) k → good ≡ distinct (entries_of names entries)
-distinct_read names entries k good h g e =
-    let q : k ≡ entry_count entries = omega arith in
-    e
-    ∙ ap (all_below (λ j. eqb (find_entry (entries_of names entries) (nth (entries_of names entries) j).name) j)) (q ∙ sym (entries_count names entries))
-    ∙ sym (distinct_firsts (entries_of names entries))
+pub distinct_read : (es : List Entry) (k : ℕ) (good : Bool) → length es ≤ k → k ≤ length es
+    → good ≡ all_below (λ j. eqb (find_entry es (nth es j).name) j) k → good ≡ distinct es
+distinct_read es k good h g e =
+    let q : k ≡ length es = omega arith in
+    e ∙ ap (all_below (λ j. eqb (find_entry es (nth es j).name) j)) q ∙ sym (distinct_firsts es)
 
 module _ (names entries : List ℕ) where
   pub map_ragged : (length entries % map_width ≡ 0 → ⊥) → false ≡ map_check names entries
@@ -194,14 +175,23 @@ module _ (names entries : List ℕ) where
     unfolding map_check
     map_large g = rw (eq-eqb (length entries % map_width) 0 h, lt-leb (entry_count entries) most_entries g)
 
-    module _ (g : entry_count entries ≤ most_entries) (t : Bool) (is : t ≡ all (name_inside (length names)) (contents map_format entries (entry_count entries))) where
+    module _ (g : entry_count entries ≤ most_entries) (xs : List MapEntry) (read : xs ≡ contents map_format entries (entry_count entries)) (t : Bool)
+        (is : t ≡ all (name_inside (length names)) xs) where
+      inside : t ≡ all (name_inside (length names)) (contents map_format entries (entry_count entries))
+      inside = is ∙ ap (all (name_inside (length names))) read
+
       pub map_outside : t ≡ false → false ≡ map_check names entries
       unfolding map_check
-      map_outside q = rw (eq-eqb (length entries % map_width) 0 h, le-leb (entry_count entries) most_entries g, ← is, q)
+      map_outside q = rw (eq-eqb (length entries % map_width) 0 h, le-leb (entry_count entries) most_entries g, ← inside, q)
 
-      pub map_inside : (r : Bool) → t ≡ true → r ≡ distinct (entries_of names entries) → r ≡ map_check names entries
+      pub map_is : map (entry_of names) xs ≡ entries_of names entries
+      unfolding entries_of
+      map_is = ap (map (entry_of names)) read
+
+      pub map_inside : (r : Bool) → t ≡ true → r ≡ distinct (map (entry_of names) xs) → r ≡ map_check names entries
       unfolding map_check
-      map_inside r q z = rw (eq-eqb (length entries % map_width) 0 h, le-leb (entry_count entries) most_entries g, ← is, q) z
+      map_inside r q z =
+          rw (eq-eqb (length entries % map_width) 0 h, le-leb (entry_count entries) most_entries g, ← inside, q) (z ∙ ap distinct map_is)
 
 -- ---- names that are distinct
 

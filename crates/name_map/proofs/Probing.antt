@@ -1,25 +1,28 @@
 -- Slots of the entries. A search from the home of a name passes taken slots with other names only. An entry of that name has the same home, and
 -- has a slot before every free one: so where the search comes to a free slot, there is no such entry.
-use Rattle.std.proofs.Common.{◌≡◌, ℕ, ◌+◌, ◌-◌, ◌<◌, ◌≤◌, Bool, true, false, eqb, List, length, Option, Some, None, get_or, set, replicate, sym, refl, ap, ◌∙◌, subst, ⊎_elim, true≢false, arith, length-set, get_or-set_other, get_or-set_same, eq-eqb, ne_eqb, eqb-true}
+use Rattle.std.specs.Option.{unwrap_or}
+use Rattle.std.specs.Prelude.{is_some}
+use Rattle.std.proofs.Common.{◌≡◌, ℕ, ◌+◌, ◌-◌, ◌<◌, ◌≤◌, Bool, true, false, eqb, List, length, Option, Some, None, get_or, set, replicate, sym, refl, ap, ◌∙◌, subst, ⊎_elim, true≢false, arith, get_or-set_other, get_or-set_same, eq-eqb, ne_eqb, eqb-true}
 use Rattle.std.proofs.Math.Logic.{∥∥₁_map}
 use Rattle.std.proofs.lemmas.Grind.{not_there}
 use mathlib.Core.Bool.{false≢true}
 use borrow.Author.Tests.{eqb-false}
 use lib.ListN.{length-replicate, get_or-replicate, get_or-eq_default}
-use Rattle.text.specs.Range.{part, same_bytes}
+use Rattle.text.specs.Range.{same_bytes}
 use Rattle.characters.proofs.Tests.{le_or_lt}
 use Rattle.text.proofs.Ranges.{same_equal, same_self, same_not}
-use Rattle.characters.proofs.Walks.{first_over}
+use Rattle.characters.proofs.Walks.{first_over, first_from}
 use Rattle.characters.proofs.Firsts.{first_low, first_only}
 use Rattle.area.specs.Lists.{all_below}
 use Rattle.area.proofs.All.{below_next}
-use Rattle.name_map.specs.declared.MapEntry.{MapEntry}
+use Rattle.name_map.specs.declared.NameMap.{NameMap}
 use Rattle.name_map.specs.declared.index.Probed.{Probed}
 use Rattle.name_map.specs.declared.index.Probed.TheVariants.{Free, Found}
-use Rattle.name_map.specs.Map.{map_entry_at, entry_count, Entry, entries_of, nth, find_entry, found_entry, distinct, map_check}
+use Rattle.name_map.specs.Map.{Entry, entries_of, nth, find_entry, found_entry, distinct, map_check}
 use Rattle.name_map.specs.Home.{home_of}
-use Rattle.name_map.specs.Index.{slot_count, Taken, HasSlot, EntrySlots, FreeFor, Probes, EntryIndexed, EntriesIndexed, MapChecked}
-use Rattle.name_map.proofs.Maps.{entries_count, name-at, has, entry_missing, entry_first, distinct_read, found_some, map_ragged, map_large, map_outside, map_inside}
+use Rattle.name_map.specs.Index.{slot_count, Taken, HasSlot, EntrySlots, FreeFor, Probes, EntryIndexed, EntriesIndexed, EntryIndex}
+use Rattle.name_map.specs.Phrases.{map_in, MapChecked}
+use Rattle.name_map.proofs.Maps.{entry_first, distinct_read, found_some, found_none}
 
 -- ---- the search; the loop stands at p
 
@@ -63,7 +66,6 @@ module _ (es : List Entry) (slots name : List ℕ) where
 module _ (es : List Entry) where
   pub slots_none : (l : List ℕ) → l ≡ replicate slot_count 0 → EntrySlots es 0 l
   slots_none l e = record {
-    long = ap length e ∙ length-replicate {A = ℕ} slot_count 0;
     low = λ p. ⊎_elim
         (λ g.
         let past = get_or-eq_default {A = ℕ} (replicate slot_count 0) 0 {n = p} (omega (arith, g, length-replicate {A = ℕ} slot_count 0)) in
@@ -80,7 +82,6 @@ module _ (es : List Entry) where
     -- from the home of entry k on no slot is free
     pub slots_full : Taken l home slot_count → EntrySlots es (k + 1) l
     slots_full T = record {
-      long = S.long;
       low = λ p. omega (arith, S.low p);
       stands = λ i b h from inside free. ⊎_elim
           (λ w.
@@ -90,12 +91,12 @@ module _ (es : List Entry) where
           (le_or_lt k i);
     }
 
-    module _ (p : ℕ) (F : FreeFor es k l (nth es k).name p) where
+    module _ (p : ℕ) (F : FreeFor es k l (nth es k).name p) (long : length l ≡ slot_count) where
       abbrev l' : List ℕ
       l' = set l p (k + 1)
 
       here : get_or l' p 0 ≡ k + 1
-      here = get_or-set_same l p (k + 1) 0 (omega (arith, F.inside, S.long))
+      here = get_or-set_same l p (k + 1) 0 (omega (arith, F.inside, long))
 
       other : (q : ℕ) → (q ≡ p → ⊥) → get_or l' q 0 ≡ get_or l q 0
       other q d = get_or-set_other l p q (k + 1) 0 d
@@ -131,7 +132,6 @@ module _ (es : List Entry) where
 
       pub slots_set : EntrySlots es (k + 1) l'
       slots_set = record {
-        long = length-set l p (k + 1) ∙ S.long;
         low = low';
         stands = λ i b h from inside free. ⊎_elim
             (λ w.
@@ -162,32 +162,24 @@ abbrev pub firsts_below : List Entry → ℕ → Bool
 firsts_below es k = all_below (λ j. eqb (find_entry es (nth es j).name) j) k
 
 -- the search for the name of entry j has answered r
-pub record Searched (names entries l : List ℕ) (j : ℕ) (r : Option Probed) : Type 0 where
-  pub inside : j < entry_count entries
-  pub slots : EntrySlots (entries_of names entries) j l
-  pub answer : Probes (entries_of names entries) j l (nth (entries_of names entries) j).name r
+pub record Searched (es : List Entry) (l : List ℕ) (j : ℕ) (r : Option Probed) : Type 0 where
+  pub inside : j < length es
+  pub slots : EntrySlots es j l
+  pub answer : Probes es j l (nth es j).name r
 
-module _ (names entries l : List ℕ) where
-  abbrev es : List Entry
-  es = entries_of names entries
+module _ (es : List Entry) (l : List ℕ) where
+  pub searched : (j : ℕ) → j < length es → EntrySlots es j l → (name : List ℕ) → name ≡ (nth es j).name → (r : Option Probed) → Probes es j l name r
+      → Searched es l j r
+  searched j h S name own r P = record { inside = h; slots = S; answer = subst (λ (n : List ℕ). Probes es j l n r) own P }
 
-  pub searched : (j : ℕ) → j < entry_count entries → EntrySlots es j l → (x : MapEntry) → x ≡ map_entry_at entries j
-      → (end : ℕ) → end ≡ x.name_from + x.name_length → (r : Option Probed) → Probes es j l (part names x.name_from end) r → Searched names entries l j r
-  searched j h S x is end ends r P = record {
-    inside = h;
-    slots = S;
-    answer = subst (λ (name : List ℕ). Probes es j l name r) (name-at names entries j h x is end ends) P;
-  }
-
-  module _ {j : ℕ} {r : Option Probed} (N : Searched names entries l j r) where
+  module _ {j : ℕ} {r : Option Probed} (N : Searched es l j r) where
     came : (q : Option Probed) → r ≡ q → Probes es j l (nth es j).name q
     came q e = subst (Probes es j l (nth es j).name) e N.answer
 
-    pub indexed_free : (p : ℕ) → r ≡ Some (Free p) → EntryIndexed es j true (set l p (j + 1))
-    indexed_free p e =
+    pub indexed_free : length l ≡ slot_count → (p : ℕ) → r ≡ Some (Free p) → EntryIndexed es j true (set l p (j + 1))
+    indexed_free long p e =
         let free : FreeFor es j l (nth es j).name p = came (Some (Free p)) e in
-        let h : j < length es = omega (arith, N.inside, entries_count names entries) in
-        record { is = first_new es j h free.none; slots = λ _. slots_set es j l N.slots p free }
+        record { is = first_new es j N.inside free.none; slots = λ _. slots_set es j l N.slots p free long }
 
     pub indexed_found : (i : ℕ) → r ≡ Some (Found i) → EntryIndexed es j false l
     indexed_found i e =
@@ -197,47 +189,55 @@ module _ (names entries l : List ℕ) where
     pub indexed_exhausted : r ≡ None → (t : Bool) → t ≡ eqb (find_entry es (nth es j).name) j → EntryIndexed es j t l
     indexed_exhausted e t q = record { is = q; slots = λ _. slots_full es j l N.slots (came None e) }
 
-  pub entries_repeated : (j : ℕ) (r : Bool) → j < entry_count entries → EntryIndexed es j r l → r ≡ false → EntriesIndexed names entries false l
+  pub entries_repeated : (j : ℕ) (r : Bool) → j < length es → EntryIndexed es j r l → r ≡ false → EntriesIndexed es false l
   entries_repeated j r h I repeated = record { is = by (distinct es) refl; slots = λ q. absurd (false≢true q) }
     where
       by : (t : Bool) → distinct es ≡ t → false ≡ t
-      by true q =
-          let first_one = entry_first es q j (omega (arith, entries_count names entries)) in
-          absurd (false≢true (sym repeated ∙ I.is ∙ eq-eqb (find_entry es (nth es j).name) j first_one))
+      by true q = absurd (false≢true (sym repeated ∙ I.is ∙ eq-eqb (find_entry es (nth es j).name) j (entry_first es q j h)))
       by false q = refl
 
   pub entries_next : (j : ℕ) (r : Bool) → true ≡ firsts_below es j → EntryIndexed es j r l → r ≡ true → true ≡ firsts_below es (j + 1)
   entries_next j r firsts I good = sym good ∙ below_next _ j true r firsts I.is
 
-  pub entries_indexed : (k : ℕ) → entry_count entries ≤ k → k ≤ entry_count entries → true ≡ firsts_below es k → EntrySlots es k l
-      → EntriesIndexed names entries true l
+  pub entries_indexed : (k : ℕ) → length es ≤ k → k ≤ length es → true ≡ firsts_below es k → EntrySlots es k l → EntriesIndexed es true l
   entries_indexed k h g firsts S =
-      let z : k ≡ entry_count entries = omega arith in
-      record { is = distinct_read names entries k true h g firsts; slots = λ _. subst (λ (n : ℕ). EntrySlots es n l) z S }
-
-  pub checked_no : false ≡ map_check names entries → MapChecked names entries false l
-  checked_no e = record { is = e; index = λ q. absurd (false≢true q) }
-
-  pub checked_yes : (r : Bool) → EntriesIndexed names entries r l → (r ≡ distinct es → r ≡ map_check names entries) → MapChecked names entries r l
-  checked_yes r I f = record { is = f I.is; index = λ q. record { different = sym I.is ∙ q; slots = I.slots q } }
+      let z : k ≡ length es = omega arith in
+      record { is = distinct_read es k true h g firsts; slots = λ _. subst (λ (n : ℕ). EntrySlots es n l) z S }
 
   -- ---- the entry of a name
 
-  module _ (name : List ℕ) (n : ℕ) (whole : n ≡ entry_count entries) (r : Option Probed) (P : Probes es n l name r) where
+  module _ (name : List ℕ) (n : ℕ) (whole : n ≡ length es) (r : Option Probed) (P : Probes es n l name r) where
     pub find_free : (p : ℕ) → r ≡ Some (Free p) → None ≡ found_entry es name
+    unfolding find_entry
     find_free p e =
         let free : FreeFor es n l name p = subst (Probes es n l name) e P in
-        let past = first_over (has names entries name) 0 n (entry_count entries) (omega arith) (omega (arith, whole)) (λ i a b. free.none i b) in
-        entry_missing names entries name n past (omega (arith, whole))
+        let test : ℕ → Bool = λ j. same_bytes (nth es j).name name in
+        let past = first_over test 0 n (length es) (omega arith) (omega (arith, whole)) (λ i a b. free.none i b) in
+        found_none es name (omega (arith, whole, past, first_from test n (length es)))
 
     pub find_found : distinct es ≡ true → (j : ℕ) → r ≡ Some (Found j) → Some j ≡ found_entry es name
     find_found different j e =
         let found : (j < n) × (same_bytes (nth es j).name name ≡ true) = subst (Probes es n l name) e P in
-        let inside : j < length es = omega (arith, found.0, whole, entries_count names entries) in
+        let inside : j < length es = omega (arith, found.0, whole) in
         found_some es name j inside (sym (ap (find_entry es) (sym (same_equal (nth es j).name name found.1)) ∙ entry_first es different j inside))
 
--- the map check: each test that fails makes it false, and a map that passes has its slots
-pub ruleset checking_map = (map_ragged, map_large, map_outside, map_inside, checked_no, checked_yes)
+-- ---- the map check
 
--- by each answer of the search
-pub ruleset finding = (find_free, find_found)
+module _ (names entries l : List ℕ) where
+  pub checked_no : false ≡ map_check names entries → MapChecked names entries None l
+  checked_no e = record { is = e; map = λ m q. absurd (false≢true (ap is_some q)); index = λ m q. absurd (false≢true (ap is_some q)) }
+
+  pub checked_repeated : (es : List Entry) (r : Bool) → EntriesIndexed es r l → (r ≡ distinct es → r ≡ map_check names entries) → r ≡ false
+      → MapChecked names entries None l
+  checked_repeated es r I f bad = checked_no (sym bad ∙ f I.is)
+
+  pub checked_yes : (m : NameMap) → map_in m ≡ entries_of names entries → (r : Bool) → EntriesIndexed (map_in m) r l
+      → (r ≡ distinct (map_in m) → r ≡ map_check names entries) → r ≡ true → MapChecked names entries (Some m) l
+  checked_yes m is r I f good = record {
+    is = sym good ∙ f I.is;
+    map = λ n q. ap map_in (sym (same n q)) ∙ is;
+    index = λ n q. subst (λ (x : NameMap). EntryIndex (map_in x) l) (same n q) (record { different = sym I.is ∙ good; slots = I.slots good });
+  }
+    where
+      same : (n : NameMap) → Some m ≡ Some n → m ≡ n
+      same n q = ap (λ (o : Option NameMap). unwrap_or o m) q

@@ -4,7 +4,7 @@ use Rattle.std.specs.Prelude.{◌≡◌, ℕ, ◌+◌, ◌<◌, ◌≤◌, Bool,
 use Rattle.text.specs.Range.{same_bytes}
 use Rattle.name_map.specs.declared.index.Probed.{Probed}
 use Rattle.name_map.specs.declared.index.Probed.TheVariants.{Free, Found}
-use Rattle.name_map.specs.Map.{entry_count, Entry, entries_of, nth, find_entry, distinct, map_check}
+use Rattle.name_map.specs.Map.{Entry, nth, find_entry, distinct}
 use Rattle.name_map.specs.Home.{home_of}
 
 -- how many slots there are
@@ -26,7 +26,6 @@ pub record HasSlot (slots : List ℕ) (i a b : ℕ) : Type 0 where
 
 -- the slots of the first n entries: from its home on each has a slot before every free one, or no slot is free from there on
 pub record EntrySlots (es : List Entry) (n : ℕ) (slots : List ℕ) : Type 0 where
-  pub long : length slots ≡ slot_count
   pub low : (p : ℕ) → slice_index slots p ≤ n
   pub stands : (i b : ℕ) → i < n → home_of (nth es i).name ≤ b → b < slot_count → slice_index slots b ≡ 0 → ∥ HasSlot slots i (home_of (nth es i).name) b ∥₁
 
@@ -54,16 +53,11 @@ pub record EntryIndexed (es : List Entry) (j : ℕ) (r : Bool) (l : List ℕ) : 
   pub slots : r ≡ true → EntrySlots es (j + 1) l
 
 -- the same of all entries
-pub record EntriesIndexed (names entries : List ℕ) (r : Bool) (l : List ℕ) : Type 0 where
-  pub is : r ≡ distinct (entries_of names entries)
-  pub slots : r ≡ true → EntrySlots (entries_of names entries) (entry_count entries) l
+pub record EntriesIndexed (es : List Entry) (r : Bool) (l : List ℕ) : Type 0 where
+  pub is : r ≡ distinct es
+  pub slots : r ≡ true → EntrySlots es (length es) l
 
 -- a map whose names are distinct, and their slots
-pub record EntryIndex (names entries l : List ℕ) : Type 0 where
-  pub different : distinct (entries_of names entries) ≡ true
-  pub slots : EntrySlots (entries_of names entries) (entry_count entries) l
-
--- what the map check answers and leaves
-pub record MapChecked (names entries : List ℕ) (r : Bool) (l : List ℕ) : Type 0 where
-  pub is : r ≡ map_check names entries
-  pub index : r ≡ true → EntryIndex names entries l
+pub record EntryIndex (es : List Entry) (l : List ℕ) : Type 0 where
+  pub different : distinct es ≡ true
+  pub slots : EntrySlots es (length es) l

@@ -1,4 +1,5 @@
 pub mod Map
+pub mod Laws
 pub mod Home
 pub mod Index
 pub mod Phrases

@@ -1,8 +1,15 @@
--- What the contracts of the code speak of: the map that is lent.
-use Rattle.std.specs.Prelude.{List}
-use Rattle.name_map.specs.declared.map.NameMap.{NameMap}
-use Rattle.name_map.specs.Map.{Entry, entries_of}
+-- What the contracts of the code speak of: the map that is lent, and what its check leaves.
+use Rattle.std.specs.Prelude.{◌≡◌, ℕ, List, map, Option, Some, is_some}
+use Rattle.name_map.specs.declared.NameMap.{NameMap}
+use Rattle.name_map.specs.Map.{Entry, entry_of, entries_of, map_check}
+use Rattle.name_map.specs.Index.{EntryIndex}
 
 -- the map
 abbrev pub map_in : NameMap → List Entry
-map_in m = entries_of m.names.now m.entries.now
+map_in m = map (entry_of m.names.now) m.entries
+
+-- what the map check answers: the map that the names and the entries stand for, where it passes, with its slots
+pub record MapChecked (names entries : List ℕ) (r : Option NameMap) (l : List ℕ) : Type 0 where
+  pub is : is_some r ≡ map_check names entries
+  pub map : (m : NameMap) → r ≡ Some m → map_in m ≡ entries_of names entries
+  pub index : (m : NameMap) → r ≡ Some m → EntryIndex (map_in m) l

@@ -1,11 +1,7 @@
 // The home of a name: the slot of the index at which the search for it begins. Equal names have the same home, and nothing else is used of it.
-// It is made of Fletcher's checksum of the bytes: over a long name, additions are quicker than multiplications one after the other. A name is a
-// text and two places in it, whose range may pass the text's end, as no slice does.
+// It is made of Fletcher's checksum of the bytes: over a long name, additions are quicker than multiplications one after the other.
 ghost use Rattle.std.specs.Prelude.{◌≡◌, ℕ, ◌+◌, ◌<◌, ◌≤◌, length};
-ghost use Rattle.text.specs.Range.{part};
 ghost use Rattle.name_map.specs.Home.{word_at, add_number, add_numbers, mixed, Home};
-
-use text::range::part_len;
 
 // The sum of the numbers so far, and the sum of these sums.
 #[derive(Clone, Copy)]
@@ -55,18 +51,18 @@ fn mix(h: u32, number: u32) -> u32
     h.wrapping_mul(2654435769).wrapping_add(number)
 }
 
-// The home of the bytes of a text from a to e: their number, then four bytes at a time, then the rest one by one.
-pub fn home_of(text: &[u8], a: usize, e: usize) -> usize
-    ensures { Home (part text.now a e) result }
+// The home of a name: its length, then four bytes at a time, then the rest one by one.
+pub fn home_of(name: &[u8]) -> usize
+    ensures { Home name.now result }
 {
-    let n = part_len(text.len(), a, e);
+    let n = name.len();
     let start = Checksum {
         sum: (n % 4294967296) as u32,
         sums: 0,
     };
-    let words = start.add_numbers(n / 4, |k| word_at(text, a + 4 * k));
-    let rest = a + 4 * (n / 4);
-    let c = words.add_numbers(n % 4, |k| text[rest + k] as u32);
+    let words = start.add_numbers(n / 4, |k| word_at(name, 4 * k));
+    let rest = 4 * (n / 4);
+    let c = words.add_numbers(n % 4, |k| name[rest + k] as u32);
     // the highest 12 of 32 bits, which the multiplier mixes best
     (mix(mix(c.sum, c.sums), 0) / 1048576) as usize
 }

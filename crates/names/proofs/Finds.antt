@@ -1,5 +1,5 @@
 -- The record of a name: what the test of one record says, and that the first that passes is the record that is looked for.
-use mathlib.Core.Path.{◌≡◌, sym, ap, ◌∙◌}
+use mathlib.Core.Path.{◌≡◌, refl, sym, ap, ◌∙◌}
 use mathlib.Core.Bool.{Bool, true, false}
 use mathlib.Core.List.{List}
 use Prim.Native.Nat.{ℕ, ◌+◌, ◌≤◌, ◌<◌}
@@ -29,13 +29,13 @@ module _ (s : List ℕ) (a e j : ℕ) (r : Bool) where
   state_other x z q xs is = rw (ne_eqb j 0 z, is) q
 
 module _ (s : List ℕ) (a e : ℕ) (x : Rule) where
-  pub rule_unnamed : (x.named ≡ 1 → ⊥) → false ≡ has_name s a e x
+  pub rule_unnamed : (t : Bool) → t ≡ eqb x.named 1 → t ≡ false → false ≡ has_name s a e x
   unfolding has_name
-  rule_unnamed d = rw (ne_eqb x.named 1 d)
+  rule_unnamed t is f = rw (← is, f) refl
 
-  pub rule_compared : (r : Bool) → x.named ≡ 1 → r ≡ same_range s a e s x.name_from (x.name_from + x.name_length) → r ≡ has_name s a e x
+  pub rule_compared : (t r : Bool) (z : ℕ) → t ≡ eqb x.named 1 → t ≡ true → z ≡ x.name_from + x.name_length → r ≡ same_range s a e s x.name_from z → r ≡ has_name s a e x
   unfolding has_name
-  rule_compared r d q = rw (eq-eqb x.named 1 d) q
+  rule_compared t r z is f end q = rw (← is, f, ← end) q
 
 -- a rule that has the name is named, and its name has the same bytes
 pub named_same : (s : List ℕ) (a e : ℕ) (x : Rule) → has_name s a e x ≡ true → (x.named ≡ 1) × (part s a e ≡ name_of s x)

@@ -4,14 +4,13 @@ use mathlib.Core.Path.{◌≡◌, refl, sym, ap, subst, ◌∙◌}
 use mathlib.Core.Bool.{Bool, true, false}
 use mathlib.Core.List.{List, [], ◌∷◌}
 use mathlib.Core.Logic.{⊎_elim}
-use Prim.Native.Nat.{ℕ, ◌+◌, ◌*◌, ◌-◌, ◌%◌, ◌≤◌, ◌<◌, min}
+use Prim.Native.Nat.{ℕ, ◌+◌, ◌*◌, ◌%◌, ◌≤◌, ◌<◌}
 use native.Mathlib.Omega.{arith}
 use borrow.Author.Rules.{rules}
 use borrow.Author.Tests.{eqb-true, eqb-false}
 use lib.Dec.{eqb}
-use lib.ListN.{length, get_or, take, drop, set, replicate, length-take, length-drop, length-set, length-replicate}
-use lib.Seq.{take_all, get_or-take, get_or-drop, get_or-set_same, get_or-set_other}
-use Rattle.characters.specs.Whitespace.{byte}
+use lib.ListN.{length, get_or, take, set, replicate, length-take, length-set, length-replicate}
+use lib.Seq.{take_all, get_or-take, get_or-set_same, get_or-set_other}
 use Rattle.text.specs.Range.{part}
 use Rattle.characters.proofs.Tests.{le_or_lt}
 use Rattle.characters.proofs.Walks.{first_over, first_none}
@@ -19,58 +18,21 @@ use Rattle.area.specs.declared.Rule.{Rule}
 use Rattle.area.specs.Records.{rule_at, nth_rule}
 use Rattle.area.specs.Contents.{rule_format}
 use Rattle.names.specs.Names.{name_of, has_name, find_rule}
-use Rattle.names.specs.Marks.{mark_count, mark_of, Mark, Marked}
+use Rattle.names.specs.Marks.{mark_count, from_end, mark_of, Mark, Marked}
 use Rattle.names.proofs.Finds.{named_same}
 
 -- ---- the place of a mark
 
-mark_empty : (l : List ℕ) → length l ≡ 0 → 0 ≡ mark_of l
-unfolding mark_of
-mark_empty [] q = refl
-mark_empty (x ∷ xs) q = absurd (omega arith)
+module _ (name : List ℕ) where
+  pub mark_made : (r : ℕ) → r ≡ (from_end name 1 + 10 * from_end name 2 + 100 * from_end name 3 + 1000 * from_end name 4 + length name) % mark_count → Mark name r
+  unfolding mark_of
+  mark_made r q = record { is = q; small = omega arith }
 
-mark_by : (l : List ℕ) (n b c d f : ℕ) → length l ≡ n → b ≡ get_or l (n - 1) 0 → c ≡ get_or l (n - 2) 0 → d ≡ get_or l (n - 3) 0 → f ≡ get_or l (n - 4) 0
-    → (b + 10 * c + 100 * d + 1000 * f + n) % mark_count ≡ mark_of l
-unfolding mark_of
-mark_by l n b c d f q eb ec ed ef = rw (q, ← eb, ← ec, ← ed, ← ef)
-
-pub first_byte : (s : List ℕ) (a n k : ℕ) → n < k → byte s a ≡ byte s (a + (n - k))
-first_byte s a n k h = ap (byte s) (omega arith)
-
--- n of the bytes from a to e stand in the text
-module _ (s : List ℕ) (a e n : ℕ) (is : n ≡ min (e - a) (length s - a)) where
-  size : length (part s a e) ≡ n
-  unfolding part
-  size = simp (length-take, length-drop) (sym is)
-
-  byte_in : (k : ℕ) → k < n → byte s (a + k) ≡ get_or (part s a e) k 0
-  unfolding part
-  byte_in k h = sym (get_or-take (e - a) (drop a s) k 0 (omega arith) ∙ get_or-drop a s k 0)
-
-  pub place_empty : n ≡ 0 → Mark (part s a e) 0
-  place_empty z = record { is = mark_empty (part s a e) (size ∙ z); small = omega arith }
-
-  pub place_cut : (n ≡ 0 → ⊥) → (b c d f r : ℕ) → b ≡ byte s (a + (n - 1)) → c ≡ byte s (a + (n - 2)) → d ≡ byte s (a + (n - 3)) → f ≡ byte s (a + (n - 4))
-      → r ≡ (b + 10 * c + 100 * d + 1000 * f + n) % mark_count → Mark (part s a e) r
-  place_cut z b c d f r eb ec ed ef q = record {
-    is = q ∙ mark_by (part s a e) n b c d f size (eb ∙ byte_in (n - 1) (omega arith)) (ec ∙ byte_in (n - 2) (omega arith)) (ed ∙ byte_in (n - 3) (omega arith)) (ef ∙ byte_in (n - 4) (omega arith));
-    small = omega arith;
-  }
-
--- a range that lies in its text and has at least four bytes
-pub place_inside : (s : List ℕ) (a e : ℕ) → a ≤ e → e ≤ length s → 4 ≤ e - a → (r : ℕ)
-    → r ≡ (byte s (e - 1) + 10 * byte s (e - 2) + 100 * byte s (e - 3) + 1000 * byte s (e - 4) + (e - a)) % mark_count → Mark (part s a e) r
-place_inside s a e h l g r q =
-    place_cut s a e (e - a) (omega arith) (λ z. omega (arith, z)) (byte s (e - 1)) (byte s (e - 2)) (byte s (e - 3)) (byte s (e - 4)) r (from 1 (omega arith)) (from 2 (omega arith)) (from 3 (omega arith)) (from 4 (omega arith)) q
-  where
-    from : (k : ℕ) → k ≤ 4 → byte s (e - k) ≡ byte s (a + (e - a - k))
-    from k v = ap (byte s) (omega arith)
-
-pub ruleset marking = (rules, first_byte, place_empty, place_cut, place_inside)
+pub ruleset marking = (rules, mark_made)
 
 -- ---- a name whose mark is 0
 
-module _ (s : List ℕ) (xs : List Rule) (marks : List ℕ) (M : Marked s xs marks) (a e r : ℕ) (q : Mark (part s a e) r) (z : get_or marks r 0 ≡ 0) where
+module _ (s : List ℕ) (xs : List Rule) (marks : List ℕ) (M : Marked s xs marks) (a e r : ℕ) (name : List ℕ) (cut : name ≡ part s a e) (q : Mark name r) (z : get_or marks r 0 ≡ 0) where
   abbrev test : ℕ → Bool
   test j = has_name s a e (nth_rule xs j)
 
@@ -80,7 +42,7 @@ module _ (s : List ℕ) (xs : List Rule) (marks : List ℕ) (M : Marked s xs mar
       by : (t : Bool) → test j ≡ t → t ≡ false
       by true t =
           let (named, same) = named_same s a e (nth_rule xs j) t in
-          absurd (omega (arith, M.each j g named, z, ap (λ (k : ℕ). get_or marks k 0) (q.is ∙ ap mark_of same)))
+          absurd (omega (arith, M.each j g named, z, ap (λ (k : ℕ). get_or marks k 0) (q.is ∙ ap mark_of (cut ∙ same))))
       by false t = refl
 
   pub unmarked_missing : length xs ≡ find_rule s a e xs
@@ -89,8 +51,6 @@ module _ (s : List ℕ) (xs : List Rule) (marks : List ℕ) (M : Marked s xs mar
       let m = length xs in
       first_none test m m (omega arith)
       ∙ sym (first_over test 0 m m (omega arith) (omega arith) (λ j u v. none_named j v))
-
-pub ruleset finding_marked = (rules, unmarked_missing)
 
 -- ---- marks of the first k rules
 
@@ -125,10 +85,10 @@ module _ (s : List ℕ) (xs : List Rule) (marks : List ℕ) (k : ℕ) (M : Marke
           (le_or_lt k j);
     }
 
-    pub marked_passed : (x.named ≡ 1 → ⊥) → Marked s (take (k + 1) xs) marks
-    marked_passed d = marked_next marks M.long (λ i u. u) (λ t. absurd (d t))
+    pub marked_passed : (t : Bool) → t ≡ eqb x.named 1 → t ≡ false → Marked s (take (k + 1) xs) marks
+    marked_passed t is f = marked_next marks M.long (λ i u. u) (λ named. absurd (eqb-false x.named 1 (sym is ∙ f) named))
 
-    module _ (r : ℕ) (q : Mark (part s x.name_from (x.name_from + x.name_length)) r) where
+    module _ (r z : ℕ) (end : z ≡ x.name_from + x.name_length) (q : Mark (part s x.name_from z) r) where
       at_mark : get_or (set marks r 1) r 0 ≡ 1
       at_mark = get_or-set_same marks r 1 0 (omega (arith, q.small, M.long))
 
@@ -142,6 +102,7 @@ module _ (s : List ℕ) (xs : List Rule) (marks : List ℕ) (k : ℕ) (M : Marke
       pub marked-set : Marked s (take (k + 1) xs) (set marks r 1)
       unfolding name_of
       marked-set =
-          marked_next (set marks r 1) (length-set marks r 1 ∙ M.long) keeps_marks (λ t. omega (arith, at_mark, ap (λ (j : ℕ). get_or (set marks r 1) j 0) q.is))
+          marked_next (set marks r 1) (length-set marks r 1 ∙ M.long) keeps_marks
+          (λ t. omega (arith, at_mark, ap (λ (j : ℕ). get_or (set marks r 1) j 0) (q.is ∙ ap (λ (e : ℕ). mark_of (part s x.name_from e)) end)))
 
 pub ruleset marking_rules = (rules, marked_all, marked_passed, marked-set)

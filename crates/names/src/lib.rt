@@ -11,12 +11,12 @@ ghost use Rattle.area.specs.Records.{nth_state, nth_rule};
 ghost use Rattle.names.specs.Names.{all_bytes, is_name_byte, is_state_name, is_state, find_state, has_name, find_rule};
 ghost use Rattle.names.specs.Marks.{NamesHeld};
 
-use crate::marks::mark_of;
+use crate::marks::{MARKS, mark_of};
 use area::list::Records;
 use area::{Rule, State};
 use characters::class::{is_digit, is_letter};
 use characters::walk::find;
-use text::range::same_range;
+use text::range::{part, same_range};
 
 #[tactic(auto, using(crate::proofs::Forms::name_byte))]
 fn is_name_byte(b: u8) -> bool
@@ -77,11 +77,7 @@ pub fn get_start_state_by_name(
 fn has_name(src: &[u8], a: usize, e: usize, x: Rule) -> bool
     ensures { result ≡ has_name src.now a e x }
 {
-    if x.named != 1 {
-        return false;
-    }
-    let from = x.name_from as usize;
-    same_range(src, a, e, src, from, from + x.name_length as usize)
+    x.is_named() && same_range(src, a, e, src, x.name_from as usize, x.name_end())
 }
 
 // The rules of a source so far, and the marks of their names. No two of them have the same name.
@@ -89,12 +85,12 @@ fn has_name(src: &[u8], a: usize, e: usize, x: Rule) -> bool
 pub struct NamedRules<'a> {
     source: &'a [u8],
     rules: Records<'a, Rule>,
-    marks: &'a [u8],
+    marks: &'a [u8; MARKS],
     ghost names: { NamesHeld source.now rules marks.now },
 }
 
 impl<'a> NamedRules<'a> {
-    pub fn new(source: &'a [u8], rules: Records<'a, Rule>, marks: &'a [u8]) -> NamedRules<'a>
+    pub fn new(source: &'a [u8], rules: Records<'a, Rule>, marks: &'a [u8; MARKS]) -> NamedRules<'a>
         requires { NamesHeld source.now rules marks.now }
         ensures source { result.source.now ≡ source.now }
         ensures rules { result.rules ≡ rules.entry }
@@ -125,7 +121,7 @@ impl<'a> NamedRules<'a> {
     pub fn find(&self, a: usize, e: usize) -> Option<usize>
         ensures { Below (length self.now.rules) (find_rule self.now.source.now a e self.now.rules) result }
     {
-        let at = mark_of(self.source, a, e);
+        let at = mark_of(part(self.source, a, e));
         if self.marks[at] == 0 {
             return None;
         }

@@ -11,8 +11,6 @@ use Rattle.std.proofs.Common.{inl, inr}
 use Rattle.std.proofs.lemmas.Bool.{cases_lt}
 use Rattle.std.proofs.lemmas.Slice.{take-put_mid}
 use borrow.Rule.Slice.PartMut.{put_mid}
-use Rattle.std.specs.List.{slice_range}
-use Rattle.text.specs.Range.{part}
 use Rattle.output.specs.Output.{appended, joined}
 
 -- what is taken of two texts is taken of the first, and then of the second
@@ -67,22 +65,6 @@ written_behind n a k r l t s v long few is part fits =
     let y : n - a ≡ n - length t = omega arith in
     take-put_mid a k l v (a + r) (omega arith) (omega arith)
     ∙ ap₂ (λ (x u : List ℕ). x ++ u) is (part ∙ take_most r (n - a) s fits ∙ ap (λ (m : ℕ). take m s) y)
-
--- ---- a part of a text, as far as the text has it
-
-module _ (s : List ℕ) (from to r : ℕ) (fits : r ≡ min to (length s)) where
-  pub part_inside : slice_range s from r ≡ part s from to
-  unfolding part
-  part_inside =
-      let e : length (drop from s) ≡ length s - from = length-drop from s in
-      take_most (r - from) (to - from) (drop from s) (omega arith)
-
-  pub part_outside : r < from → [] ≡ part s from to
-  unfolding part
-  part_outside h =
-      let e : length (drop from s) ≡ length s - from = length-drop from s in
-      let z : 0 ≡ min (length (drop from s)) (to - from) = omega arith in
-      take_most 0 (to - from) (drop from s) z
 
 -- the texts of a list, one behind the other
 module _ (n : ℕ) (t : List ℕ) (f : ℕ → List ℕ) where

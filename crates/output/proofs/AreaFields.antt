@@ -13,7 +13,8 @@ module _ (n : ℕ) (t l : List ℕ) (at : ℕ) where
   unfolding printed_fields_at
   fields_none = sym (joined_none n t (λ (j : ℕ). printed_field (field_from l at j)))
 
-  pub fields_next : (j : ℕ) → appended n (appended n t (printed_fields_at l at j)) (printed_field (field_at l (at + 2 * j))) ≡ appended n t (printed_fields_at l at (j + 1))
+  pub fields_next : (j : ℕ)
+      → appended n (appended n t (printed_fields_at l at j)) (printed_field (field_at l (at + 2 * j))) ≡ appended n t (printed_fields_at l at (j + 1))
   unfolding printed_fields_at field_from
   fields_next j = joined_next n t (λ (i : ℕ). printed_field (field_from l at i)) j refl refl
 

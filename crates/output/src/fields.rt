@@ -1,4 +1,4 @@
-// The two-byte fields of an area, read and appended as numbers.
+// The two-byte fields of an area, read and appended as numbers. An area is lent with a place, since it may end before the fields do.
 ghost use Rattle.std.specs.Prelude.{◌≡◌, ◌≤◌};
 ghost use Rattle.area.specs.Bytes.{field_at};
 ghost use Rattle.output.specs.Output.{appended, printed_fields_at};

@@ -9,6 +9,7 @@ ghost use Rattle.output.specs.Output.{appended, newline, printed_field};
 
 use itoa::Buffer;
 use std::marker::Model;
+use text::range::part;
 
 // At most N bytes of text.
 #[derive(Drop)]
@@ -63,9 +64,7 @@ impl<const N: usize> Text<N> {
     pub fn push_part(&mut self, s: &[u8], from: usize, to: usize)
         ensures { self.new ≡ appended N self.old (part s.now from to) }
     {
-        if let Some(bytes) = s.get(from..to.min(s.len())) {
-            self.push_text(bytes);
-        }
+        self.push_text(part(s, from, to));
     }
 
     pub fn push_byte(&mut self, b: u8)

@@ -4,8 +4,12 @@
 mod sections; // the file from its start
 pub mod call; // the parse call
 
-ghost use Rattle.std.specs.Prelude.{◌≡◌};
+ghost use Rattle.std.specs.Prelude.{◌≡◌, Err};
+ghost use Rattle.answers.specs.Numbers.{number_of};
 ghost use Rattle.parse.specs.Answers.{has_faults};
+ghost use Rattle.parse.specs.Parse.{parse_fields};
+
+use answers::Number;
 
 // How many records each area has where there are no faults.
 #[derive(Clone, Copy)]
@@ -34,5 +38,21 @@ impl ParseError {
         ensures { result ≡ has_faults self }
     {
         matches!(self, ParseError::FaultyFile(_))
+    }
+}
+
+// Its number alone: the values of two of them stand beside it.
+impl From<ParseError> for Number {
+    ghost from_gives = { λ error number. number_of number ≡ (parse_fields (Err error)).number };
+
+    #[tactic(auto, unfolding(crate::specs::Parse::parse_fields))]
+    fn from(error: ParseError) -> Number {
+        match error {
+            ParseError::LongFile => Number::LongFile,
+            ParseError::UnknownFlag => Number::UnknownFlag,
+            ParseError::InvalidUtf8 => Number::InvalidUtf8,
+            ParseError::AreaFull(_) => Number::AreaFull,
+            ParseError::FaultyFile(_) => Number::FaultyFile,
+        }
     }
 }

@@ -17,9 +17,9 @@ use crate::{FileCounts, ParseError};
 use area::list::Records;
 use area::{State, push};
 use declarations::{DeclarationCounts, NameCounts, parse_declarations};
-use fault::{Stop, add_fault};
+use fault::{Span, Stop, add_fault};
+use rules_section::RuleCounts;
 use rules_section::lines::parse_rules;
-use rules_section::{RuleCounts, SheetCounts};
 use section::LexFile;
 
 // State 0, then the declarations.
@@ -50,10 +50,10 @@ fn close(stop: Stop, faults: u16, area6: &mut [u8]) -> ParseError
     ensures { Refuses (stopped (length area6.old) (contents fault_format area6.old faults) stop) area6.new result }
 {
     match stop {
-        Stop::Full(name) => ParseError::AreaFull(name.number()),
-        Stop::Fault(kind, at) => match add_fault(area6, faults, kind, at, at) {
+        Stop::Full(name) => ParseError::AreaFull(u16::from(name)),
+        Stop::Fault(kind, at) => match add_fault(area6, faults, kind, Span { start: at, end: at }) {
             Ok(n) => ParseError::FaultyFile(n),
-            Err(full) => ParseError::AreaFull(full.0.number()),
+            Err(full) => ParseError::AreaFull(u16::from(full.0)),
         },
     }
 }
@@ -63,12 +63,8 @@ fn no_rules(faults: u16) -> RuleCounts
     ensures { result ≡ nothing_ruled faults }
 {
     RuleCounts {
-        sheet: SheetCounts {
-            rules: 0,
-            entries: 0,
-            text: 0,
-        },
         faults,
+        ..RuleCounts::default()
     }
 }
 
@@ -103,6 +99,7 @@ pub fn parse_sections(
     ensures { Parses (file (asked_by lex_file.entry) (room_in area1 area2 area3 area4 area5 area6))
         area1.new area2.new area3.new area4.new area5.new area6.new result }
 {
+    // The zeros are written out: those of `default` are facts that nine answers would rewrite by (tried).
     let mut declared = DeclarationCounts {
         names: NameCounts {
             states: 0,

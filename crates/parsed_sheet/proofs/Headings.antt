@@ -11,8 +11,8 @@ use Rattle.std.specs.Prelude.{Option, Some, Result, Ok, Err}
 use Rattle.area.specs.declared.State.{State}
 use Rattle.area.specs.declared.Rule.{Rule}
 use Rattle.rules.specs.declared.LexError.{LexError}
-use Rattle.rules.specs.declared.StartStateOperation.{StartStateOperation}
-use Rattle.rules.specs.declared.StartStateOperation.TheVariants.{ReplaceStack, Push, Pop}
+use Rattle.area.specs.declared.StartStateOperation.{StartStateOperation}
+use Rattle.area.specs.declared.StartStateOperation.TheVariants.{ReplaceStack, Push, Pop}
 use Rattle.rules.specs.declared.TargetState.{TargetState}
 use Rattle.rules.specs.declared.Target.{Target}
 use Rattle.rules.specs.declared.Label.TheVariants.{Named}

@@ -60,8 +60,8 @@ pub name_long : (s : List ℕ) (p t : ℕ) → label_of s (span p t) ≡ Named �
 unfolding label_of
 name_long s p t q = omega (arith, subst (Long (t - p)) q (long (t - p) (byte s p) (byte s (t - 1))))
 
-pub label_long : (s : List ℕ) (p t : ℕ) (k : Label) → k ≡ label_of s (span p t) → k ≡ Named → p + 2 < t
-label_long s p t k is q = name_long s p t (sym is ∙ q)
+pub label_long : (s : List ℕ) (q : Span) (k : Label) → k ≡ label_of s q → k ≡ Named → q.start + 2 < q.end
+label_long s q k is z = name_long s q.start q.end (sym is ∙ z)
 
 -- ---- the blank
 

@@ -6,14 +6,15 @@ use Rattle.text.specs.Scan.{find_byte, last_blank}
 use Rattle.area.specs.declared.State.{State}
 use Rattle.area.specs.declared.Rule.{Rule}
 use Rattle.area.specs.Records.{nth_rule}
+pub use Rattle.area.specs.Operation.{operation_number}
 use Rattle.fault.specs.declared.Span.{Span}
 use Rattle.fault.specs.declared.kinds.LexErrorKind.{LexErrorKind}
 use Rattle.fault.specs.declared.kinds.LexErrorKind.TheVariants.{MissingSpace, InvalidName, UnknownStartState, InvalidStartState}
 use Rattle.names.specs.Names.{find_state, find_rule}
 use Rattle.escape.specs.Escape.{is_rewritten}
 use Rattle.rules.specs.declared.LexError.{LexError}
-use Rattle.rules.specs.declared.StartStateOperation.{StartStateOperation}
-use Rattle.rules.specs.declared.StartStateOperation.TheVariants.{ReplaceStack, Push, Pop}
+use Rattle.area.specs.declared.StartStateOperation.{StartStateOperation}
+use Rattle.area.specs.declared.StartStateOperation.TheVariants.{ReplaceStack, Push, Pop}
 use Rattle.rules.specs.declared.TargetState.{TargetState}
 use Rattle.rules.specs.declared.Target.{Target}
 use Rattle.rules.specs.declared.Label.{Label}
@@ -168,12 +169,6 @@ named_field (Some x) = 1
 abbrev pub name_fields : Option Name → Name
 name_fields None = record { from = 0; length = 0 }
 name_fields (Some x) = x
-
--- 1 replace, 2 push, 3 pop
-abbrev pub operation_number : StartStateOperation → ℕ
-operation_number ReplaceStack = 1
-operation_number Push = 2
-operation_number Pop = 3
 
 -- what is done with the stack of states: 0 without a target
 abbrev pub operation_field : Option TargetState → ℕ

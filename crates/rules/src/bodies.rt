@@ -1,4 +1,5 @@
 // What a pattern is: a list of states in front, or text whose escapes are rewritten or stay (01, Rules).
+// Places stand beside the source, as in the definition: a part of the source would move each of them.
 ghost use Rattle.std.specs.Prelude.{◌≡◌, ◌≤◌, length};
 ghost use Rattle.rules.specs.Heading.{body_of};
 

@@ -1,4 +1,6 @@
 // The list of states in front of a pattern, between `<` and `>` (01, Rules).
+// Places stand beside the source, as in the definitions: a part of the source would move each of them. The area that is lent for writing stays
+// beside its count: a struct of both, lent again, has no proof (tried).
 ghost use Rattle.std.specs.Prelude.{◌≤◌, ◌<◌, length};
 ghost use Rattle.characters.specs.Walk.{Below};
 ghost use Rattle.area.specs.Contents.{entry_format, Held};

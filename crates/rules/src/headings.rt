@@ -1,7 +1,7 @@
-// A rule's line but for its pattern: the last blank, and behind it the target and the name (01, Rules). Their places are places of the source, as in
-// the definitions.
+// A rule's line but for its pattern: the last blank, and behind it the target and the name (01, Rules). A line and a target go by places of the
+// source, and what stands behind the target is a `Span`, as in the definitions.
 ghost use Rattle.std.specs.Prelude.{◌≡◌, ◌+◌, ◌-◌, ◌≤◌, ◌<◌, length};
-ghost use Rattle.rules.specs.Heading.{operation_of, target_of, span, label_by, label_of, head_unnamed, head_named};
+ghost use Rattle.rules.specs.Heading.{operation_of, mark_length, target_of, label_by, label_of, head_unnamed, head_named};
 ghost use Rattle.rules.specs.Heading.{heading_named, heading_behind, heading_of};
 
 use crate::{Head, Heading, Label, LexError, Name, StartStateOperation, Target, TargetState};
@@ -26,6 +26,18 @@ fn parse_start_state_ops(x: u8) -> StartStateOperation
     }
 }
 
+// How many bytes stand for an operation in a target.
+fn mark_len(operation: StartStateOperation) -> usize
+    ensures is { result ≡ mark_length operation }
+    ensures small { result ≤ 1 }
+{
+    match operation {
+        StartStateOperation::ReplaceStack => 0,
+        StartStateOperation::Push => 1,
+        StartStateOperation::Pop => 1,
+    }
+}
+
 // Its state's name starts behind the `<`, or behind the `+` or `-` that follows.
 #[tactic(auto, unfolding(crate::proofs::Targets::targets))]
 fn target_of(file: LexFile, r: usize, t: usize, states: &Records<State>) -> Result<Target, LexError>
@@ -46,7 +58,7 @@ fn target_of(file: LexFile, r: usize, t: usize, states: &Records<State>) -> Resu
         });
     }
     let operation = parse_start_state_ops(byte_at(file.source, r + 2));
-    let from = r + 2 + operation.mark_len();
+    let from = r + 2 + mark_len(operation);
     let Some(j) = get_start_state_by_name(file.source, from, g, states) else {
         return Err(LexError {
             kind: LexErrorKind::UnknownStartState,
@@ -64,7 +76,7 @@ fn target_of(file: LexFile, r: usize, t: usize, states: &Records<State>) -> Resu
 
 // What a name part of n bytes is, of which x is the first and y the last.
 #[tactic(auto, unfolding(crate::proofs::Heads::labels))]
-fn label_by(n: usize, x: u8, y: u8) -> Label
+fn label_by(n: u16, x: u8, y: u8) -> Label
     ensures { result ≡ label_by n x y }
 {
     let quoted = ((x == b'"') & (y == b'"')) | ((x == b'\'') & (y == b'\''));
@@ -77,13 +89,15 @@ fn label_by(n: usize, x: u8, y: u8) -> Label
     Label::Misnamed
 }
 
-// What stands from p to t.
+// What stands at q.
 #[tactic(auto, unfolding(crate::specs::Heading::label_of))]
-fn label_of(src: &[u8], p: usize, t: usize) -> Label
-    requires { (1 ≤ t) × (p ≤ t) }
-    ensures { result ≡ label_of src.now (span p t) }
+fn label_of(src: &[u8], q: Span) -> Label
+    requires { (1 ≤ q.end) × (q.start ≤ q.end) }
+    ensures { result ≡ label_of src.now q }
 {
-    label_by(t - p, byte_at(src, p), byte_at(src, t - 1))
+    let first = byte_at(src, q.start as usize);
+    let last = byte_at(src, (q.end - 1) as usize);
+    label_by(q.end - q.start, first, last)
 }
 
 // ---- the heading
@@ -100,38 +114,38 @@ fn head_unnamed(r: usize, target_state: Option<TargetState>) -> Head
     }
 }
 
-// The name with its quotes stands from p to t.
-fn head_named(r: usize, p: usize, t: usize, target_state: Option<TargetState>) -> Head
-    requires { ((r < p) × (p + 2 < t)) × (t ≤ 65535) }
-    ensures { result ≡ head_named r (span p t) target_state }
+// The name with its quotes stands at q.
+fn head_named(r: usize, q: Span, target_state: Option<TargetState>) -> Head
+    requires { (r < q.start) × (q.start + 2 < q.end) }
+    ensures { result ≡ head_named r q target_state }
 {
+    let size = q.end - q.start;
     Head {
         name: Some(Name {
-            from: (p + 1) as u16,
-            length: (t - p - 2) as u16,
+            from: q.start + 1,
+            length: size - 2,
         }),
         name_span: Span {
-            start: (r + 2) as u16,
-            end: (r + (t - p)) as u16,
+            start: r as u16 + 2,
+            end: r as u16 + size,
         },
         target_state,
     }
 }
 
-// A quoted name stands from p to t: a rule has it already, or none.
+// A quoted name stands at q: a rule has it already, or none.
 #[tactic(auto, unfolding(crate::specs::Heading::heading_named, crate::specs::Heading::rule_named))]
 fn heading_named(
     r: usize,
     target_state: Option<TargetState>,
-    p: usize,
-    t: usize,
+    q: Span,
     rules: &NamedRules,
 ) -> Heading
-    requires { ((r < p) × (p + 2 < t)) × (t ≤ 65535) }
-    ensures { result ≡ heading_named rules.now.source.now r target_state (span p t) rules.now.rules }
+    requires { (r < q.start) × (q.start + 2 < q.end) }
+    ensures { result ≡ heading_named rules.now.source.now r target_state q rules.now.rules }
 {
-    let h = head_named(r, p, t, target_state);
-    let Some(j) = rules.find(p + 1, t - 1) else {
+    let h = head_named(r, q, target_state);
+    let Some(j) = rules.find((q.start + 1) as usize, (q.end - 1) as usize) else {
         return Heading::Fresh(r, h);
     };
     let x = rules.get(j);
@@ -142,23 +156,22 @@ fn heading_named(
     Heading::Repeated(first, h.name_span)
 }
 
-// What stands from p to t behind the target.
+// What stands at q behind the target.
 #[tactic(auto, using(crate::proofs::Heads::heading), unfolding(crate::specs::Heading::heading_behind))]
 fn heading_behind(
     file: LexFile,
     r: usize,
     target_state: Option<TargetState>,
-    p: usize,
-    t: usize,
+    q: Span,
     rules: &NamedRules,
 ) -> Result<Heading, LexError>
-    requires r_lt_p { ((r < p) × (p ≤ t)) × (t ≤ length file.source.now) }
+    requires r_lt_start { (r < q.start) × (q.start ≤ q.end) }
     requires source { rules.now.source.now ≡ file.source.now }
-    ensures { result ≡ heading_behind file.entry.source.now r target_state (span p t) rules.now.rules }
+    ensures { result ≡ heading_behind file.entry.source.now r target_state q rules.now.rules }
 {
-    match label_of(file.source, p, t) {
+    match label_of(file.source, q) {
         Label::Unnamed => Ok(Heading::Fresh(r, head_unnamed(r, target_state))),
-        Label::Named => Ok(heading_named(r, target_state, p, t, rules)),
+        Label::Named => Ok(heading_named(r, target_state, q, rules)),
         Label::Misnamed => Err(LexError {
             kind: LexErrorKind::InvalidName,
             at: (r + 1) as u16,
@@ -186,5 +199,9 @@ pub fn heading_of(
         });
     };
     let target = target_of(file, r, t, states)?;
-    heading_behind(file, r, target.state, target.end, t, rules)
+    let behind = Span {
+        start: target.end as u16,
+        end: t as u16,
+    };
+    heading_behind(file, r, target.state, behind, rules)
 }

@@ -6,9 +6,9 @@ pub mod entries; // the list of states in front of a pattern
 pub mod headings; // what stands behind the last blank of a line
 pub mod record; // the record of a rule
 
-ghost use Rattle.std.specs.Prelude.{◌≡◌, ◌≤◌};
-ghost use Rattle.rules.specs.Heading.{operation_number, mark_length};
+ghost use Rattle.std.specs.Prelude.{◌≡◌};
 
+pub use area::StartStateOperation;
 use fault::{LexErrorKind, Span, Stop};
 
 // A fault of a rule's line: its kind, and where it stands.
@@ -25,36 +25,6 @@ impl From<LexError> for Stop {
 
     fn from(error: LexError) -> Stop {
         Stop::Fault(error.kind, error.at)
-    }
-}
-
-// What a rule does with the stack of states.
-#[derive(Clone, Copy, PartialEq, Eq, Debug)]
-pub enum StartStateOperation {
-    ReplaceStack = 1,
-    Push,
-    Pop,
-}
-
-impl From<StartStateOperation> for u16 {
-    ghost from_gives = { λ operation number. number ≡ operation_number operation };
-
-    fn from(operation: StartStateOperation) -> u16 {
-        operation as u16
-    }
-}
-
-impl StartStateOperation {
-    // How many bytes stand for it in a target.
-    fn mark_len(self) -> usize
-        ensures is { result ≡ mark_length self }
-        ensures small { result ≤ 1 }
-    {
-        match self {
-            StartStateOperation::ReplaceStack => 0,
-            StartStateOperation::Push => 1,
-            StartStateOperation::Pop => 1,
-        }
     }
 }
 

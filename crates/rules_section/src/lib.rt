@@ -1,5 +1,4 @@
 // The rules section: its lines, their patterns, and the records of the rules (01, Rules).
-// The areas that are lent for writing stay parameters beside their counts: a struct of them, lent again, has no proof (tried).
 #![tactic(auto)]
 
 mod pattern; // the pattern of a rule, and the rule's record
@@ -7,7 +6,7 @@ mod line; // a line of the rules section
 pub mod lines; // the rules section
 
 // How many rules, list entries and bytes of rewritten text there are.
-#[derive(Clone, Copy)]
+#[derive(Clone, Copy, Default)]
 pub struct SheetCounts {
     pub rules: u16,
     pub entries: u16,
@@ -15,7 +14,7 @@ pub struct SheetCounts {
 }
 
 // The same with the number of fault spans.
-#[derive(Clone, Copy)]
+#[derive(Clone, Copy, Default)]
 pub struct RuleCounts {
     pub sheet: SheetCounts,
     pub faults: u16,

@@ -1,4 +1,5 @@
 // A line of the rules section: a rule, or text that starts with whitespace (01, Rules).
+// The areas that are lent for writing stay parameters beside their counts: a struct of them, lent again, has no proof (tried).
 ghost use Rattle.std.specs.Prelude.{◌≤◌, length};
 ghost use Rattle.area.specs.Contents.{rule_format, contents};
 ghost use Rattle.area.specs.Phrases.{before};
@@ -13,8 +14,9 @@ use crate::pattern::parse_pattern;
 use area::State;
 use area::list::Records;
 use characters::whitespace::matches_whitespace;
-use fault::{LexErrorKind, Stop, add_duplicate_occurrence, add_fault};
+use fault::{LexErrorKind, Span, Stop, add_duplicate_occurrence, add_fault};
 use names::NamedRules;
+use names::marks::MARKS;
 use rules::Heading;
 use rules::headings::heading_of;
 use section::LexFile;
@@ -32,7 +34,7 @@ fn parse_rule(
     area3: &mut [u8],
     area4: &mut [u8],
     area6: &mut [u8],
-    marks: &[u8],
+    marks: &[u8; MARKS],
 ) -> Result<usize, Stop>
     requires inside { (at.start ≤ at.end) × (at.end ≤ length file.source.now) }
     requires held_ruled { HeldRuled area2.old area3.old area4.old area6.old counts.old }
@@ -75,7 +77,7 @@ pub fn parse_line(
     area3: &mut [u8],
     area4: &mut [u8],
     area6: &mut [u8],
-    marks: &[u8],
+    marks: &[u8; MARKS],
 ) -> Result<usize, Stop>
     requires inside { (at.start ≤ at.end) × (at.end ≤ length file.source.now) }
     requires held_ruled { HeldRuled area2.old area3.old area4.old area6.old counts.old }
@@ -84,7 +86,11 @@ pub fn parse_line(
 {
     if matches_whitespace(file.source, at.start) {
         let kind = LexErrorKind::VerbatimNotSupported;
-        counts.faults = add_fault(area6, counts.faults, kind, at.start as u16, at.end as u16)?;
+        let span = Span {
+            start: at.start as u16,
+            end: at.end as u16,
+        };
+        counts.faults = add_fault(area6, counts.faults, kind, span)?;
         return Ok(at.end);
     }
     parse_rule(file, at, counts, states, area2, area3, area4, area6, marks)

@@ -1,4 +1,5 @@
 // The rules section (01, Rules).
+// The areas that are lent for writing stay parameters beside their counts: a struct of them, lent again, has no proof (tried).
 ghost use Rattle.std.specs.Prelude.{◌≤◌, length};
 ghost use Rattle.area.specs.Contents.{rule_format, contents};
 ghost use Rattle.area.specs.Phrases.{before};

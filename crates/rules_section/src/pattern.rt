@@ -1,4 +1,5 @@
 // The pattern of a rule and the rule's record: a list of states, text to rewrite, or text as it stands (01, Rules).
+// The areas that are lent for writing stay parameters beside their counts: a struct of them, lent again, has no proof (tried).
 ghost use Rattle.std.specs.Prelude.{◌≡◌, ◌-◌, ◌≤◌, length};
 ghost use Rattle.area.specs.Phrases.{before};
 ghost use Rattle.section.specs.Request.{asked_by};

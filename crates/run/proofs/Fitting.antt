@@ -1,26 +1,22 @@
--- Whether a run and a row fit: the tests are joined as the definitions join them, and what they say as plain facts.
-use mathlib.Core.Path.{◌≡◌, refl, sym, ap, subst, ◌∙◌}
+-- Whether a run fits: the tests are joined as the definitions join them, and what they say as plain facts.
+use mathlib.Core.Path.{◌≡◌, sym, ap, ◌∙◌}
 use mathlib.Core.Bool.{Bool, true, false, ◌&&◌}
 use mathlib.Core.List.{List}
 use Prim.Native.Nat.{ℕ, ◌+◌, ◌*◌, ◌-◌, ◌≤◌, ◌<◌}
 use native.Mathlib.Omega.{arith}
 use borrow.Author.Rules.{rules}
-use borrow.Author.Tests.{le-leb, leb-true, ltb-true, eq-eqb, ne_eqb, eqb-true}
-use lib.Dec.{eqb, leb}
-use lib.ListN.{length, get_or}
+use borrow.Author.Tests.{leb-true, ltb-true}
+use lib.Dec.{leb}
+use lib.ListN.{length}
 use Rattle.characters.proofs.Tests.{and_left, and_right}
 use Rattle.area.specs.Records.{entry_at, entry_width}
 use Rattle.area.specs.Contents.{contents, entry_format}
 use Rattle.sheet_check.specs.SheetCheck.{declared}
 use Rattle.area.specs.Lists.{all}
 use Rattle.area.proofs.Contents.{contents_count, contents_read}
-use Rattle.area.proofs.All.{all-at, all_from}
-use Rattle.winner.specs.declared.Row.{Row}
-use Rattle.winner.specs.Winner.{length_in, greatest}
-use Rattle.winner.proofs.Winning.{below_greatest, greatest_low, of_row}
+use Rattle.area.proofs.All.{all-at}
 use Rattle.run.specs.declared.Run.{Run}
-use Rattle.run.specs.Run.{running, moves_of, most_bytes, stack_bytes, current, good_numbers, good_run, good_row}
-use Rattle.run.specs.Top.{RowFits}
+use Rattle.run.specs.Run.{running, moves_of, most_bytes, stack_bytes, current, good_numbers, good_run}
 
 -- the numbers of a run fit each other and a stack of so many bytes
 pub record GoodNumbers (r : Run) (space : ℕ) : Type 0 where
@@ -70,57 +66,6 @@ module _ (states : ℕ) (r : Run) (s : List ℕ) (t : Bool) (is : t ≡ good_num
   run_readable e = depth_inside r (length s) (good_numbers_lem r s (sym is ∙ e))
 
 pub ruleset run_fits = (rules, run_numbers, run_broken, run_readable)
-
-module _ (fits : ℕ → Bool) (rules : ℕ) (row : List ℕ) where
-  abbrev lengths_fit : Bool
-  lengths_fit = all fits (contents entry_format row rules)
-
-  pub row_broken : (length row ≡ rules * entry_width → ⊥) → good_row fits rules row ≡ false
-  unfolding good_row
-  row_broken h = rw (ne_eqb (length row) (rules * entry_width) h)
-
-  -- a row that fits
-  pub row_long : good_row fits rules row ≡ true → length row ≡ rules * entry_width
-  unfolding good_row
-  row_long e = eqb-true (length row) (rules * entry_width) (and_left (eqb (length row) (rules * entry_width)) lengths_fit e)
-
-  pub row-length : good_row fits rules row ≡ true → (k : ℕ) → k < rules → fits (entry_at row k) ≡ true
-  unfolding good_row
-  row-length e k h =
-      let a : lengths_fit ≡ true = and_right (eqb (length row) (rules * entry_width)) lengths_fit e in
-      let m : k < length (contents entry_format row rules) = omega (arith, contents_count entry_format row rules, h) in
-      ap fits (sym (contents_read entry_format row rules k h)) ∙ all-at fits (contents entry_format row rules) 0 k a m
-
-  pub row_good : length row ≡ rules * entry_width → ((k : ℕ) → k < rules → fits (entry_at row k) ≡ true) → good_row fits rules row ≡ true
-  unfolding good_row
-  row_good e f =
-      let each : (k : ℕ) → k < length (contents entry_format row rules) → fits (get_or (contents entry_format row rules) k 0) ≡ true =
-      λ k h. let g : k < rules = omega (arith, contents_count entry_format row rules, h) in ap fits (contents_read entry_format row rules k g) ∙ f k g in
-      rw (eq-eqb (length row) (rules * entry_width) e) (all_from fits (contents entry_format row rules) 0 each)
-
--- every length fits where the greatest does
-module _ (left rules : ℕ) (row : List ℕ) (top : ℕ) (is : top ≡ greatest (length_in row) rules) where
-  pub row_above : left < top → good_row (λ l. leb l left) rules row ≡ false
-  row_above h = by (good_row (λ l. leb l left) rules row) refl
-    where
-      by : (b : Bool) → good_row (λ l. leb l left) rules row ≡ b → b ≡ false
-      by true e =
-          let low = greatest_low (length_in row) left rules (λ k g. leb-true (entry_at row k) left (row-length (λ l. leb l left) rules row e k g)) in
-          absurd (omega (arith, low, is, h))
-      by false e = refl
-
-  pub row_within : length row ≡ rules * entry_width → top ≤ left → good_row (λ l. leb l left) rules row ≡ true
-  row_within long h = row_good (λ l. leb l left) rules row long
-      (λ k g. le-leb (entry_at row k) left (omega (arith, below_greatest (length_in row) rules k g, is, h)))
-
--- a row that was made
-module _ (fits : ℕ → Bool) (rules : ℕ) (row : List ℕ) (x : Row) (made : (x.bytes.now ≡ row) × (x.rules ≡ rules)) where
-  pub row_fits : good_row fits x.rules x.bytes.now ≡ true → RowFits fits rules row x
-  row_fits good =
-      of_row rules row x made (λ n l. RowFits fits n l x) (record { good = good; bytes_are = refl; rules_are = refl; greatest_is = x.greatest_is })
-
-  pub row_misfits : good_row fits x.rules x.bytes.now ≡ false → good_row fits rules row ≡ false
-  row_misfits bad = of_row rules row x made (λ n l. good_row fits n l ≡ false) bad
 
 -- a run that fits
 module _ (states : ℕ) (r : Run) (s : List ℕ) (fits : good_run states (running r s) ≡ true) where

@@ -1,15 +1,17 @@
 -- What the winner does: a law for each branch of the operation and of the answer.
 use mathlib.Core.Path.{◌≡◌, ap, subst, ◌∙◌}
+use mathlib.Core.Bool.{Bool, true, false}
 use mathlib.Core.List.{List}
 use Prim.Native.Nat.{ℕ, ◌+◌, ◌-◌}
 use borrow.Author.Tests.{eq-eqb, ne_eqb}
+use lib.Dec.{eqb}
 use Rattle.std.specs.Prelude.{Option, Some, Ok}
 use Rattle.area.specs.declared.Rule.{Rule}
 use Rattle.run.specs.declared.Run.{Run}
-use Rattle.run.specs.declared.moves.StartStateOperation.{StartStateOperation}
+use Rattle.area.specs.declared.StartStateOperation.{StartStateOperation}
 use Rattle.run.specs.declared.Step.TheVariants.{Unlinked, Skip, Token}
 use Rattle.run.specs.Run.{Running, running, leaving, run_left, put_state, with_depth, advanced, popped, operated, move_by, won_by}
-use Rattle.run.specs.Operation.{OperationIs}
+use Rattle.area.specs.Operation.{OperationIs}
 
 -- what a match on the name of an operation tells of the field
 pub operation_told : (field : ℕ) (o : Option StartStateOperation) (w v : StartStateOperation) → OperationIs field o → o ≡ Some w → w ≡ v
@@ -48,15 +50,15 @@ module _ (x : Rule) (bytes : ℕ) (r : Run) (s e : List ℕ) where
   move_made d q = ap (λ (z : Running). running (advanced z.run bytes) z.stack) q
 
   module _ (q : Run) (is : running q e ≡ move_by (running r s) x bytes) where
-    pub won_token : x.named ≡ 1 → x.has_id ≡ 1 → run_left (Ok (Token x.id r.position bytes)) q e ≡ won_by (running r s) x bytes
+    pub won_token : {t : Bool} → t ≡ eqb x.named 1 → t ≡ true → x.has_id ≡ 1 → run_left (Ok (Token x.id r.position bytes)) q e ≡ won_by (running r s) x bytes
     unfolding won_by
-    won_token h g = rw (eq-eqb x.named 1 h, eq-eqb x.has_id 1 g) (ap (leaving (Ok (Token x.id r.position bytes))) is)
+    won_token named h g = rw (← named, h, eq-eqb x.has_id 1 g) (ap (leaving (Ok (Token x.id r.position bytes))) is)
 
-    pub won_skip : (x.named ≡ 1 → ⊥) → run_left (Ok Skip) q e ≡ won_by (running r s) x bytes
+    pub won_skip : {t : Bool} → t ≡ eqb x.named 1 → t ≡ false → run_left (Ok Skip) q e ≡ won_by (running r s) x bytes
     unfolding won_by
-    won_skip h = rw (ne_eqb x.named 1 h) (ap (leaving (Ok Skip)) is)
+    won_skip named h = rw (← named, h) (ap (leaving (Ok Skip)) is)
 
 module _ (x : Rule) (bytes : ℕ) (r : Run) (s : List ℕ) where
-  pub won_unlinked : x.named ≡ 1 → (x.has_id ≡ 1 → ⊥) → run_left (Ok Unlinked) r s ≡ won_by (running r s) x bytes
+  pub won_unlinked : {t : Bool} → t ≡ eqb x.named 1 → t ≡ true → (x.has_id ≡ 1 → ⊥) → run_left (Ok Unlinked) r s ≡ won_by (running r s) x bytes
   unfolding won_by
-  won_unlinked h g = rw (eq-eqb x.named 1 h, ne_eqb x.has_id 1 g)
+  won_unlinked named h g = rw (← named, h, ne_eqb x.has_id 1 g)

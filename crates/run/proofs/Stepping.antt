@@ -29,10 +29,11 @@ use Rattle.run.specs.declared.StepError.TheVariants.{BrokenSheet, BrokenRun, Row
 use Rattle.run.specs.declared.Step.TheVariants.{Done, Stopped}
 use Rattle.run.specs.Run.{most_bytes, stack_bytes, Running, running, Input, input, current, put_state, RunLeft, leaving}
 use Rattle.run.specs.Run.{run_left, StepAnswer, start_accepted, start_refused, first_run, start_call, good_start}
-use Rattle.run.specs.Run.{good_run, fits_in, good_row, won_by, choose, lexer_of, step_row, step_run, step_call}
+use Rattle.run.specs.Run.{good_run, fits_in, won_by, choose, lexer_of, step_row, step_run, step_call}
 use Rattle.run.specs.Phrases.{Inside}
-use Rattle.run.specs.Top.{RowFits}
-use Rattle.run.proofs.Fitting.{GoodNumbers, run_is, row-length}
+use Rattle.winner.specs.Top.{good_row, RowFits}
+use Rattle.winner.proofs.Fitting.{row-length}
+use Rattle.run.proofs.Fitting.{GoodNumbers, run_is}
 
 -- what a run and an answer beside it leave
 pub left_with : {A : Type 0} (x : After A) (a : A) (r : Run) (s : List ℕ) (y : RunLeft A) → x.answer ≡ a → x.run ≡ r → run_left a r s ≡ y

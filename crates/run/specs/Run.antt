@@ -13,6 +13,7 @@ use Rattle.parse.specs.Parse.{Contents}
 use Rattle.sheet_check.specs.SheetCheck.{SheetBytes, decoded, sheet_check, declared}
 use Rattle.winner.specs.declared.Best.{Best}
 use Rattle.winner.specs.Winner.{Lexer, weight, best}
+use Rattle.winner.specs.Top.{good_row}
 use Rattle.run.specs.declared.Run.{Run}
 use Rattle.run.specs.declared.StartRefused.{StartRefused}
 use Rattle.run.specs.declared.StepError.{StepError}
@@ -114,10 +115,6 @@ good_run states g = good_numbers g && all (declared states) (contents entry_form
 -- a length is not above the bytes that are left
 abbrev pub fits_in : Run → ℕ → Bool
 fits_in r l = leb l (r.n - r.position)
-
--- number 10: one length for each rule, and each passes the test
-unfoldable pub good_row : (ℕ → Bool) → ℕ → List ℕ → Bool
-good_row fits rules row = eqb (length row) (rules * entry_width) && all fits (contents entry_format row rules)
 
 -- ---- a move
 

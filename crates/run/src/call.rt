@@ -3,9 +3,8 @@ ghost use Rattle.std.specs.Prelude.{◌≡◌, true, ◌<◌, length};
 ghost use Rattle.sheet_check.specs.SheetCheck.{decoded, sheet_check};
 ghost use Rattle.sheet_check.specs.Phrases.{lent_sheet};
 ghost use Rattle.run.specs.Run.{running, input, run_left, start_call, good_run, fits_in, lexer_of, step_row, step_run, step_call};
-ghost use Rattle.run.specs.Top.{RowFits};
+ghost use Rattle.winner.specs.Top.{RowFits};
 
-use crate::fit::row_top;
 use crate::moves::put_state;
 use crate::{After, MOST_BYTES, Run, StartRefused, Step, StepError};
 use area::{ENTRY_WIDTH, read};
@@ -62,7 +61,7 @@ fn step_run(sheet: Sheet, r: Run, stack: &mut [u8], row: &[u8]) -> After<Result<
     if r.position == r.n {
         return r.after(Ok(Step::Done));
     }
-    let Some(lengths) = row_top(rules, r.n - r.position, row) else {
+    let Some(lengths) = Row::fitting(row, rules, r.n - r.position) else {
         return r.after(Err(StepError::RowMismatch));
     };
     let lexer = LentLexer::new(

@@ -1,13 +1,11 @@
-// Whether a run and a row fit (01, Numbers given at the counter, 9 and 10).
-ghost use Rattle.std.specs.Prelude.{◌≡◌, leb};
+// Whether a run fits (01, Numbers given at the counter, 9).
+ghost use Rattle.std.specs.Prelude.{◌≡◌};
 ghost use Rattle.area.specs.Phrases.{before};
 ghost use Rattle.run.specs.Run.{running, good_numbers, good_run};
-ghost use Rattle.run.specs.Top.{RowTopIs};
 
 use crate::{MOST_BYTES, Run};
 use area::ENTRY_WIDTH;
 use sheet_check::check::good_entries;
-use winner::Row;
 
 impl Run {
     // The sums are wider than a field, so that they cannot wrap.
@@ -30,18 +28,4 @@ impl Run {
     {
         self.good_numbers(stack) && good_entries(stack, self.depth, states)
     }
-}
-
-// The row, where it fits: every length is at most the bytes left where the greatest is.
-pub fn row_top<'a>(rules: u16, left: u16, row: &'a [u8]) -> Option<Row<'a>>
-    ensures { RowTopIs (λ x. leb x left) rules row.now result }
-{
-    if row.len() != rules as usize * ENTRY_WIDTH {
-        return None;
-    }
-    let lengths = Row::new(row, rules);
-    if left < lengths.top {
-        return None;
-    }
-    Some(lengths)
 }

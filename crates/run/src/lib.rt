@@ -1,13 +1,18 @@
 // A run of the lexer that a sheet describes: the start call and the step call (01, The run).
 #![tactic(auto)]
 
-ghost use Rattle.std.specs.Prelude.{◌≡◌};
+ghost use Rattle.std.specs.Prelude.{◌≡◌, Err};
+ghost use Rattle.answers.specs.Numbers.{number_of};
+ghost use Rattle.answers.specs.Words.{fields};
+ghost use Rattle.run.specs.Run.{start_fields, step_fields};
 
-mod fit; // whether a run and a row fit
+mod fit; // whether a run fits
 mod moves; // what the winner does
 pub mod call; // the calls
 
-// The most bytes of an entry: a limit of 01, compared with a `u64` of the host, and no kind of anything.
+use answers::Number;
+
+// The most bytes of an entry: a limit, and no number of a kind.
 const MOST_BYTES: u64 = 4096;
 
 // A run's numbers: the bytes of the entry, those behind it, the entries of the stack in use, and the moves so far. For C they are four
@@ -25,12 +30,34 @@ pub struct Run {
 #[derive(Clone, Copy, PartialEq, Eq, Debug)]
 pub struct StartRefused;
 
+impl From<StartRefused> for Number {
+    ghost from_gives = { λ refused number. fields (number_of number) 0 0 0 ≡ start_fields (Err refused) };
+
+    #[tactic(auto, unfolding(crate::specs::Run::start_fields))]
+    fn from(_refused: StartRefused) -> Number {
+        Number::StartRefused
+    }
+}
+
 // What the step call refuses: numbers 6, 9 and 10 of 01. An enum of its own, for an error of three kinds is no `Option`.
 #[derive(Clone, Copy, PartialEq, Eq, Debug)]
 pub enum StepError {
     BrokenSheet,
     BrokenRun,
     RowMismatch,
+}
+
+impl From<StepError> for Number {
+    ghost from_gives = { λ error number. fields (number_of number) 0 0 0 ≡ step_fields (Err error) };
+
+    #[tactic(auto, unfolding(crate::specs::Run::view, crate::specs::Run::view_fields))]
+    fn from(error: StepError) -> Number {
+        match error {
+            StepError::BrokenSheet => Number::BrokenSheet,
+            StepError::BrokenRun => Number::BrokenRun,
+            StepError::RowMismatch => Number::RowMismatch,
+        }
+    }
 }
 
 // What a step answers that is not refused: five kinds, of which one alone has values, and each has its number in the word.

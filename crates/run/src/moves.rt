@@ -3,33 +3,10 @@ ghost use Rattle.std.specs.Prelude.{◌≡◌, ◌+◌, ◌*◌, ◌≤◌, leng
 ghost use Rattle.area.specs.Records.{entry_width};
 ghost use Rattle.area.specs.Phrases.{before, after};
 ghost use Rattle.run.specs.Run.{running, run_left, put_state, with_depth, operated, move_by, won_by};
-ghost use Rattle.run.specs.Operation.{OperationIs};
 ghost use Rattle.run.specs.Phrases.{HasRoom, Inside};
 
 use crate::{After, Run, Step, StepError};
-use area::{ENTRY_WIDTH, Rule, write_field};
-
-// What a rule does to the stack: the kinds of a field, which is a number in the record (C interface).
-#[derive(Clone, Copy, PartialEq, Eq, Debug)]
-pub(crate) enum StartStateOperation {
-    ReplaceStack,
-    Push,
-    Pop,
-}
-
-impl StartStateOperation {
-    // That of a rule's field, which may be any number: all but these do nothing.
-    fn from_field(field: u16) -> Option<StartStateOperation>
-        ensures { OperationIs field result }
-    {
-        match field {
-            1 => Some(StartStateOperation::ReplaceStack),
-            2 => Some(StartStateOperation::Push),
-            3 => Some(StartStateOperation::Pop),
-            _ => None,
-        }
-    }
-}
+use area::{ENTRY_WIDTH, Rule, StartStateOperation, write_field};
 
 // Entry k of the stack, in the layout that C has of it. The stack is lent whole, for k is a place and no length of a part.
 #[tactic(auto, unfolding(crate::specs::Run::put_state))]
@@ -85,7 +62,7 @@ impl Run {
         requires { Inside self bytes (length stack.old) }
         ensures { run_left result.answer result.run stack.new ≡ won_by (running self stack.old) x bytes }
     {
-        if x.named != 1 {
+        if !x.is_named() {
             let run = self.move_by(x, bytes, stack);
             return run.after(Ok(Step::Skip));
         }

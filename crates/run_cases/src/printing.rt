@@ -57,11 +57,9 @@ impl From<Result<(), ParseError>> for Outcome {
     fn from(answer: Result<(), ParseError>) -> Outcome {
         match answer {
             Ok(_) => Outcome::Accepted,
-            Err(ParseError::LongFile) => Outcome::Refused(Number::LongFile),
-            Err(ParseError::UnknownFlag) => Outcome::Refused(Number::UnknownFlag),
-            Err(ParseError::InvalidUtf8) => Outcome::Refused(Number::InvalidUtf8),
             Err(ParseError::AreaFull(n)) => Outcome::RefusedAt(Number::AreaFull, n),
             Err(ParseError::FaultyFile(n)) => Outcome::RefusedAt(Number::FaultyFile, n),
+            Err(error) => Outcome::Refused(error.into()),
         }
     }
 }
@@ -70,9 +68,8 @@ impl From<Result<Linked, LinkError>> for Outcome {
     fn from(answer: Result<Linked, LinkError>) -> Outcome {
         match answer {
             Ok(linked) => Outcome::Linked(linked.unmapped_count, linked.unused_count),
-            Err(LinkError::BrokenSheet) => Outcome::Refused(Number::BrokenSheet),
-            Err(LinkError::BrokenMap) => Outcome::Refused(Number::BrokenMap),
-            Err(LinkError::AreaFull(n)) => Outcome::RefusedAt(Number::AreaFull, n),
+            Err(LinkError::AreaFull(area)) => Outcome::RefusedAt(Number::AreaFull, area.number()),
+            Err(error) => Outcome::Refused(error.into()),
         }
     }
 }
@@ -81,7 +78,7 @@ impl From<Result<(), StartRefused>> for Outcome {
     fn from(answer: Result<(), StartRefused>) -> Outcome {
         match answer {
             Ok(_) => Outcome::Started,
-            Err(_) => Outcome::Refused(Number::StartRefused),
+            Err(refused) => Outcome::Refused(refused.into()),
         }
     }
 }
@@ -89,14 +86,12 @@ impl From<Result<(), StartRefused>> for Outcome {
 impl From<Result<Step, StepError>> for Outcome {
     fn from(answer: Result<Step, StepError>) -> Outcome {
         match answer {
-            Err(StepError::BrokenSheet) => Outcome::Refused(Number::BrokenSheet),
-            Err(StepError::BrokenRun) => Outcome::Refused(Number::BrokenRun),
-            Err(StepError::RowMismatch) => Outcome::Refused(Number::RowMismatch),
             Ok(Step::Done) => Outcome::Done,
             Ok(Step::Stopped) => Outcome::Stopped,
             Ok(Step::Unlinked) => Outcome::Unlinked,
             Ok(Step::Skip) => Outcome::Skip,
             Ok(Step::Token { id, start, length }) => Outcome::Token(id, start, length),
+            Err(error) => Outcome::Refused(error.into()),
         }
     }
 }

@@ -17,9 +17,10 @@ use Rattle.winner.proofs.Winning.{earliest_has, winner_inside, weights_low}
 use Rattle.std.specs.Prelude.{Ok, Err}
 use Rattle.run.specs.declared.StepError.TheVariants.{RowMismatch}
 use Rattle.run.specs.declared.Step.TheVariants.{Done, Stopped, Unlinked, Skip, Token}
-use Rattle.run.specs.Run.{StepAnswer, Running, current, Input, RunLeft, leaving, good_run, fits_in, good_row}
+use Rattle.run.specs.Run.{StepAnswer, Running, current, Input, RunLeft, leaving, good_run, fits_in}
 use Rattle.run.specs.Run.{move_by, won_by, choose, step_row, step_run, lexer_of, step_call, stays, view}
-use Rattle.run.proofs.Fitting.{row-length}
+use Rattle.winner.specs.Top.{good_row}
+use Rattle.winner.proofs.Fitting.{row-length}
 
 -- rule k wins by so many bytes: it is live in the current state, and the row has that length for it, at least one byte and none that is not left
 pub record Wins (c : Lexer) (x : Running) (i : Input) (k bytes : ℕ) : Type 0 where

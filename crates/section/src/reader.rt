@@ -16,7 +16,7 @@ pub struct Reader<'a> {
     pub offset: usize,
 }
 
-// A line that is read: where it starts and where it ends.
+// A line that is read, or a part of one: where it starts and where it ends.
 #[derive(Clone, Copy)]
 pub struct Line {
     pub start: usize,

@@ -84,19 +84,16 @@ pub state_read : (l : List ℕ) (k a b c : ℕ) → a ≡ field_at l (k * 6) →
 unfolding state_at
 state_read l k a b c e1 e2 e3 = state_made l (k * 6) a b c e1 e2 e3
 
-module _ (n : ℕ) (t s : List ℕ) (k : ℕ) {a b c e : List ℕ} where
-  pub state_head_lem : (start end : ℕ) → a ≡ appended n t state_word → b ≡ appended n a (printed_field k) → c ≡ appended n b (32 ∷ [])
-      → e ≡ appended n c (state_name s k start end) → e ≡ appended n t (state_head s k start end)
-  unfolding state_head
-  state_head_lem start end p q r z = appended_next n t _ _ z (appended_next n t _ _ r (appended_next n t _ _ q p))
+module _ (n : ℕ) (t s : List ℕ) (k : ℕ) {a b c d f g h e : List ℕ} where
+  pub state_line_lem : (x : State) → a ≡ appended n t state_word → b ≡ appended n a (printed_field k) → c ≡ appended n b (32 ∷ [])
+      → d ≡ appended n c (state_name s k x.start x.end) → f ≡ appended n d (printed_field x.exclusive) → g ≡ appended n f (printed_field x.start)
+      → h ≡ appended n g (printed_field x.end) → e ≡ appended n h newline → e ≡ appended n t (state_line s k x)
+  unfolding state_line state_head
+  state_line_lem x p1 p2 p3 p4 p5 p6 p7 p8 =
+      let head = appended_next n t _ _ p4 (appended_next n t _ _ p3 (appended_next n t _ _ p2 p1)) in
+      appended_next n t _ _ p8 (appended_next n t _ _ p7 (appended_next n t _ _ p6 (appended_next n t _ _ p5 head)))
 
-  pub state_line_lem : (x : State) {d : List ℕ} → a ≡ appended n t (state_head s k x.start x.end) → b ≡ appended n a (printed_field x.exclusive)
-      → c ≡ appended n b (printed_field x.start) → d ≡ appended n c (printed_field x.end) → e ≡ appended n d newline
-      → e ≡ appended n t (state_line s k x)
-  unfolding state_line
-  state_line_lem x p q r y z = appended_next n t _ _ z (appended_next n t _ _ y (appended_next n t _ _ r (appended_next n t _ _ q p)))
-
-pub ruleset state_printing = (rules, state_read, state_head_lem, state_line_lem)
+pub ruleset state_printing = (rules, state_read, state_line_lem)
 
 -- ---- the states, then the rules
 

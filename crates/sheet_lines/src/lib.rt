@@ -4,9 +4,10 @@
 #![tactic(auto)]
 
 ghost use Rattle.std.specs.Prelude.{◌≡◌, ℕ, List};
+ghost use Rattle.answers.specs.Numbers.{number_of};
 ghost use Rattle.area.specs.Records.{state_at, rule_at, fault_at};
 ghost use Rattle.output.specs.Output.{appended, joined};
-ghost use Rattle.sheet_lines.specs.Lines.{state_name, state_head, state_line, rule_line, fault_line, refused_line, full_line};
+ghost use Rattle.sheet_lines.specs.Lines.{state_name, state_line, rule_line, fault_line, refused_line, full_line};
 ghost use Rattle.sheet_lines.specs.Lines.{state_lines, rule_lines, fault_lines, sheet_lines};
 
 use answers::Number;
@@ -39,22 +40,14 @@ fn state_at(area: &[u8], k: u16) -> State
     }
 }
 
-// A state's line up to its name.
 #[tactic(auto, using(crate::proofs::Printing::state_printing))]
-fn put_state_head<const N: usize>(out: &mut Text<N>, src: &[u8], k: u16, x: State)
-    ensures { out.new ≡ appended N out.old (state_head src.now k x.start x.end) }
+fn put_state<const N: usize>(out: &mut Text<N>, src: &[u8], k: u16, x: State)
+    ensures { out.new ≡ appended N out.old (state_line src.now k x) }
 {
     out.push_text(b"state");
     out.push_field(k);
     out.push_blank();
     put_name(out, src, k, x);
-}
-
-#[tactic(auto, using(crate::proofs::Printing::state_printing))]
-fn put_state<const N: usize>(out: &mut Text<N>, src: &[u8], k: u16, x: State)
-    ensures { out.new ≡ appended N out.old (state_line src.now k x) }
-{
-    put_state_head(out, src, k, x);
     out.push_field(x.exclusive);
     out.push_field(x.start);
     out.push_field(x.end);
@@ -147,11 +140,11 @@ pub fn put_faults<const N: usize>(out: &mut Text<N>, area: &[u8], count: u16)
 }
 
 #[tactic(auto, using(crate::proofs::Printing::line_printing))]
-pub fn put_refused<const N: usize>(out: &mut Text<N>, number: u16)
-    ensures { out.new ≡ appended N out.old (refused_line number) }
+pub fn put_refused<const N: usize>(out: &mut Text<N>, number: Number)
+    ensures { out.new ≡ appended N out.old (refused_line (number_of number)) }
 {
     out.push_text(b"refused");
-    out.push_field(number);
+    out.push_field(u16::from(number));
     out.push_line_end();
 }
 

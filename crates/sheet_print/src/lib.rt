@@ -15,7 +15,7 @@ use sheet_lines::{put_faults, put_full, put_refused, put_sheet};
 pub const SHEET_ROOM: usize = 262527;
 
 // The lines that an answer and the areas come to.
-#[tactic(auto, unfolding(crate::specs::Lines::answer_text))]
+#[tactic(auto, unfolding(crate::specs::Lines::answer_text, parse::specs::Parse::parse_fields))]
 fn put_answer<const N: usize>(
     out: &mut Text<N>,
     src: &[u8],
@@ -30,11 +30,9 @@ fn put_answer<const N: usize>(
 {
     match answer {
         Ok(_) => put_sheet(out, src, counts[0], area1, counts[1], area2),
-        Err(ParseError::LongFile) => put_refused(out, Number::LongFile as u16),
-        Err(ParseError::UnknownFlag) => put_refused(out, Number::UnknownFlag as u16),
-        Err(ParseError::InvalidUtf8) => put_refused(out, Number::InvalidUtf8 as u16),
         Err(ParseError::AreaFull(area)) => put_full(out, area),
         Err(ParseError::FaultyFile(spans)) => put_faults(out, area6, spans),
+        Err(error) => put_refused(out, error.into()),
     }
 }
 

@@ -3,7 +3,6 @@
 use mathlib.Core.Path.{◌≡◌, sym, ◌∙◌}
 use mathlib.Core.Bool.{Bool, false}
 use mathlib.Core.List.{List}
-use mathlib.Core.Logic.{⊎_elim}
 use Prim.Native.Nat.{ℕ, ◌+◌, ◌-◌, ◌≤◌, ◌<◌}
 use native.Mathlib.Omega.{arith}
 use borrow.Author.Rules.{rules}
@@ -13,7 +12,6 @@ use Rattle.characters.specs.Walk.{any, first, Between}
 use Rattle.characters.specs.Whitespace.{byte, at_line_end}
 use Rattle.text.specs.Scan.{find_line_end, line_end, last_blank}
 use Rattle.characters.specs.Shortcuts.{RulesOut, may_end_line}
-use Rattle.characters.proofs.Tests.{le_or_lt}
 use Rattle.characters.proofs.Spaces.{end_may_start}
 use Rattle.characters.proofs.Walks.{first_here, first_over, first_from, last_over}
 use Rattle.characters.proofs.Firsts.{first_passes, first_before}
@@ -31,10 +29,6 @@ module _ (test : ℕ → Bool) (i m e : ℕ) (h : i ≤ m) (l : m ≤ e) where
   first_cut n =
       first_here test (first test i m) e (omega arith) (first_passes test i m h n)
       ∙ sym (first_over test i (first test i m) e (first_from test i m) (omega arith) (first_before test i m h))
-
-  pub first_shorter : first test i e < m → first test i m ≡ first test i e
-  first_shorter n =
-      ⊎_elim (λ q. absurd (omega (arith, n, first_behind q, first_from test m e))) (λ q. first_cut q) (le_or_lt m (first test i m))
 
 -- ---- line ends
 

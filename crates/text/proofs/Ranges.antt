@@ -2,20 +2,22 @@
 use mathlib.Core.Path.{◌≡◌, refl, sym, ap, ap₂, ◌∙◌}
 use mathlib.Core.Bool.{Bool, true, false, ◌&&◌, false≢true}
 use mathlib.Core.List.{List, [], ◌∷◌}
-use mathlib.Core.Logic.{⊎_elim}
-use Prim.Native.Nat.{ℕ, ◌+◌, ◌-◌, ◌≤◌, ◌<◌, min}
+use Prim.Native.Nat.{ℕ, ◌+◌, ◌-◌, ◌<◌, min}
 use native.Mathlib.Omega.{arith}
 use borrow.Author.Rules.{rules}
 use borrow.Author.Tests.{eq-eqb, eqb-true}
 use lib.Dec.{eqb}
 use lib.ListN.{length, get_or, take, drop, length-take, length-drop}
-use lib.Seq.{take-length, take_all, get_or-take, get_or-drop}
-use Rattle.characters.specs.Whitespace.{byte}
-use Rattle.text.specs.Range.{part, same_bytes, same_range, lookahead_is}
+use lib.Seq.{take_all}
+use Rattle.text.specs.Range.{part, same_bytes, lookahead_is}
 use Rattle.std.specs.Prelude.{Some, None}
+use Rattle.std.specs.List.{slice_range}
 use Rattle.std.specs.Cmp.Lexicographic.{pointwise}
 use Rattle.std.proofs.lemmas.Cmp.{nat_list_eq_equiv}
-use Rattle.characters.proofs.Tests.{and_left, and_right, le_or_lt}
+use Rattle.std.proofs.Common.{inl, inr}
+use Rattle.std.proofs.lemmas.Bool.{cases_lt}
+use Rattle.std.specs.List.{slice_range}
+use Rattle.characters.proofs.Tests.{and_left, and_right}
 
 -- ---- same_bytes is equality
 
@@ -50,91 +52,47 @@ pointwise_same [] (y ∷ ys) = refl
 pointwise_same (x ∷ xs) [] = refl
 pointwise_same (x ∷ xs) (y ∷ ys) = ap (λ (b : Bool). eqb x y && b) (pointwise_same xs ys)
 
+-- two slices
+pub slices_same : (xs ys zs : List ℕ) (r : Bool) → xs ≡ zs → r ≡ pointwise eqb xs ys → r ≡ same_bytes zs ys
+slices_same xs ys zs r is e = e ∙ pointwise_same xs ys ∙ ap (λ (l : List ℕ). same_bytes l ys) is
+
+pub ruleset slices_compared = (rules, slices_same)
+
 -- ---- a range and its parts
-
-pub part_length : (s : List ℕ) (a e : ℕ) → e ≤ length s → length (part s a e) ≡ e - a
-unfolding part
-part_length s a e h = simp (length-take, length-drop) (omega arith)
-
--- the last byte of a range
-last_byte : (s : List ℕ) (a e : ℕ) → 0 < e - a → byte s (e - 1) ≡ get_or (part s a e) (e - a - 1) 0
-unfolding part
-last_byte s a e p =
-    ap (byte s) (omega arith)
-    ∙ sym (get_or-take (e - a) (drop a s) (e - a - 1) 0 (omega arith) ∙ get_or-drop a s (e - a - 1) 0)
-
--- ---- the calls over it
 
 part_size : (s : List ℕ) (a e : ℕ) → length (part s a e) ≡ min (e - a) (length s - a)
 unfolding part
 part_size s a e = simp (length-take, length-drop)
 
--- a range that is cut where its text ends
-part_cut : (s : List ℕ) (a e n : ℕ) → n ≡ min (e - a) (length s - a) → part s a (a + n) ≡ part s a e
-unfolding part
-part_cut s a e n q =
-    ⊎_elim
-    (λ h.
-    let z : a + n - a ≡ e - a = omega arith in
-    rw z)
-    (λ h.
-    let z : a + n - a ≡ length (drop a s) = omega (arith, length-drop a s) in
-    rw z (take-length (drop a s) ∙ sym (take_all (e - a) (drop a s) (omega (arith, length-drop a s)))))
-    (le_or_lt (e - a) (length s - a))
-
 no_bytes : (l : List ℕ) → length l ≡ 0 → l ≡ []
 no_bytes [] e = refl
 no_bytes (x ∷ xs) e = absurd (omega arith)
 
-module _ (s : List ℕ) (a e : ℕ) (t : List ℕ) (c d n m : ℕ) (qs : n ≡ min (e - a) (length s - a)) (qt : m ≡ min (d - c) (length t - c)) where
-  pub range_unequal : (n ≡ m → ⊥) → false ≡ same_range s a e t c d
-  unfolding same_range
-  range_unequal h = same_lengths (part s a e) (part t c d) (λ q. h (qs ∙ sym (part_size s a e) ∙ q ∙ part_size t c d ∙ sym qt))
+-- a range that is cut where its text ends, as the library cuts a slice
+module _ (s : List ℕ) (a e r : ℕ) (fits : r ≡ min e (length s)) where
+  pub part_inside : slice_range s a r ≡ part s a e
+  unfolding part
+  part_inside = elim (cases_lt e (length s)) [
+    | inl h ↦ let z : r ≡ e = omega arith in ap (slice_range s a) z
+    | inr h ↦ take_all (r - a) (drop a s) (omega (arith, length-drop a s)) ∙ sym (take_all (e - a) (drop a s) (omega (arith, length-drop a s)))
+  ]
 
-  pub range_empty : n ≡ m → n ≡ 0 → true ≡ same_range s a e t c d
-  unfolding same_range same_bytes
-  range_empty q z =
-      let x : part s a e ≡ [] = no_bytes (part s a e) (part_size s a e ∙ sym qs ∙ z) in
-      let y : part t c d ≡ [] = no_bytes (part t c d) (part_size t c d ∙ sym qt ∙ sym q ∙ z) in
-      rw (x, y)
+  pub part_outside : r < a → [] ≡ part s a e
+  part_outside h = sym (no_bytes (part s a e) (part_size s a e ∙ omega arith))
 
-  pub range_compared :
-      (r : Bool)
-      → n ≡ m
-      → r ≡ pointwise eqb (take (a + n - a) (drop a s)) (take (c + n - c) (drop c t))
-      → r ≡ same_range s a e t c d
-  unfolding same_range part
-  range_compared r q h =
-      h
-      ∙ pointwise_same (take (a + n - a) (drop a s)) (take (c + n - c) (drop c t))
-      ∙ ap₂ same_bytes (part_cut s a e n qs) (part_cut t c d n (q ∙ qt))
+pub ruleset cutting = (rules, part_inside, part_outside)
 
--- the range is a slice, where there is a byte to compare
-pub range_inside : (s : List ℕ) (a e n : ℕ) → n ≡ min (e - a) (length s - a) → (n ≡ 0 → ⊥) → a + n ≤ length s
-range_inside s a e n q z = omega arith
+-- ---- two texts
 
-pub range_inside_too : (s : List ℕ) (a e n m : ℕ) → m ≡ min (e - a) (length s - a) → n ≡ m → (n ≡ 0 → ⊥) → a + n ≤ length s
-range_inside_too s a e n m q i z = range_inside s a e n (i ∙ q) z
-
--- ranges that lie in their texts
-module _ (s : List ℕ) (a e : ℕ) (t : List ℕ) (c d : ℕ) (ls : e ≤ length s) (lt : d ≤ length t) where
-  pub inside_unequal : (e - a ≡ d - c → ⊥) → false ≡ same_range s a e t c d
-  unfolding same_range
-  inside_unequal h = same_lengths (part s a e) (part t c d) (λ q. h (sym (part_length s a e ls) ∙ q ∙ part_length t c d lt))
-
+module _ (x y : List ℕ) where
   -- the last bytes differ
-  pub inside_differs : 0 < e - a → e - a ≡ d - c → (byte s (e - 1) ≡ byte t (d - 1) → ⊥) → false ≡ same_range s a e t c d
-  unfolding same_range
-  inside_differs p q h = sym (same_not (part s a e) (part t c d) (λ same. h (last_byte s a e p ∙ last_of same ∙ sym (last_byte t c d (omega arith)))))
-    where
-      last_of : part s a e ≡ part t c d → get_or (part s a e) (e - a - 1) 0 ≡ get_or (part t c d) (d - c - 1) 0
-      last_of same = ap₂ (λ (l : List ℕ) (k : ℕ). get_or l k 0) same (omega arith)
+  pub last_differs : length x ≡ length y → (get_or x (length x - 1) 0 ≡ get_or y (length y - 1) 0 → ⊥) → false ≡ same_bytes x y
+  last_differs q h = sym (same_not x y (λ same. h (ap (λ (l : List ℕ). get_or l (length l - 1) 0) same)))
 
-  pub inside_compared : (r : Bool) → r ≡ pointwise eqb (take (e - a) (drop a s)) (take (d - c) (drop c t)) → r ≡ same_range s a e t c d
-  unfolding same_range part
-  inside_compared r h = h ∙ pointwise_same (take (e - a) (drop a s)) (take (d - c) (drop c t))
+  pub bytes_compared : (r : Bool) → r ≡ pointwise eqb x y → r ≡ same_bytes x y
+  bytes_compared r h = h ∙ pointwise_same x y
 
-pub ruleset range_calls = (rules, inside_unequal, inside_differs, inside_compared, range_unequal, range_empty, range_compared, range_inside, range_inside_too)
+pub ruleset range_calls = (rules, same_lengths, last_differs, bytes_compared)
 
 part_short : (s : List ℕ) (a n : ℕ) → length s - a < n → (length (part s a (a + n)) ≡ n → ⊥)
 part_short s a n h e = omega (arith, e, part_size s a (a + n))

@@ -1,2 +1,3 @@
 pub mod Winning
 pub mod Topping
+pub mod Fitting

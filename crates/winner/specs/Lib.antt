@@ -1,3 +1,4 @@
 pub mod Winner
 pub mod Phrases
+pub mod Top
 pub mod Computing

@@ -9,7 +9,7 @@ ghost use Rattle.winner.specs.Winner.{Lexer, live, length_in, weight, greatest, 
 ghost use Rattle.winner.specs.Phrases.{lexer_in, Readable, winning};
 
 use area::list::Records;
-use area::{Rule, State};
+use area::{ENTRY_WIDTH, Rule, State};
 use std::marker::Model;
 
 // The greatest length among live rules, and the first rule that has it.
@@ -21,7 +21,8 @@ pub struct Best {
 
 // ---- the row
 //
-// The host lends a row as bytes, with a length for each rule of the sheet beside it (C interface).
+// The host lends a row as bytes, with a length for each rule of the sheet beside it (C interface). It is no `Records`, whose value has the lengths
+// alone: what a rule weighs (`weight`) is said of the row's bytes.
 
 // The lengths of a row, one for each of so many rules, and the greatest of them.
 #[derive(Clone, Copy)]
@@ -61,6 +62,25 @@ impl<'a> Row<'a> {
         ensures { result ≡ contents entry_format self.entry.bytes.now self.entry.rules }
     {
         Records::new(self.bytes, self.rules)
+    }
+}
+
+impl<'a> Row<'a> {
+    ghost use Rattle.std.specs.Prelude.{leb};
+    ghost use Rattle.winner.specs.Top.{RowTopIs};
+
+    // The row, where it fits: it has a length for each rule, and every length is at most what is left where the greatest is.
+    pub fn fitting(bytes: &'a [u8], rules: u16, left: u16) -> Option<Row<'a>>
+        ensures { RowTopIs (λ l. leb l left) rules bytes.now result }
+    {
+        if bytes.len() != rules as usize * ENTRY_WIDTH {
+            return None;
+        }
+        let row = Row::new(bytes, rules);
+        if left < row.top {
+            return None;
+        }
+        Some(row)
     }
 }
 

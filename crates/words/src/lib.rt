@@ -34,6 +34,13 @@ impl Word {
                 + 281474976710656 * (c as u64),
         )
     }
+
+    // A number without values.
+    pub fn of(number: Number) -> Word
+        ensures { result.0 ≡ word (fields (number_of number) 0 0 0) }
+    {
+        Word::new(number, 0, 0, 0)
+    }
 }
 
 // The word of a parse's answer.
@@ -43,12 +50,10 @@ impl From<Result<(), ParseError>> for Word {
     #[tactic(auto, unfolding(parse::specs::Parse::parse_fields))]
     fn from(answer: Result<(), ParseError>) -> Word {
         match answer {
-            Ok(_) => Word::new(Number::Accepted, 0, 0, 0),
-            Err(ParseError::LongFile) => Word::new(Number::LongFile, 0, 0, 0),
-            Err(ParseError::UnknownFlag) => Word::new(Number::UnknownFlag, 0, 0, 0),
-            Err(ParseError::InvalidUtf8) => Word::new(Number::InvalidUtf8, 0, 0, 0),
+            Ok(_) => Word::of(Number::Accepted),
             Err(ParseError::AreaFull(n)) => Word::new(Number::AreaFull, n, 0, 0),
             Err(ParseError::FaultyFile(n)) => Word::new(Number::FaultyFile, n, 0, 0),
+            Err(error) => Word::of(error.into()),
         }
     }
 }
@@ -61,7 +66,7 @@ impl From<Option<Part>> for Word {
     fn from(part: Option<Part>) -> Word {
         match part {
             Some(x) => Word::new(Number::Accepted, x.place, x.from, x.length),
-            None => Word::new(Number::BrokenSheet, 0, 0, 0),
+            None => Word::of(Number::BrokenSheet),
         }
     }
 }
@@ -79,9 +84,8 @@ impl From<Result<Linked, LinkError>> for Word {
                 linked.unused_count,
                 0,
             ),
-            Err(LinkError::BrokenSheet) => Word::new(Number::BrokenSheet, 0, 0, 0),
-            Err(LinkError::BrokenMap) => Word::new(Number::BrokenMap, 0, 0, 0),
-            Err(LinkError::AreaFull(n)) => Word::new(Number::AreaFull, n, 0, 0),
+            Err(LinkError::AreaFull(area)) => Word::new(Number::AreaFull, area.number(), 0, 0),
+            Err(error) => Word::of(error.into()),
         }
     }
 }
@@ -93,8 +97,8 @@ impl From<Result<(), StartRefused>> for Word {
     #[tactic(auto, unfolding(run::specs::Run::start_fields))]
     fn from(answer: Result<(), StartRefused>) -> Word {
         match answer {
-            Ok(_) => Word::new(Number::Accepted, 0, 0, 0),
-            Err(_) => Word::new(Number::StartRefused, 0, 0, 0),
+            Ok(_) => Word::of(Number::Accepted),
+            Err(refused) => Word::of(refused.into()),
         }
     }
 }
@@ -106,14 +110,12 @@ impl From<Result<Step, StepError>> for Word {
     #[tactic(auto, unfolding(run::specs::Run::view, run::specs::Run::view_fields))]
     fn from(answer: Result<Step, StepError>) -> Word {
         match answer {
-            Err(StepError::BrokenSheet) => Word::new(Number::BrokenSheet, 0, 0, 0),
-            Err(StepError::BrokenRun) => Word::new(Number::BrokenRun, 0, 0, 0),
-            Err(StepError::RowMismatch) => Word::new(Number::RowMismatch, 0, 0, 0),
-            Ok(Step::Done) => Word::new(Number::Done, 0, 0, 0),
-            Ok(Step::Stopped) => Word::new(Number::Stopped, 0, 0, 0),
-            Ok(Step::Unlinked) => Word::new(Number::Unlinked, 0, 0, 0),
-            Ok(Step::Skip) => Word::new(Number::Skip, 0, 0, 0),
+            Ok(Step::Done) => Word::of(Number::Done),
+            Ok(Step::Stopped) => Word::of(Number::Stopped),
+            Ok(Step::Unlinked) => Word::of(Number::Unlinked),
+            Ok(Step::Skip) => Word::of(Number::Skip),
             Ok(Step::Token { id, start, length }) => Word::new(Number::Token, id, start, length),
+            Err(error) => Word::of(error.into()),
         }
     }
 }
@@ -124,11 +126,7 @@ impl From<PlaceError> for Word {
 
     #[tactic(auto, unfolding(lines::specs::Lines::refusal_number))]
     fn from(error: PlaceError) -> Word {
-        match error {
-            PlaceError::LongFile => Word::new(Number::LongFile, 0, 0, 0),
-            PlaceError::InvalidUtf8 => Word::new(Number::InvalidUtf8, 0, 0, 0),
-            PlaceError::NoSuchPlace => Word::new(Number::NoSuchPlace, 0, 0, 0),
-        }
+        Word::of(error.into())
     }
 }
 
@@ -139,7 +137,7 @@ impl From<Result<Place, PlaceError>> for Word {
     #[tactic(auto, unfolding(lines::specs::Lines::line_column_fields))]
     fn from(answer: Result<Place, PlaceError>) -> Word {
         match answer {
-            Ok(_) => Word::new(Number::Accepted, 0, 0, 0),
+            Ok(_) => Word::of(Number::Accepted),
             Err(error) => Word::from(error),
         }
     }

@@ -1,5 +1,5 @@
 -- `declarations::parse_declarations` meets its contract: the loop has come to the line `line`.
-use Rattle.std.proofs.lemmas.Result.{err_from_is_err_and}
+use Rattle.fault.proofs.Steps.{passed_on}
 use Rattle.section.specs.Request.{options}
 use Rattle.section.proofs.Lines.{percents_end}
 use Rattle.declarations.proofs.Lines.{sections_start, sections_less, sections_next, section_ends, section_cut, section_err}
@@ -10,8 +10,8 @@ loop-file-init c = sections_start _ (options c.args.file.flags) _ _ _ _ _ _ c.re
 
 pub returns-in_err-parse_declaration : goal.returns-in_err-parse_declaration
 returns-in_err-parse_declaration c =
-    let p = err_from_is_err_and c.from_residual.result c.from_residual.ensures.1 in
-    rw (p.1, p.2) (section_err _ _ _ _ _ c.loop-file.invariant _ c.in_section.ensures c.loop-file-test.true _ _ c.parse_declaration.ensures _ c.in_err-parse_declaration.was)
+    passed_on _ _ _ c.from_residual.ensures.1
+    (section_err _ _ _ _ _ c.loop-file.invariant _ c.in_section.ensures c.loop-file-test.true _ _ c.parse_declaration.ensures _ c.in_err-parse_declaration.was)
 
 pub loop-file-smaller : goal.loop-file-smaller
 loop-file-smaller c =

@@ -17,10 +17,10 @@ invariant_of-pattern c = record { within = c.requires.i_le_c.1; class_table = cl
 found : (c : In-Some) → Next c.args.src.now c.args.c c.loop-e.p c.in-Some.e
 found c = first_left c.args.src.now c.args.c c.loop-e.p _ _ (sym c.loop-e.invariant.2 ∙ c.in-Some.ensures.steps)
 
-pub push_text-requires : goal.push_text-requires
-push_text-requires c =
-    let next = found (goal.at.push_text-requires c).In-Some in
-    (next.from, omega (arith, next.start, next.inside, next.to, c.requires.i_le_c.1))
+pub slice_bounds-push_text-end : goal.slice_bounds-push_text-end
+slice_bounds-push_text-end c =
+    let next = found (goal.at.slice_bounds-push_text-end c).In-Some in
+    omega (arith, next.start, next.inside, next.to, c.requires.i_le_c.1)
 
 pub returns-in_err-count : goal.returns-in_err-count
 unfolding part

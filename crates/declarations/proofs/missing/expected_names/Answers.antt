@@ -1,15 +1,13 @@
 -- `declarations::missing::expected_names` meets its contract: the loop has come to the name at a.
 use mathlib.Core.Path.{refl}
-use Rattle.std.proofs.lemmas.Result.{err_from_is_err_and}
-use Rattle.area.specs.Contents.{expected_format, contents}
-use Rattle.declarations.specs.Declarations.{range, expected_names}
+use Rattle.fault.proofs.Steps.{passed_on}
 use Rattle.declarations.proofs.Expecting.{expects_err, expects_less, expects_next, expects_done}
 use Rattle.declarations.proofs.missing.expected_names.Goals as goal
 
 pub returns-in_err-a : goal.returns-in_err-a
 returns-in_err-a c =
-    let p = err_from_is_err_and c.from_residual.result c.from_residual.ensures.1 in
-    rw (p.1, p.2) (expects_err c.loop-a.invariant c.loop-a-test.true _ _ c.next_expected.ensures _ _ refl _ c.in_err-a.was)
+    passed_on _ _ _ c.from_residual.ensures.1
+    (expects_err c.loop-a.invariant c.loop-a-test.true _ _ c.next_expected.ensures _ _ refl _ c.in_err-a.was)
 
 pub loop-a-smaller : goal.loop-a-smaller
 loop-a-smaller c = expects_less c.loop-a.invariant c.loop-a-test.true _ _ c.next_expected.ensures c.in_ok-a.was

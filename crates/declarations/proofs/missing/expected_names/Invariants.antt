@@ -7,7 +7,7 @@ use Rattle.declarations.proofs.Expecting.{Expects}
 use Rattle.declarations.proofs.missing.expected_names.Given as goal
 
 abbrev pub invariant-loop-a : goal.invariant-loop-a
-invariant-loop-a l = Expects (expected_names l.file.source.now (length l.initial.area) (range l.i l.e) l.w (contents expected_format l.initial.area l.initial.count)) l.file.source.now (length l.initial.area) l.i l.e l.a l.area l.count
+invariant-loop-a l = Expects (expected_names l.file.source.now (length l.initial.area) (range l.line.start l.line.end) l.w (contents expected_format l.initial.area l.initial.count)) l.file.source.now (length l.initial.area) l.line.start l.line.end l.a l.area l.count
 
 abbrev pub decreases-loop-a : goal.decreases-loop-a
-decreases-loop-a l = l.e - l.a
+decreases-loop-a l = l.line.end - l.a

@@ -7,8 +7,8 @@ use Rattle.declarations.proofs.Declares.{Declares}
 use Rattle.declarations.proofs.states.declare_start_states.Given as goal
 
 abbrev pub invariant-loop-at : goal.invariant-loop-at
-invariant-loop-at l = Declares (state_names l.file.source.now (name_caps (length l.initial.area1) (length l.initial.area6)) l.exclusive (range l.a l.t) (names_in l.initial.area1 l.initial.area6 l.initial.counts))
-    l.file.source.now l.exclusive l.t l.initial.area1 l.initial.area6 l.at l.area1 l.area6 l.counts
+invariant-loop-at l = Declares (state_names l.file.source.now (name_caps (length l.initial.area1) (length l.initial.area6)) l.exclusive (range l.part.start l.part.end) (names_in l.initial.area1 l.initial.area6 l.initial.counts))
+    l.file.source.now l.exclusive l.part.end l.initial.area1 l.initial.area6 l.at l.area1 l.area6 l.counts
 
 abbrev pub decreases-loop-at : goal.decreases-loop-at
-decreases-loop-at l = l.t - l.at
+decreases-loop-at l = l.part.end - l.at

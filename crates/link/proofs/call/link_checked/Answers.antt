@@ -1,53 +1,102 @@
 -- `link::call::link_checked` meets its contract: each way out is the definition's.
 use Rattle.std.proofs.lemmas.Result.{err_from_is_err_and}
-use mathlib.Core.Path.{sym, ap, ◌∙◌}
+use mathlib.Core.Path.{◌≡◌, sym, ap, subst, ◌∙◌}
+use mathlib.Core.List.{List}
+use native.Mathlib.Omega.{arith}
 use lib.ListN.{length}
-use Rattle.area.specs.Contents.{contents, rule_format}
+use Rattle.area.specs.declared.Rule.{Rule}
+use Rattle.area.specs.Contents.{rule_format, entry_format, laid}
+use Rattle.area.proofs.Contents.{contents_count}
 use Rattle.names.specs.Names.{name_of}
 use Rattle.name_map.specs.Phrases.{map_in}
-use Rattle.link.specs.Matches.{unmarked}
-use Rattle.link.proofs.Outcomes.{room_left, short_7, short_8, none_short}
+use Rattle.name_map.proofs.Maps.{named_count}
+use Rattle.link.specs.declared.LinkArea.TheVariants.{Unmapped, Unused}
+use Rattle.link.specs.Link.{unused, unlinked, fits}
+use Rattle.link.specs.Matches.{EntriesFound, Matched, unmarked}
+use Rattle.link.specs.Phrases.{rules_in}
+use Rattle.link.proofs.Outcomes.{room_left, short_7, short_8, none_short, unlinked_left, all_written}
+use Rattle.link.proofs.call.link_checked.Goals.{After-match_rules-unmapped_count}
 use Rattle.link.proofs.call.link_checked.Goals as goal
+
+-- what was found and marked, said of the rules of area 2
+matched : (c : After-match_rules-unmapped_count)
+    → Matched (name_of c.args.src.now) (map_in c.args.index.now.map) (rules_in c.args.area2.now c.args.rules)
+    c.match_rules-unmapped_count.result c.match_rules-unmapped_count.new.found c.match_rules-unmapped_count.new.used
+matched c =
+    let left = c.match_rules-unmapped_count in
+    subst (λ (xs : List Rule). Matched (name_of c.args.src.now) (map_in c.args.index.now.map) xs left.result left.new.found left.new.used)
+    c.new-lent.ensures left.ensures
+
+-- the numbers that are written to area 8
+idle : (c : After-match_rules-unmapped_count)
+    → unmarked c.match_rules-unmapped_count.new.used c.count-entries.result
+    ≡ unused (name_of c.args.src.now) (map_in c.args.index.now.map) (rules_in c.args.area2.now c.args.rules)
+idle c =
+    let map = c.args.index.now.map in
+    ap (unmarked c.match_rules-unmapped_count.new.used) (c.count-entries.ensures ∙ sym (named_count map.names.now map.entries)) ∙ (matched c).without_mark
+
+-- the rules that were found, by the number of rules
+kept : (c : After-match_rules-unmapped_count)
+    → EntriesFound (name_of c.args.src.now) (map_in c.args.index.now.map) (rules_in c.args.area2.now c.args.rules) c.args.rules
+    c.match_rules-unmapped_count.new.found
+kept c =
+    subst (λ n. EntriesFound (name_of c.args.src.now) (map_in c.args.index.now.map) (rules_in c.args.area2.now c.args.rules) n c.match_rules-unmapped_count.new.found)
+    (contents_count rule_format c.args.area2.now c.args.rules) (matched c).kept
 
 pub returns-in_err-check_room : goal.returns-in_err-check_room
 returns-in_err-check_room c =
     let a = c.args in
+    let m = matched (goal.at.returns-in_err-check_room c).After-match_rules-unmapped_count in
     let p = err_from_is_err_and c.from_residual.result c.from_residual.ensures.1 in
-    let short = short_7 (name_of a.src.now) (contents rule_format a.area2.now a.rules) (map_in a.index.now.map) a.area2.now a.area7.now a.area8.now
-    _ c.match_rules-unmapped_count.ensures.missing _ (sym c.in_err-check_room.was ∙ c.check_room.ensures) in
+    let short = short_7 (name_of a.src.now) (rules_in a.area2.now a.rules) (map_in a.index.now.map) a.area2.now a.area7.now a.area8.now
+    _ m.missing _ (sym c.in_err-check_room.was ∙ c.check_room.ensures) in
     rw (p.1, p.2) short
 
 pub returns-in_err-check_room-2 : goal.returns-in_err-check_room-2
 returns-in_err-check_room-2 c =
     let a = c.args in
-    let matched = c.match_rules-unmapped_count in
+    let m = matched (goal.at.returns-in_err-check_room-2 c).After-match_rules-unmapped_count in
     let p = err_from_is_err_and c.from_residual-in_err-check_room-2.result c.from_residual-in_err-check_room-2.ensures.1 in
-    let idle =
-    c.count_unused-unused_count.ensures ∙ ap (λ n. length (unmarked matched.new.used n)) c.count.ensures ∙ ap length matched.ensures.without_mark
-    in
-    let short = short_8 (name_of a.src.now) (contents rule_format a.area2.now a.rules) (map_in a.index.now.map) a.area2.now a.area7.now a.area8.now
-    _ matched.ensures.missing _ (sym c.in_ok-check_room.was ∙ c.check_room.ensures)
-    _ idle _ (sym c.in_err-check_room-2.was ∙ c.check_room-2.ensures) in
+    let free = c.count_unused-unused_count.ensures ∙ ap length (idle (goal.at.returns-in_err-check_room-2 c).After-match_rules-unmapped_count) in
+    let short = short_8 (name_of a.src.now) (rules_in a.area2.now a.rules) (map_in a.index.now.map) a.area2.now a.area7.now a.area8.now
+    _ m.missing _ (sym c.in_ok-check_room.was ∙ c.check_room.ensures)
+    _ free _ (sym c.in_err-check_room-2.was ∙ c.check_room-2.ensures) in
     rw (p.1, p.2) short
 
-pub write_all-requires-clause-area7_value : goal.write_all-requires-clause-area7_value
-write_all-requires-clause-area7_value c =
-    room_left _ _ _ 7 c.match_rules-unmapped_count.ensures.missing _ (sym c.in_ok-check_room.was ∙ c.check_room.ensures)
+pub match_rules-unmapped_count-requires-clause-rules_le_most_rules : goal.match_rules-unmapped_count-requires-clause-rules_le_most_rules
+match_rules-unmapped_count-requires-clause-rules_le_most_rules c =
+    omega (arith, ap length c.new-lent.ensures, contents_count rule_format c.args.area2.now c.args.rules, c.requires.0)
 
-pub write_all-requires-clause-area8_value : goal.write_all-requires-clause-area8_value
-write_all-requires-clause-area8_value c =
-    let marks = c.match_rules-unmapped_count.new.used in
-    let idle = c.count_unused-unused_count.ensures ∙ ap (λ n. length (unmarked marks n)) c.count.ensures in
-    room_left _ _ _ 8 idle _ (sym c.in_ok-check_room-2.was ∙ c.check_room-2.ensures)
+pub write_unlinked-requires-clause-rules_le_most_rules : goal.write_unlinked-requires-clause-rules_le_most_rules
+write_unlinked-requires-clause-rules_le_most_rules c =
+    omega (arith, ap length c.new-linked.ensures, contents_count rule_format c.link_rules.new.area c.args.rules, c.requires.0)
+
+pub write_unused-requires-clause-room : goal.write_unused-requires-clause-room
+write_unused-requires-clause-room c =
+    room_left _ _ _ Unused c.count_unused-unused_count.ensures _ (sym c.in_ok-check_room-2.was ∙ c.check_room-2.ensures)
+
+pub link_rules-requires-clause-found_inside : goal.link_rules-requires-clause-found_inside
+link_rules-requires-clause-found_inside c = (matched (goal.at.link_rules-requires-clause-found_inside c).After-match_rules-unmapped_count).inside
+
+pub write_unlinked-requires-clause-room : goal.write_unlinked-requires-clause-room
+write_unlinked-requires-clause-room c =
+    let a = c.args in
+    let first = (goal.at.write_unlinked-requires-clause-room c).After-match_rules-unmapped_count in
+    let linked = c.link_rules.ensures (name_of a.src.now) (kept first) in
+    let left = ap unlinked c.new-linked.ensures ∙ unlinked_left (name_of a.src.now) (map_in a.index.now.map) a.area2.now a.rules _ linked in
+    ap (λ ns. fits ns a.area7.now) left
+    ∙ room_left _ _ _ Unmapped (matched first).missing _ (sym c.in_ok-check_room.was ∙ c.check_room.ensures)
 
 pub returns : goal.returns
 returns c =
     let a = c.args in
-    let matched = c.match_rules-unmapped_count in
-    let idle =
-    c.count_unused-unused_count.ensures ∙ ap (λ n. length (unmarked matched.new.used n)) c.count.ensures ∙ ap length matched.ensures.without_mark
-    in
-    c.write_all.ensures
-    ∙ none_short (name_of a.src.now) (contents rule_format a.area2.now a.rules) (map_in a.index.now.map) a.area2.now a.area7.now a.area8.now
-    _ matched.ensures.missing _ (sym c.in_ok-check_room.was ∙ c.check_room.ensures)
-    _ idle _ (sym c.in_ok-check_room-2.was ∙ c.check_room-2.ensures)
+    let first = (goal.at.returns c).After-match_rules-unmapped_count in
+    let m = matched first in
+    let linked = c.link_rules.ensures (name_of a.src.now) (kept first) in
+    let free = c.count_unused-unused_count.ensures ∙ ap length (idle first) in
+    let seven = c.write_unlinked.ensures ∙ ap (λ xs. laid entry_format (length a.area7.now) (unlinked xs)) c.new-linked.ensures in
+    let eight = c.write_unused.ensures ∙ ap (laid entry_format (length a.area8.now)) (idle first) in
+    all_written (name_of a.src.now) (map_in a.index.now.map) a.area2.now a.rules _ linked _ a.area7.now a.area8.now _ _ seven eight
+    ∙ none_short (name_of a.src.now) (rules_in a.area2.now a.rules) (map_in a.index.now.map) a.area2.now a.area7.now a.area8.now
+    _ m.missing _ (sym c.in_ok-check_room.was ∙ c.check_room.ensures)
+    _ free _ (sym c.in_ok-check_room-2.was ∙ c.check_room-2.ensures)

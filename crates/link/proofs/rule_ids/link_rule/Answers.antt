@@ -12,9 +12,9 @@ returns-then-x-ne1 c = link_unnamed _ _ _ c.if-x-ne1.true
 
 pub returns-in-Some : goal.returns-in-Some
 returns-in-Some c =
-    let es = map_in c.args.map.now in
-    let id = id_read _ _ c.in-Some.j (c.requires c.if-x-ne1.false c.in-Some.j c.in-Some.is) _ c.entry.ensures in
-    link_named es c.args.found _ c.if-x-ne1.false (Some c.entry.result.id) (id ∙ ap (found_id es) (sym c.in-Some.is)) _ c.with_id.ensures
+    let map = c.args.map.now in
+    let id = id_read map.names.now map.entries c.in-Some.j _ c.get.ensures (c.requires c.in-Some.j c.in-Some.is) in
+    link_named (map_in map) c.args.found _ c.if-x-ne1.false (Some c.get.result.id) (id ∙ ap (found_id (map_in map)) (sym c.in-Some.is)) _ c.with_id.ensures
 
 pub returns-in-None : goal.returns-in-None
 returns-in-None c =

@@ -1,19 +1,22 @@
 -- `name_map::index::index_entry` meets its contract: by each answer of the search for the entry's own name.
-use Rattle.std.proofs.Common.{Some, ap, ◌∙◌}
-use Rattle.name_map.proofs.Probing.{searched, indexed_free, indexed_found, indexed_exhausted}
+use Rattle.std.proofs.Common.{Some, ap, ◌∙◌, arith}
+use Rattle.name_map.specs.Phrases.{map_in}
+use Rattle.name_map.proofs.Maps.{named_count, name-at}
+use Rattle.name_map.proofs.Probing.{Searched, searched, indexed_free, indexed_found, indexed_exhausted}
+use Rattle.name_map.proofs.index.index_entry.Goals.{After-probe}
 use Rattle.name_map.proofs.index.index_entry.Goals as goal
 
+own_name : (c : After-probe) → Searched (map_in c.args.map.now) c.args.slots.now c.args.j c.probe.result
+own_name c =
+    let map = c.args.map.now in
+    searched _ _ _ (omega (arith, c.requires.j_bound, named_count map.names.now map.entries)) c.requires.entry_slots _
+    (c.name-name.ensures ∙ name-at map.names.now map.entries _ _ c.get.ensures) c.probe.result c.probe.ensures
+
 pub returns-in-Some-Free : goal.returns-in-Some-Free
-returns-in-Some-Free c =
-    let own_name = searched _ _ _ _ c.requires.j_bound c.requires.entry_slots _ c.entry-x.ensures _ c.name_end.ensures c.probe.result c.probe.ensures in
-    indexed_free _ _ _ own_name c.in-Some-Free.p (c.in-Some-Free.is ∙ ap Some c.in-Some-Free.field-0-is)
+returns-in-Some-Free c = indexed_free _ _ (own_name (goal.at.returns-in-Some-Free c).After-probe) (omega arith) c.in-Some-Free.p (c.in-Some-Free.is ∙ ap Some c.in-Some-Free.field-0-is)
 
 pub returns-in-Some-Found : goal.returns-in-Some-Found
-returns-in-Some-Found c =
-    let own_name = searched _ _ _ _ c.requires.j_bound c.requires.entry_slots _ c.entry-x.ensures _ c.name_end.ensures c.probe.result c.probe.ensures in
-    indexed_found _ _ _ own_name c.in-Some-Found.field-0-0 (c.in-Some-Found.is ∙ ap Some c.in-Some-Found.field-0-is)
+returns-in-Some-Found c = indexed_found _ _ (own_name (goal.at.returns-in-Some-Found c).After-probe) c.in-Some-Found.field-0-0 (c.in-Some-Found.is ∙ ap Some c.in-Some-Found.field-0-is)
 
 pub returns-in-None : goal.returns-in-None
-returns-in-None c =
-    let own_name = searched _ _ _ _ c.requires.j_bound c.requires.entry_slots _ c.entry-x.ensures _ c.name_end.ensures c.probe.result c.probe.ensures in
-    indexed_exhausted _ _ _ own_name c.in-None.is _ c.is_first.ensures
+returns-in-None c = indexed_exhausted _ _ (own_name (goal.at.returns-in-None c).After-probe) c.in-None.is _ c.is_first.ensures

@@ -1,13 +1,13 @@
 -- `rules_section::line::parse_line` meets its contract: text that starts with whitespace is a fault.
-use Rattle.std.proofs.lemmas.Result.{err_from_is_err_and}
+use Rattle.fault.proofs.Steps.{passed_on}
 use Rattle.section.specs.Request.{asked_by}
 use Rattle.rules_section.proofs.RuleLines.{line_verbatim, line_no_room}
 use Rattle.rules_section.proofs.line.parse_line.Goals as goal
 
 pub returns-in_err-counts : goal.returns-in_err-counts
 returns-in_err-counts c =
-    let p = err_from_is_err_and c.from_residual.result c.from_residual.ensures.1 in
-    rw (p.1, p.2) (line_no_room (asked_by c.args.file) _ _ _ _ _ _ _ _ c.requires.held_ruled _ c.matches_whitespace.ensures c.if-matches_whitespace.true _
+    passed_on _ _ _ c.from_residual.ensures.1
+    (line_no_room (asked_by c.args.file) _ _ _ _ _ _ _ _ c.requires.held_ruled _ c.matches_whitespace.ensures c.if-matches_whitespace.true _
     c.add_fault.ensures c.args.counts.now c.in_err-counts.was)
 
 pub returns-then-matches_whitespace : goal.returns-then-matches_whitespace

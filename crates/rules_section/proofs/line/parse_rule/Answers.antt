@@ -1,20 +1,19 @@
 -- `rules_section::line::parse_rule` meets its contract: each return is an outcome of what the heading is.
-use Rattle.std.proofs.lemmas.Result.{err_from_is_err_and}
+use Rattle.fault.proofs.Steps.{passed_on}
 use Rattle.section.specs.Request.{asked_by}
 use Rattle.rules_section.proofs.RuleLines.{rule_wrong, rule_repeated, rule_no_room, rule_fresh}
 use Rattle.rules_section.proofs.line.parse_rule.Goals as goal
 
 pub returns-in_err-first : goal.returns-in_err-first
 returns-in_err-first c =
-    let p = err_from_is_err_and c.from_residual.result c.from_residual.ensures.1 in
-    rw (p.1, p.2) (rule_wrong (asked_by c.args.file) _ _ _ _ _ _ _ _ c.requires.held_ruled _ c.trim_end-t.ensures _
+    passed_on _ _ _ c.from_residual.ensures.1
+    (rule_wrong (asked_by c.args.file) _ _ _ _ _ _ _ _ c.requires.held_ruled _ c.trim_end-t.ensures _
     (rw (c.new-rules.ensures.rules, c.new.ensures) at c.heading_of.ensures) _ c.in_err-first.was)
 
 pub returns-in_err-counts-in-Repeated : goal.returns-in_err-counts-in-Repeated
 returns-in_err-counts-in-Repeated c =
-    let f = c.from_residual-in_err-counts-in-Repeated in
-    let p = err_from_is_err_and f.result f.ensures.1 in
-    rw (p.1, p.2) (rule_no_room (asked_by c.args.file) _ _ _ _ _ _ _ _ c.requires.held_ruled _ c.trim_end-t.ensures _
+    passed_on _ _ _ c.from_residual-in_err-counts-in-Repeated.ensures.1
+    (rule_no_room (asked_by c.args.file) _ _ _ _ _ _ _ _ c.requires.held_ruled _ c.trim_end-t.ensures _
     (rw (c.new-rules.ensures.rules, c.new.ensures) at c.heading_of.ensures) c.in_ok-first.was _ _ c.in-Repeated.is _ c.add_duplicate_occurrence.ensures
     c.args.counts.now c.in_err-counts-in-Repeated.was)
 

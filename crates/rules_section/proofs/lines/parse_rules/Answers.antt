@@ -1,5 +1,5 @@
 -- `rules_section::lines::parse_rules` meets its contract: the loop has come to the line `line`, and what a search may use of the rules so far holds.
-use Rattle.std.proofs.lemmas.Result.{err_from_is_err_and}
+use Rattle.fault.proofs.Steps.{passed_on}
 use Rattle.section.specs.Request.{asked_by}
 use Rattle.rules_section.proofs.RuleLines.{rules_start, rules_read, rules_marked, rules_less, rules_next, rules_end, rules_routines, rules_err}
 use Rattle.rules_section.proofs.lines.parse_rules.Goals as goal
@@ -11,8 +11,8 @@ loop-marks-init c =
 
 pub returns-in_err-parse_line : goal.returns-in_err-parse_line
 returns-in_err-parse_line c =
-    let p = err_from_is_err_and c.from_residual.result c.from_residual.ensures.1 in
-    rw (p.1, p.2) (rules_err (asked_by c.args.file) _ _ _ _ _ c.loop-marks.invariant _ c.in_section.ensures c.loop-marks-test.true _ _ c.parse_line.ensures
+    passed_on _ _ _ c.from_residual.ensures.1
+    (rules_err (asked_by c.args.file) _ _ _ _ _ c.loop-marks.invariant _ c.in_section.ensures c.loop-marks-test.true _ _ c.parse_line.ensures
     _ c.in_err-parse_line.was)
 
 pub new-requires-in-loop-marks : goal.new-requires-in-loop-marks

@@ -1,6 +1,6 @@
 -- `rules_section::pattern::parse_pattern` meets its contract: each return is an outcome of what the pattern is.
 use mathlib.Core.Path.{◌∙◌}
-use Rattle.std.proofs.lemmas.Result.{err_from_is_err_and}
+use Rattle.fault.proofs.Steps.{passed_on}
 use Rattle.section.specs.Request.{asked_by}
 use Rattle.rules_section.proofs.Patterns.{pattern_plain, pattern_listed, pattern_rewritten, pattern_list_err, pattern_text_full}
 use Rattle.rules_section.proofs.pattern.parse_pattern.Goals as goal
@@ -8,15 +8,14 @@ use Rattle.rules_section.proofs.pattern.parse_pattern.Goals.{in-Listed+in_ok-par
 
 pub returns-in_err-parse_start_states-in-Listed : goal.returns-in_err-parse_start_states-in-Listed
 returns-in_err-parse_start_states-in-Listed c =
-    let p = err_from_is_err_and c.from_residual.result c.from_residual.ensures.1 in
-    rw (p.1, p.2) (pattern_list_err (asked_by c.args.file) _ _ _ _ _ _ _ _ _ c.requires.held_sheet _ c.body_of.ensures _ c.in-Listed.is _ _ c.parse_start_states.ensures
+    passed_on _ _ _ c.from_residual.ensures.1
+    (pattern_list_err (asked_by c.args.file) _ _ _ _ _ _ _ _ _ c.requires.held_sheet _ c.body_of.ensures _ c.in-Listed.is _ _ c.parse_start_states.ensures
     _ c.in_err-parse_start_states-in-Listed.was)
 
 pub returns-in_err-counts-in-Rewritten : goal.returns-in_err-counts-in-Rewritten
 returns-in_err-counts-in-Rewritten c =
-    let f = c.from_residual-in_err-counts-in-Rewritten in
-    let p = err_from_is_err_and f.result f.ensures.1 in
-    rw (p.1, p.2) (pattern_text_full (asked_by c.args.file) _ _ _ _ _ _ _ _ _ c.requires.held_sheet _ c.body_of.ensures c.in-Rewritten.is _ c.unescape.ensures
+    passed_on _ _ _ c.from_residual-in_err-counts-in-Rewritten.ensures.1
+    (pattern_text_full (asked_by c.args.file) _ _ _ _ _ _ _ _ _ c.requires.held_sheet _ c.body_of.ensures c.in-Rewritten.is _ c.unescape.ensures
     c.args.counts.now c.in_err-counts-in-Rewritten.was)
 
 -- where the ways join, the counts, the areas and the text are those of the way that was taken

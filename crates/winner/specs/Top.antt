@@ -1,8 +1,15 @@
--- A row that fits, with its greatest length, by which the step mostly finds the winner without reading every rule. 01 has none of it.
-use Rattle.std.specs.Prelude.{ℕ, ◌≡◌, Bool, true, false, List, Option, Some, None}
+-- Whether a row fits, and a row that fits with its greatest length, by which the step mostly finds the winner without reading every rule. 01 has
+-- none of the latter.
+use Rattle.std.specs.Prelude.{ℕ, ◌≡◌, ◌*◌, Bool, ◌&&◌, true, false, List, eqb, length, Option, Some, None}
+use Rattle.area.specs.Lists.{all}
+use Rattle.area.specs.Records.{entry_width}
+use Rattle.area.specs.Contents.{contents, entry_format}
 use Rattle.winner.specs.declared.Row.{Row}
 use Rattle.winner.specs.Winner.{length_in, greatest}
-use Rattle.input_check.specs.InputCheck.{good_row}
+
+-- number 10: one length for each rule, and each passes the test
+unfoldable pub good_row : (ℕ → Bool) → ℕ → List ℕ → Bool
+good_row test rules row = eqb (length row) (rules * entry_width) && all test (contents entry_format row rules)
 
 -- a row fits, and x has its lengths and the greatest of them
 pub record RowFits (test : ℕ → Bool) (rules : ℕ) (row : List ℕ) (x : Row) : Type 0 where

@@ -1,7 +1,13 @@
--- The operation of a rule by its name, as the code of a move goes by it. The definition of a move goes by the number of the field.
+-- What a rule does with the stack of states: its number, and what a field of any number says.
 use Rattle.std.specs.Prelude.{ℕ, ◌≡◌, Option, Some, None}
-use Rattle.run.specs.declared.moves.StartStateOperation.{StartStateOperation}
-use Rattle.run.specs.declared.moves.StartStateOperation.TheVariants.{ReplaceStack, Push, Pop}
+use Rattle.area.specs.declared.StartStateOperation.{StartStateOperation}
+use Rattle.area.specs.declared.StartStateOperation.TheVariants.{ReplaceStack, Push, Pop}
+
+-- 1 replace, 2 push, 3 pop (01, Areas, 2)
+abbrev pub operation_number : StartStateOperation → ℕ
+operation_number ReplaceStack = 1
+operation_number Push = 2
+operation_number Pop = 3
 
 -- what a name says of the field, and what it says that there is none
 abbrev pub OperationIs : ℕ → Option StartStateOperation → Type 0
