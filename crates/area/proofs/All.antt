@@ -5,7 +5,6 @@ use mathlib.Core.List.{List, [], ◌∷◌, ◌++◌, map}
 use Prim.Native.Nat.{ℕ, zero, suc, ◌+◌, ◌≤◌, ◌<◌}
 use native.Mathlib.Numerals.{add-one}
 use native.Mathlib.Omega.{arith}
-use borrow.Author.Rules.{rules}
 use borrow.Author.Tests.{leb-true, leb-false}
 use lib.Dec.{leb}
 use lib.ListN.{length, get_or, take, drop}
@@ -63,7 +62,7 @@ module _ {A : Type 0} (test : A → Bool) where
   all_one_more [] x = and-true (test x)
   all_one_more (y ∷ xs) x = ap (λ (b : Bool). test y && b) (all_one_more xs x) ∙ sym (and_assoc (test y) (all test xs) (test x))
 
--- ---- the records of an area: a loop has tested the first k
+-- ---- the records of an area: the first k have been tested
 
 module _ {A : Type 0} (F : Format A) (test : A → Bool) (l : List ℕ) where
   pub all_none : true ≡ all test (contents F l 0)
@@ -76,11 +75,6 @@ module _ {A : Type 0} (F : Format A) (test : A → Bool) (l : List ℕ) where
   all_next k good t x g e q =
       ap₂ (λ (a b : Bool). a && b) g (q ∙ ap test e)
       ∙ sym (ap (λ (m : ℕ). all test (list_of (F.read l) m)) (add-one k) ∙ all_one_more test (list_of (F.read l) k) (F.read l k))
-
-  pub all_read : (k n : ℕ) (good : Bool) → n ≤ k → k ≤ n → good ≡ all test (contents F l k) → good ≡ all test (contents F l n)
-  all_read k n good h g e = e ∙ ap (λ (m : ℕ). all test (contents F l m)) (omega arith)
-
-pub ruleset judging = (rules, all_none, all_next, all_read)
 
 -- ---- the numbers below another
 

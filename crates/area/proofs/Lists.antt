@@ -2,13 +2,14 @@
 -- Assumes nothing.
 use mathlib.Core.Path.{◌≡◌, sym, ap, ap₂, ◌∙◌}
 use mathlib.Core.List.{List, ◌++◌, append_assoc, append-nil}
-use Prim.Native.Nat.{ℕ, zero, suc, ◌+◌, ◌*◌, ◌-◌, ◌≤◌}
-use native.Mathlib.Nat.{zero-add, zero-sub, sub-zero, suc-sub-suc}
+use Prim.Native.Nat.{ℕ, ◌+◌, ◌*◌, ◌-◌, ◌≤◌}
+use native.Mathlib.Nat.{zero-add, sub-zero}
 use native.Mathlib.Omega.{arith}
 use lib.ListN.{length, take, drop, length-append, length-replicate, length-drop}
 use lib.Seq.{sets, sets-eq, drop-drop, take-append_seam, drop-append-add, drop-append_seam, length-take-le, drop-length, take-length}
 use borrow.Rule.Slice.PartMut.{put_mid, mid_of}
 use Rattle.std.specs.List.{copy_within}
+use Rattle.std.proofs.lemmas.List.{drop-replicate}
 use Rattle.area.specs.Bytes.{pad, zeros}
 use Rattle.area.specs.Areas.{move_up, inserted}
 
@@ -30,11 +31,6 @@ put_part a k l v q h =
 
 -- ---- zeros behind a list
 
-drop_zeros : (m k : ℕ) → drop m (zeros k) ≡ zeros (k - m)
-drop_zeros zero k = ap zeros (sym (sub-zero k))
-drop_zeros (suc m) zero = ap zeros (sym (zero-sub (suc m)))
-drop_zeros (suc m) (suc k) = drop_zeros m k ∙ ap zeros (sym (suc-sub-suc k m))
-
 pub length_pad : (n : ℕ) (l : List ℕ) → length l ≤ n → length (pad n l) ≡ n
 unfolding pad
 length_pad n l h = simp (length-append, length-replicate) (omega arith)
@@ -46,7 +42,7 @@ sets_pad n l v h =
     let e : n - length l - length v ≡ n - length (l ++ v) = omega (arith, length-append l v) in
     let r : length l + length v ≤ length (pad n l) = omega (arith, length_pad n l (omega arith)) in
     sets-eq v (pad n l) (length l) r
-    ∙ ap₂ (λ (a b : List ℕ). a ++ v ++ b) (take-append_seam l _) (drop-append-add l _ _ ∙ drop_zeros (length v) (n - length l))
+    ∙ ap₂ (λ (a b : List ℕ). a ++ v ++ b) (take-append_seam l _) (drop-append-add l _ _ ∙ drop-replicate (length v) (n - length l) 0)
     ∙ ap (λ (j : ℕ). l ++ v ++ zeros j) e
 
 -- bytes put in between u and v: those of v move up
@@ -59,20 +55,20 @@ insert_pad n u v x h =
     let tail : drop (length u) (pad n (u ++ v)) ≡ v ++ z = ap (drop (length u)) (append_assoc u v z) ∙ drop-append_seam u (v ++ z) in
     let k : n - length (u ++ v) - length x ≡ n - length (u ++ (x ++ v)) = omega (arith, length-append u v, length-append u (x ++ v), length-append x v) in
     ap₂ (λ (a b : List ℕ). a ++ move_up (length x) (length v) x b) front tail
-    ∙ ap₂ (λ (a b : List ℕ). u ++ (x ++ a ++ b)) (take-append_seam v z) (drop-append-add v z (length x) ∙ drop_zeros (length x) _)
+    ∙ ap₂ (λ (a b : List ℕ). u ++ (x ++ a ++ b)) (take-append_seam v z) (drop-append-add v z (length x) ∙ drop-replicate (length x) _ 0)
     ∙ sym (append_assoc u (x ++ v) _)
     ∙ ap (λ (j : ℕ). u ++ (x ++ v) ++ zeros j) k
 
 -- ---- a record put in between
 
 -- the first m bytes moved up by w, and v written over the front
-pub move_front : {w u : ℕ} (l : List ℕ) {a e : List ℕ} (m : ℕ) (v : List ℕ) → u ≡ w → length v ≡ w → m + w ≤ length l → a ≡ copy_within l 0 m u → e ≡ sets a 0 v
+pub move_front : {w u : ℕ} (l : List ℕ) {a e : List ℕ} (m : ℕ) (v : List ℕ) → u ≡ w → length v ≡ w → m + w ≤ length l → a ≡ copy_within l 0 m u → e ≡ sets a (0 * w) v
     → e ≡ move_up w m v l
 unfolding move_up
 move_front {w} {u} l {a} m v z lv h p q =
     let p' : a ≡ take w l ++ take m l ++ drop (w + m) l =
     p ∙ ap (copy_within l 0 m) z ∙ ap (λ (j : ℕ). take w l ++ take j l ++ drop (w + j) l) (sub-zero m) in
-    q ∙ ap (λ (t : List ℕ). sets t 0 v) (p' ∙ append_assoc (take w l) _ _)
+    q ∙ ap (λ (j : ℕ). sets a j v) (omega arith) ∙ ap (λ (t : List ℕ). sets t 0 v) (p' ∙ append_assoc (take w l) _ _)
     ∙ sets_front v (take w l) (take m l ++ drop (w + m) l) (length-take-le w l (omega arith) ∙ sym lv)
     ∙ sym (append_assoc v _ _)
     ∙ ap (λ (j : ℕ). v ++ take m l ++ drop j l) (omega arith)

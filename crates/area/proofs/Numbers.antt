@@ -12,11 +12,11 @@ use lib.Seq.{sets}
 use Rattle.area.specs.Bytes.{bytes, pad, zeros}
 use Rattle.area.specs.Records.{entry_width, entry_bytes}
 use Rattle.area.specs.Contents.{Format, contents, entry_format, laid}
-use Rattle.area.specs.Lists.{numbers, numbers_of}
+use Rattle.area.specs.Lists.{numbers}
 use Rattle.area.proofs.Lists.{sets_pad}
 use Rattle.area.proofs.Fields.{bytes-append, bytes_single, bytes-length}
 use Rattle.area.proofs.Records.{entry_wide}
-use Rattle.area.proofs.Contents.{contents_count, contents_read}
+use Rattle.area.proofs.Contents.{contents_read}
 
 -- ---- counted
 
@@ -113,15 +113,12 @@ module _ (test : ℕ → Bool) (cap : ℕ) where
     pub written_all : (m : ℕ) → m ≤ k → k ≤ m → l ≡ laid entry_format cap (numbers test m)
     written_all m h g = w.is ∙ ap (λ (j : ℕ). laid entry_format cap (numbers test j)) (omega arith)
 
--- ---- the records of an area
+-- ---- the records of an area, by a test: docs/PORT.md names these laws
 
 module _ {A : Type 0} (F : Format A) (test : A → Bool) (l : List ℕ) (count : ℕ) where
   -- record k passes
   abbrev pub passes_at : ℕ → Bool
   passes_at k = test (get_or (contents F l count) k F.blank)
-
-  pub records_numbered : numbers passes_at count ≡ numbers_of test F.blank (contents F l count)
-  records_numbered = ap (numbers passes_at) (sym (contents_count F l count))
 
   module _ (k : ℕ) (h : k < count) (x : A) (is : x ≡ F.read l k) (r : Bool) (says : r ≡ test x) where
     record_asked : passes_at k ≡ r

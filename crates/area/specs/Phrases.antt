@@ -1,5 +1,5 @@
 -- Short words for contracts: what a reference that is lent for writing refers to before the call and after it.
-use Rattle.std.specs.Prelude.{ℕ, List}
+use Rattle.std.specs.Prelude.{ℕ, ◌≡◌, List, length}
 use denote.MutBor.{MutBor}
 use denote.Triple.Both.{Both}
 
@@ -18,3 +18,8 @@ before p = p.entry.now
 -- what it refers to after the call
 abbrev pub after : {A : Type 0} → Lent A → A
 after p = p.exit.now
+
+-- the area that was lent, of as many bytes
+pub record SameArea (a b : MutBor (List ℕ)) : Type 0 where
+  pub lent : b.ghost_name ≡ a.ghost_name
+  pub long : length b.now ≡ length a.now

@@ -41,24 +41,6 @@ impl From<AreaName> for u16 {
 #[derive(Clone, Copy, PartialEq, Eq, Debug)]
 pub struct AreaFull(pub AreaName);
 
-// How many bytes a record has.
-pub const STATE_WIDTH: usize = 6;
-
-pub const RULE_WIDTH: usize = 28;
-
-pub const ENTRY_WIDTH: usize = 2;
-
-pub const EXPECTED_WIDTH: usize = 4;
-
-pub const FAULT_WIDTH: usize = 8;
-
-// How many records an area may have.
-pub const MOST_STATES: usize = 64;
-
-pub const MOST_RULES: usize = 2048;
-
-pub const MOST_OTHERS: usize = 65535;
-
 #[derive(Clone, Copy)]
 pub struct State {
     pub start: u16,
@@ -98,6 +80,14 @@ impl Rule {
     {
         self.name_from as usize + self.name_length as usize
     }
+}
+
+// Where a rule's text stands: place 0 is the source, 1 the rewritten text.
+#[derive(Clone, Copy)]
+pub struct RuleText {
+    pub place: u16,
+    pub from: u16,
+    pub length: u16,
 }
 
 // What a rule does with the stack of states, by its operation.
@@ -166,7 +156,8 @@ pub fn read_field(area: &[u8], at: usize) -> u16
 
 // ---- records
 
-// What stands in an area one after the other, each as many bytes.
+// What stands in an area one after the other, each as many bytes. Each record has fields of its own, at the places of the C interface, which stand
+// beside their names: read as one array of fields, each name would be written twice, in an order to be compared by eye.
 pub trait Record: Copy {
     ghost format: { Format Self };
 
@@ -189,9 +180,10 @@ pub trait Record: Copy {
         requires { k * format.width + format.width ≤ length area.now }
         ensures { result ≡ format.read area.now k };
 
-    fn write(self, area: &mut [u8], at: usize)
-        requires { at + format.width ≤ length area.old }
-        ensures { area.new ≡ sets area.old at (format.write self) };
+    // The same, written.
+    fn write(self, area: &mut [u8], k: usize)
+        requires { k * format.width + format.width ≤ length area.old }
+        ensures { area.new ≡ sets area.old (k * format.width) (format.write self) };
 
     ghost sized: { Sized format NAME WIDTH MOST };
 }
@@ -209,13 +201,13 @@ impl Record for State {
 
     const NAME: AreaName = AreaName::States;
 
-    const WIDTH: usize = STATE_WIDTH;
+    const WIDTH: usize = 6;
 
-    const MOST: usize = MOST_STATES;
+    const MOST: usize = 64;
 
     #[tactic(auto, unfolding(crate::specs::Records::state_at, crate::specs::Records::state_of, crate::specs::Bytes::field_from))]
     fn read(area: &[u8], k: usize) -> State {
-        let at = k * STATE_WIDTH;
+        let at = k * Self::WIDTH;
         State {
             start: read_field(area, at),
             end: read_field(area, at + 2),
@@ -224,7 +216,8 @@ impl Record for State {
     }
 
     #[tactic(auto, unfolding(crate::specs::Bytes::two, crate::specs::Bytes::bytes, crate::specs::Records::state_fields))]
-    fn write(self, area: &mut [u8], at: usize) {
+    fn write(self, area: &mut [u8], k: usize) {
+        let at = k * Self::WIDTH;
         write_field(area, at, self.start);
         write_field(area, at + 2, self.end);
         write_field(area, at + 4, self.exclusive);
@@ -244,13 +237,13 @@ impl Record for Rule {
 
     const NAME: AreaName = AreaName::Rules;
 
-    const WIDTH: usize = RULE_WIDTH;
+    const WIDTH: usize = 28;
 
-    const MOST: usize = MOST_RULES;
+    const MOST: usize = 2048;
 
     #[tactic(auto, unfolding(crate::specs::Records::rule_at, crate::specs::Records::rule_of, crate::specs::Bytes::field_from))]
     fn read(area: &[u8], k: usize) -> Rule {
-        let at = k * RULE_WIDTH;
+        let at = k * Self::WIDTH;
         Rule {
             has_id: read_field(area, at),
             id: read_field(area, at + 2),
@@ -270,7 +263,8 @@ impl Record for Rule {
     }
 
     #[tactic(auto, unfolding(crate::specs::Bytes::two, crate::specs::Bytes::bytes, crate::specs::Records::rule_fields))]
-    fn write(self, area: &mut [u8], at: usize) {
+    fn write(self, area: &mut [u8], k: usize) {
+        let at = k * Self::WIDTH;
         write_field(area, at, self.has_id);
         write_field(area, at + 2, self.id);
         write_field(area, at + 4, self.named);
@@ -302,18 +296,18 @@ impl Record for u16 {
 
     const NAME: AreaName = AreaName::Entries;
 
-    const WIDTH: usize = ENTRY_WIDTH;
+    const WIDTH: usize = 2;
 
-    const MOST: usize = MOST_OTHERS;
+    const MOST: usize = 65535;
 
     #[tactic(auto, unfolding(crate::specs::Records::entry_at, crate::specs::Bytes::field_from))]
     fn read(area: &[u8], k: usize) -> u16 {
-        read_field(area, k * ENTRY_WIDTH)
+        read_field(area, k * Self::WIDTH)
     }
 
     #[tactic(auto, unfolding(crate::specs::Bytes::two, crate::specs::Bytes::bytes, crate::specs::Records::entry_fields))]
-    fn write(self, area: &mut [u8], at: usize) {
-        write_field(area, at, self);
+    fn write(self, area: &mut [u8], k: usize) {
+        write_field(area, k * Self::WIDTH, self);
     }
 }
 
@@ -330,13 +324,13 @@ impl Record for Expected {
 
     const NAME: AreaName = AreaName::Expected;
 
-    const WIDTH: usize = EXPECTED_WIDTH;
+    const WIDTH: usize = 4;
 
-    const MOST: usize = MOST_OTHERS;
+    const MOST: usize = 65535;
 
     #[tactic(auto, unfolding(crate::specs::Records::expected_at, crate::specs::Records::expected_of, crate::specs::Bytes::field_from))]
     fn read(area: &[u8], k: usize) -> Expected {
-        let at = k * EXPECTED_WIDTH;
+        let at = k * Self::WIDTH;
         Expected {
             start: read_field(area, at),
             end: read_field(area, at + 2),
@@ -344,7 +338,8 @@ impl Record for Expected {
     }
 
     #[tactic(auto, unfolding(crate::specs::Bytes::two, crate::specs::Bytes::bytes, crate::specs::Records::expected_fields))]
-    fn write(self, area: &mut [u8], at: usize) {
+    fn write(self, area: &mut [u8], k: usize) {
+        let at = k * Self::WIDTH;
         write_field(area, at, self.start);
         write_field(area, at + 2, self.end);
     }
@@ -363,13 +358,13 @@ impl Record for Fault {
 
     const NAME: AreaName = AreaName::Faults;
 
-    const WIDTH: usize = FAULT_WIDTH;
+    const WIDTH: usize = 8;
 
-    const MOST: usize = MOST_OTHERS;
+    const MOST: usize = 65535;
 
     #[tactic(auto, unfolding(crate::specs::Records::fault_at, crate::specs::Records::fault_of, crate::specs::Bytes::field_from))]
     fn read(area: &[u8], k: usize) -> Fault {
-        let at = k * FAULT_WIDTH;
+        let at = k * Self::WIDTH;
         Fault {
             number: read_field(area, at),
             kind: read_field(area, at + 2),
@@ -379,7 +374,8 @@ impl Record for Fault {
     }
 
     #[tactic(auto, unfolding(crate::specs::Bytes::two, crate::specs::Bytes::bytes, crate::specs::Records::fault_fields))]
-    fn write(self, area: &mut [u8], at: usize) {
+    fn write(self, area: &mut [u8], k: usize) {
+        let at = k * Self::WIDTH;
         write_field(area, at, self.number);
         write_field(area, at + 2, self.kind);
         write_field(area, at + 4, self.start);
@@ -403,23 +399,15 @@ impl Record for u8 {
 
     const WIDTH: usize = 1;
 
-    const MOST: usize = MOST_OTHERS;
+    const MOST: usize = 65535;
 
     fn read(area: &[u8], k: usize) -> u8 {
         area[k]
     }
 
-    fn write(self, area: &mut [u8], at: usize) {
-        area[at] = self;
+    fn write(self, area: &mut [u8], k: usize) {
+        area[k] = self;
     }
-}
-
-// Record k of an area.
-pub fn read<R: Record>(area: &[u8], k: usize) -> R
-    requires { k * R.format.width + R.format.width ≤ length area.now }
-    ensures { result ≡ R.format.read area.now k }
-{
-    R::read(area, k)
 }
 
 // ---- records, appended
@@ -445,7 +433,7 @@ pub fn push<R: Record>(area: &mut [u8], n: u16, x: R) -> Result<u16, AreaFull>
 {
     let count = n as usize;
     if has_room::<R>(area, count, 1) {
-        x.write(area, count * R::WIDTH);
+        x.write(area, count);
         return Ok(n + 1);
     }
     Err(AreaFull(R::NAME))

@@ -1,7 +1,7 @@
 -- Code that walks by a test promises something of the test's answers (specs/Walk, at the end). Where the answers are those of a predicate, it has
 -- walked as the definitions do; where they only rule the predicate out, so does what was found.
 use Rattle.std.proofs.Common.{◌≡◌, refl, sym, ap, ◌∙◌, Bool, true, false, ℕ, ◌+◌, ◌-◌, ◌≤◌, ◌<◌, ◌⊎◌, inl, inr, arith, Option, Some, None}
-use Rattle.characters.specs.Walk.{first, last, any, Between, Finds, FindsLast, Asks}
+use Rattle.characters.specs.Walk.{first, last, any, FirstTrue, FindsLast, Asks}
 use Rattle.characters.specs.Shortcuts.{RulesOut}
 use Rattle.characters.proofs.Tests.{le_or_lt}
 use Rattle.characters.proofs.Walks.{first_here, first_none, first_over, last_here, last_none, last_over}
@@ -12,15 +12,16 @@ module _ (answers : ℕ → Bool → Type 0) (test : ℕ → Bool) where
   abbrev pub Answers : ℕ → ℕ → Type 0
   Answers i e = (k : ℕ) (b : Bool) → i ≤ k → k < e → answers k b → b ≡ test k
 
-  pub finds_first : (i e r : ℕ) → Answers i e → Finds answers i e r → Between i e (first test i e) r
-  finds_first i e r is f = record { is = go (le_or_lt e r); from = f.from; to = f.to }
+  -- what `find` promises, as a function names it: its bounds are facts by themselves, and the rest of it stands whole, or no search would try the law
+  pub finds_first : (i e r : ℕ) → Answers i e → i ≤ r → r ≤ e → FirstTrue answers i e r → r ≡ first test i e
+  finds_first i e r is from to f = go (le_or_lt e r)
     where
       passed : first test i e ≡ first test r e
-      passed = first_over test i r e f.from f.to (λ m a b. sym (is m false a (omega (arith, f.to)) (f.fails m a b)))
+      passed = first_over test i r e from to (λ m a b. sym (is m false a (omega (arith, to)) (f.fails m a b)))
 
       go : (e ≤ r) ⊎ (r < e) → r ≡ first test i e
       go (inl h) = first_none test r e h ∙ sym passed
-      go (inr h) = first_here test r e h (sym (is r true f.from h (f.passes h))) ∙ sym passed
+      go (inr h) = first_here test r e h (sym (is r true from h (f.passes h))) ∙ sym passed
 
   pub finds_last : (i e : ℕ) (o : Option ℕ) → Answers i e → FindsLast answers i e o → o ≡ last test i e
   finds_last i e None is f = go (le_or_lt e i)

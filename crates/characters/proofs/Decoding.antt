@@ -12,11 +12,12 @@ use borrow.Author.Tests.{lt-ltb, le-ltb, ltb-true, eqb-true}
 use lib.Dec.{eqb}
 use lib.ListN.{length, drop, drop_of_length-le}
 use lib.Seq.{drop-cons}
+use Rattle.std.proofs.lemmas.Bool.{cond_both, and_parts}
 use Rattle.characters.specs.Class.{within}
 use Rattle.characters.specs.Whitespace.{byte}
 use Rattle.characters.specs.Utf8.{is_continuation, one_byte, two_bytes, three_bytes, four_bytes, char_of, char_at, char_len, skip_chars, utf8}
 use Rattle.characters.specs.Unicode.{is_scalar, encode, encode_all, Encoded, Judges}
-use Rattle.characters.proofs.Tests.{in_range, and_left, and_right, or_cases, range_of, by_test, le_or_lt}
+use Rattle.characters.proofs.Tests.{in_range, or_cases, range_of, le_or_lt}
 use Rattle.characters.proofs.Chars.{char_fits, char_cut, char_inside}
 use Rattle.characters.proofs.Codes.{encode_1, encode_2, encode_3, encode_4}
 use Rattle.characters.proofs.Encoding.{chars_stay, chars_go, encoded_is_utf8}
@@ -36,16 +37,16 @@ high c l h = rw (le-ltb c 0xd800 (omega arith), in_range 0xe000 0x10ffff c l h)
 
 both : (p q r : Bool) → p && (q && r) ≡ true → (p ≡ true) × (q ≡ true) × (r ≡ true)
 both p q r e =
-    let f = and_right p (q && r) e in
-    (and_left p (q && r) e, and_left q r f, and_right q r f)
+    let f = (and_parts p (q && r) e).1 in
+    ((and_parts p (q && r) e).0, (and_parts q r f).0, (and_parts q r f).1)
 
 decode_1 : (a : ℕ) → a < 0x80 → Decoded (a ∷ [])
 decode_1 a h = record { value = a; scalar = low a (omega arith); bytes = encode_1 a h }
 
 decode_2 : (a b : ℕ) → two_bytes a b ≡ true → Decoded (a ∷ b ∷ [])
 decode_2 a b e =
-    let ra = range_of 0xc2 0xdf a (and_left (within 0xc2 0xdf a) (is_continuation b) e) in
-    let rb = range_of 0x80 0xbf b (and_right (within 0xc2 0xdf a) (is_continuation b) e) in
+    let ra = range_of 0xc2 0xdf a (and_parts (within 0xc2 0xdf a) (is_continuation b) e).0 in
+    let rb = range_of 0x80 0xbf b (and_parts (within 0xc2 0xdf a) (is_continuation b) e).1 in
     let c = (a - 0xc0) * 0x40 + (b - 0x80) in
     let p : 0xc0 + c / 0x40 ≡ a = omega arith in
     let q : 0x80 + c % 0x40 ≡ b = omega arith in
@@ -126,8 +127,8 @@ module _ (a b d f : ℕ) where
       → Decoded (a ∷ b ∷ d ∷ f ∷ [])
   unfolding value_4
   build_4 ra rb t big =
-      let rd = range_of 0x80 0xbf d (and_left (is_continuation d) (is_continuation f) t) in
-      let rf = range_of 0x80 0xbf f (and_right (is_continuation d) (is_continuation f) t) in
+      let rd = range_of 0x80 0xbf d (and_parts (is_continuation d) (is_continuation f) t).0 in
+      let rf = range_of 0x80 0xbf f (and_parts (is_continuation d) (is_continuation f) t).1 in
       let p : 0xf0 + value_4 / 0x40000 ≡ a = omega arith in
       let u : value_4 / 0x1000 ≡ (a - 0xf0) * 0x40 + (b - 0x80) = omega arith in
       let v : value_4 / 0x40 ≡ (a - 0xf0) * 0x1000 + (b - 0x80) * 0x40 + (d - 0x80) = omega arith in
@@ -182,12 +183,12 @@ module _ (s : List ℕ) where
       let d = byte s (k + 2) in
       let f = byte s (k + 3) in
       let P : ℕ → Type 0 = λ n. 0 < n → k + n ≤ length s → Passed s k n in
-      by_test P (one_byte a) 1 _ (λ e _ h. passed (decode_1 a (ltb-true a 0x80 e)) (next k (k + 1) refl (omega arith)))
-      (λ _. by_test P (two_bytes a b) 2 _ (λ e _ h. passed (decode_2 a b e)
+      cond_both (one_byte a) 1 _ P (λ e _ h. passed (decode_1 a (ltb-true a 0x80 e)) (next k (k + 1) refl (omega arith)))
+      (λ _. cond_both (two_bytes a b) 2 _ P (λ e _ h. passed (decode_2 a b e)
       (rw (next k (k + 1) refl (omega arith), next (k + 1) (k + 2) (omega arith) (omega arith))))
-      (λ _. by_test P (three_bytes a b d) 3 _ (λ e _ h. passed (decode_3 a b d e)
+      (λ _. cond_both (three_bytes a b d) 3 _ P (λ e _ h. passed (decode_3 a b d e)
       (rw (next k (k + 1) refl (omega arith), next (k + 1) (k + 2) (omega arith) (omega arith), next (k + 2) (k + 3) (omega arith) (omega arith))))
-      (λ _. by_test P (four_bytes a b d f) 4 0 (λ e _ h. passed (decode_4 a b d f e)
+      (λ _. cond_both (four_bytes a b d f) 4 0 P (λ e _ h. passed (decode_4 a b d f e)
       (rw (
         next k (k + 1) refl (omega arith),
         next (k + 1) (k + 2) (omega arith) (omega arith),

@@ -10,10 +10,11 @@ use native.Mathlib.Omega.{arith}
 use borrow.Author.Tests.{le-leb, lt-leb, leb-true}
 use lib.Dec.{leb}
 use lib.ListN.{length, length-append, get_or-eq_default}
+use Rattle.std.proofs.lemmas.Bool.{and_parts}
 use Rattle.characters.specs.Whitespace.{byte}
 use Rattle.characters.specs.Unicode.{encode, encode_all, Edge, JudgesEdge}
 use Rattle.characters.specs.Utf8.{is_continuation, at_edge, is_edge}
-use Rattle.characters.proofs.Tests.{and_left, and_right, in_range, above_range, le_or_lt}
+use Rattle.characters.proofs.Tests.{in_range, above_range, le_or_lt}
 use Rattle.characters.proofs.Codes.{by_size, encode_1, encode_2, encode_3, encode_4, encode_all-append}
 use Rattle.characters.proofs.Ascii.{first-at, inner_at}
 
@@ -98,8 +99,8 @@ module _ (cs : List ℕ) (b : ℕ) where
   pub edge_is : is_edge (encode_all cs) b ≡ true → Edge cs b
   unfolding encode_all
   edge_is t =
-      let inside = leb-true b (length (encode_all cs)) (and_left (leb b (length (encode_all cs))) (at_edge (encode_all cs) b) t) in
-      edge_from [] cs b (omega arith) inside (and_right (leb b (length (encode_all cs))) (at_edge (encode_all cs) b) t)
+      let inside = leb-true b (length (encode_all cs)) (and_parts (leb b (length (encode_all cs))) (at_edge (encode_all cs) b) t).0 in
+      edge_from [] cs b (omega arith) inside (and_parts (leb b (length (encode_all cs))) (at_edge (encode_all cs) b) t).1
 
   pub edge_judges : JudgesEdge cs b (is_edge (encode_all cs) b)
   edge_judges = record { sound = edge_is; complete = edge_passes }

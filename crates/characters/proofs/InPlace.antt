@@ -2,23 +2,24 @@
 -- place too, so that they fit a row of the table; and behind them no character goes on again. So the walk comes to the end of the text.
 -- At the end: a block of ASCII bytes is in place without a look at each position.
 use mathlib.Core.Path.{◌≡◌, refl, sym, ap, ◌∙◌}
-use mathlib.Core.Bool.{Bool, true, false, not, ◌&&◌, ◌||◌, true≢false, false≢true}
+use mathlib.Core.Bool.{Bool, true, false, not, ◌&&◌, ◌||◌, true≢false, false≢true, or-true}
 use mathlib.Core.List.{List}
 use mathlib.Core.Logic.{⊎_elim}
 use Prim.Native.Nat.{ℕ, zero, suc, ◌+◌, ◌≤◌, ◌<◌}
 use native.Mathlib.Nat.{add_assoc, eq-or-lt_of_le, eq-zero-or-pos}
 use native.Mathlib.Omega.{arith}
 use borrow.Author.Rules.{rules}
-use borrow.Author.Tests.{le-leb, lt-leb, leb-false, eq-eqb, ne_eqb, not-false}
+use borrow.Author.Tests.{le-leb, lt-leb, leb-false, eq-eqb, ne_eqb, not-false, not-true}
 use lib.Dec.{leb, eqb}
 use lib.ListN.{length, get_or-eq_default}
+use Rattle.std.proofs.lemmas.Bool.{or_parts}
 use Rattle.characters.specs.Class.{within}
 use Rattle.characters.specs.Walk.{any}
 use Rattle.characters.specs.Whitespace.{byte}
 use Rattle.characters.specs.Utf8.{is_continuation, char_of, char_at, char_len, skip_chars, utf8}
 use Rattle.characters.specs.Shortcuts.{RulesOut, Tells, goes_on, unexpected, in_no_character, wrong_second}
 use Rattle.characters.specs.Shortcuts.{out_of_place, out_of_place_behind, starts_out_of_place, ends_out_of_place}
-use Rattle.characters.proofs.Tests.{or_none, or_true, range_of, le_or_lt, not_true}
+use Rattle.characters.proofs.Tests.{range_of, le_or_lt}
 use Rattle.characters.proofs.Spaces.{byte_inside}
 use Rattle.characters.proofs.Chars.{char_one, char_two, char_three, char_four, char_fits, char_inside}
 use Rattle.characters.proofs.Runs.{none_passes, none_of, answer_rules_out}
@@ -33,18 +34,18 @@ module _ (a b c : ℕ) where
   on_behind_first h = rw (le-leb 0xc0 c h) refl
 
   on_behind_second : 0xe0 ≤ b → goes_on a b c ≡ true
-  on_behind_second h = rw (le-leb 0xe0 b h) (or_true (leb 0xc0 c))
+  on_behind_second h = rw (le-leb 0xe0 b h) (or-true (leb 0xc0 c))
 
   on_behind_third : 0xf0 ≤ a → goes_on a b c ≡ true
-  on_behind_third h = rw (le-leb 0xf0 a h, or_true (leb 0xe0 b)) (or_true (leb 0xc0 c))
+  on_behind_third h = rw (le-leb 0xf0 a h, or-true (leb 0xe0 b)) (or-true (leb 0xc0 c))
 
   none_goes_on : c < 0xc0 → b < 0xe0 → a < 0xf0 → goes_on a b c ≡ false
   none_goes_on h k l = rw (lt-leb 0xc0 c h, lt-leb 0xe0 b k, lt-leb 0xf0 a l) refl
 
   all_ended : goes_on a b c ≡ false → (c < 0xc0) × (b < 0xe0) × (a < 0xf0)
   all_ended e =
-      let p = or_none (leb 0xc0 c) (leb 0xe0 b || leb 0xf0 a) e in
-      let q = or_none (leb 0xe0 b) (leb 0xf0 a) p.1 in
+      let p = or_parts (leb 0xc0 c) (leb 0xe0 b || leb 0xf0 a) e in
+      let q = or_parts (leb 0xe0 b) (leb 0xf0 a) p.1 in
       (leb-false 0xc0 c p.0, leb-false 0xe0 b q.0, leb-false 0xf0 a q.1)
 
 -- ---- what a byte in place is
@@ -62,8 +63,8 @@ other_fails false q e t = absurd (false≢true t)
 
 all_fail : (p q r : Bool) → p || (q || r) ≡ false → (p ≡ false) × (q ≡ false) × (r ≡ false)
 all_fail p q r e =
-    let f = or_none p (q || r) e in
-    let g = or_none q r f.1 in
+    let f = or_parts p (q || r) e in
+    let g = or_parts q r f.1 in
     (f.0, g.0, g.1)
 
 above : (lo hi b : ℕ) → within lo hi b ≡ false → lo ≤ b → hi < b
@@ -80,7 +81,7 @@ module _ (a b c d : ℕ) (e : out_of_place a b c d ≡ false) where
   -- where no character goes on, a byte of 80 or more is the first of a character
   first_byte : goes_on a b c ≡ false → 0x80 ≤ d → (0xc2 ≤ d) × (d ≤ 0xf4)
   first_byte g h =
-      let n = or_none (within 0xc0 0xc1 d) (leb 0xf5 d) passed.1 in
+      let n = or_parts (within 0xc0 0xc1 d) (leb 0xf5 d) passed.1 in
       let l = above 0x80 0xbf d (sym (alike (goes_on a b c) (is_continuation d) passed.0) ∙ g) h in
       (above 0xc0 0xc1 d n.0 (omega arith), omega (arith, leb-false 0xf5 d n.1))
 
@@ -92,13 +93,13 @@ module _ (a b c d : ℕ) (e : out_of_place a b c d ≡ false) where
   lower = within 0x80 0x8f d
 
   seconds : ((eqb c 0xe0 && low) || (eqb c 0xed && not low) ≡ false) × ((eqb c 0xf0 && lower) || (eqb c 0xf4 && not lower) ≡ false)
-  seconds = or_none ((eqb c 0xe0 && low) || (eqb c 0xed && not low)) ((eqb c 0xf0 && lower) || (eqb c 0xf4 && not lower)) passed.2
+  seconds = or_parts ((eqb c 0xe0 && low) || (eqb c 0xed && not low)) ((eqb c 0xf0 && lower) || (eqb c 0xf4 && not lower)) passed.2
 
   threes : (eqb c 0xe0 && low ≡ false) × (eqb c 0xed && not low ≡ false)
-  threes = or_none (eqb c 0xe0 && low) (eqb c 0xed && not low) seconds.0
+  threes = or_parts (eqb c 0xe0 && low) (eqb c 0xed && not low) seconds.0
 
   fours : (eqb c 0xf0 && lower ≡ false) × (eqb c 0xf4 && not lower ≡ false)
-  fours = or_none (eqb c 0xf0 && lower) (eqb c 0xf4 && not lower) seconds.1
+  fours = or_parts (eqb c 0xf0 && lower) (eqb c 0xf4 && not lower) seconds.1
 
   behind_e0 : c ≡ 0xe0 → 0x80 ≤ d → 0xa0 ≤ d
   behind_e0 q h = above 0x80 0x9f d (other_fails (eqb c 0xe0) low threes.0 (eq-eqb c 0xe0 q)) h
@@ -363,7 +364,7 @@ pub in_place_tells :
 in_place_tells s n x y z f g h e =
     record {
       holds =
-          λ u. let t = all_fail x y z (not_true (x || (y || z)) u) in
+          λ u. let t = all_fail x y z (not-true (x || (y || z)) u) in
           in_place_well_formed s n e (sym f ∙ t.0) (g.none t.1) (sym h ∙ t.2);
     }
 
@@ -387,7 +388,7 @@ pub ascii_block :
 ascii_block s k r f e = record { none = λ z. none_of (λ j. out_of_place_behind s (k + j)) 64 in_place }
   where
     low : (j : ℕ) (i : ℕ) → i ≡ k + j → j < 80 → byte s i < 0x80
-    low j i q h = rw q (leb-false 0x80 (byte s (k + j)) (none_passes (λ m. leb 0x80 (byte s (k + m))) 80 j (f.none (not_true r e)) h))
+    low j i q h = rw q (leb-false 0x80 (byte s (k + j)) (none_passes (λ m. leb 0x80 (byte s (k + m))) 80 j (f.none (not-true r e)) h))
 
     in_place : (j : ℕ) → j < 64 → out_of_place_behind s (k + j) ≡ false
     in_place j h =
@@ -396,8 +397,5 @@ ascii_block s k r f e = record { none = λ z. none_of (λ j. out_of_place_behind
         (low (j + 1) (k + j + 1) (omega arith) (omega arith))
         (low (j + 2) (k + j + 2) (omega arith) (omega arith))
         (low (j + 3) (k + j + 3) (omega arith) (omega arith))
-
-pub one_of_three : (x y z p q r : Bool) → x ≡ p → y ≡ q → z ≡ r → x || (y || z) ≡ p || (q || r)
-one_of_three x y z p q r e f g = cc
 
 pub ruleset passing_blocks = (rules, none_yet, block_passed, rest_rules_out, rules_out_nothing)

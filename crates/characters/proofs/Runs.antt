@@ -1,20 +1,20 @@
 -- Positions that are looked at together: what a test rules out of all of them. So a text of ASCII bytes is well formed.
 use mathlib.Core.Path.{◌≡◌, refl, sym, ap, ◌∙◌}
-use mathlib.Core.Bool.{Bool, true, false, not, ◌||◌, true≢false}
+use mathlib.Core.Bool.{Bool, true, false, not, true≢false}
 use mathlib.Core.List.{List}
 use mathlib.Core.Logic.{⊎_elim}
 use Prim.Native.Nat.{ℕ, zero, suc, ◌+◌, ◌-◌, ◌≤◌, ◌<◌}
 use native.Mathlib.Nat.{zero-add, eq-or-lt_of_le, le_of_suc-le-suc, eq-zero-or-pos}
-use native.Mathlib.Numerals.{add-one}
 use native.Mathlib.Omega.{arith}
-use borrow.Author.Tests.{eq-eqb, leb-false}
+use borrow.Author.Tests.{eq-eqb, leb-false, not-true}
 use lib.Dec.{leb}
 use lib.ListN.{length}
+use Rattle.std.proofs.lemmas.Bool.{or_parts}
 use Rattle.characters.specs.Walk.{any}
 use Rattle.characters.specs.Whitespace.{byte}
 use Rattle.characters.specs.Utf8.{char_len, skip_chars, utf8}
 use Rattle.characters.specs.Shortcuts.{RulesOut, Tells}
-use Rattle.characters.proofs.Tests.{or_none, not_true, le_or_lt}
+use Rattle.characters.proofs.Tests.{le_or_lt}
 use Rattle.characters.proofs.Walks.{skip_stays, skip_goes}
 use Rattle.characters.proofs.Chars.{char_one, char_fits, char_inside}
 
@@ -25,7 +25,7 @@ module _ (test : ℕ → Bool) where
   unfolding any
   none_passes zero m e h = absurd (omega arith)
   none_passes (suc n) m e h =
-      let p = or_none (any test n) (test n) e in
+      let p = or_parts (any test n) (test n) e in
       ⊎_elim (λ q. ap test q ∙ p.1) (λ l. none_passes n m p.0 l) (eq-or-lt_of_le (le_of_suc-le-suc h))
 
   pub none_of : (n : ℕ) → ((m : ℕ) → m < n → test m ≡ false) → any test n ≡ false
@@ -90,7 +90,7 @@ module _ (s : List ℕ) (ascii : any (λ k. leb 0x80 (byte s (0 + k))) (length s
   ascii_well_formed = eq-eqb (skip_chars s 0) (length s) (to_the_end (length s) 0 (omega arith))
 
 pub ascii_tells : (s : List ℕ) (above : Bool) → RulesOut (any (λ m. leb 0x80 (byte s (0 + m))) (length s)) above → Tells (utf8 s) (not above)
-ascii_tells s above f = record { holds = λ t. ascii_well_formed s (f.none (not_true above t)) }
+ascii_tells s above f = record { holds = λ t. ascii_well_formed s (f.none (not-true above t)) }
 
 pub answer_rules_out : (p r : Bool) → r ≡ p → RulesOut p r
 answer_rules_out p r e = record { none = λ f. sym e ∙ f }

@@ -7,9 +7,12 @@ use Prim.Native.Nat.{ℕ, ◌<◌}
 use borrow.Author.Rules.{rules}
 use lib.Dec.{leb}
 use lib.ListN.{get_or}
-use Rattle.characters.specs.Class.{Classes, has, is_line_end, is_blank, is_whitespace_byte, is_always_kept}
+use borrow.Author.Tests.{not-true}
+use Rattle.std.proofs.lemmas.Bool.{or_parts, agree_below_at}
+use Rattle.std.specs.Char.{is_ascii_whitespace as library_ascii_whitespace}
+use Rattle.characters.specs.Class.{Classes, has, is_line_end, is_blank, is_other_whitespace, is_whitespace_byte, is_ascii_whitespace, is_always_kept}
 use Rattle.characters.specs.Shortcuts.{RulesOut, Tells, may_be_whitespace}
-use Rattle.characters.proofs.Tests.{or_cases, or_none, not_true}
+use Rattle.characters.proofs.Tests.{or_cases}
 use Rattle.characters.proofs.Table.{all_below, table, table_rule, at_each_entry}
 
 -- ---- what the bits of an entry say of its byte
@@ -39,7 +42,7 @@ module _ (bits : ℕ → ℕ → Bool) (p : ℕ → Bool) (says : (b x : ℕ) �
     where
       fails : (q r : Bool) → q || not r ≡ true → q ≡ false → r ≡ false
       fails true r e f = absurd (true≢false f)
-      fails false r e f = not_true r e
+      fails false r e f = not-true r e
 
   tells : Covered quick bits → (b : ℕ) → b < 256 → Tells (p b) (quick b)
   tells e b h = record { holds = λ t. sym (says b _ (table_rule b h)) ∙ passes (quick b) _ (at_each_entry (λ k x. not (quick k) || bits k x) e b h) t }
@@ -68,18 +71,18 @@ tells_blank = tells _ is_blank (λ b x k. k.blank)
 
 module _ (p r : Bool) where
   pub ruled_out : RulesOut p r → not r ≡ true → false ≡ p
-  ruled_out f e = sym (f.none (not_true r e))
+  ruled_out f e = sym (f.none (not-true r e))
 
   pub told : Tells p r → r ≡ true → true ≡ p
   told f e = sym (f.holds e)
 
 -- of a byte of 128 or more nothing is said
 pub ruled_out_below : (p q r : Bool) → RulesOut (p || q) r → not r ≡ true → false ≡ p
-ruled_out_below p q r f e = sym (or_none p q (f.none (not_true r e))).0
+ruled_out_below p q r f e = sym (or_parts p q (f.none (not-true r e))).0
 
 -- a test that is added to both
 pub rules_out_or : (p q r : Bool) → RulesOut p r → RulesOut (p || q) (r || q)
-rules_out_or p q r f = record { none = λ e. rw (f.none (or_none r q e).0, (or_none r q e).1) refl }
+rules_out_or p q r f = record { none = λ e. rw (f.none (or_parts r q e).0, (or_parts r q e).1) refl }
 
 module _ (b : ℕ) where
   pub blank_or_line_end_white : (r q : Bool) → Tells (is_blank b) r → Tells (is_line_end b) q → r || q ≡ true → true ≡ is_whitespace_byte b
@@ -91,3 +94,9 @@ module _ (b : ℕ) where
       blank false y z t = rw t refl
 
 pub ruleset settling = (rules, ruled_out, ruled_out_below, rules_out_or, told, blank_or_line_end_white, by_three_classes)
+
+-- ---- ASCII whitespace: the library tests three ranges, and the definition lists bytes
+
+pub ascii_whitespace_tested : (b : ℕ) (r : Bool) → b < 256 → r ≡ library_ascii_whitespace b → r ≡ is_ascii_whitespace b
+unfolding is_ascii_whitespace is_whitespace_byte is_line_end is_blank is_other_whitespace
+ascii_whitespace_tested b r h e = e ∙ agree_below_at library_ascii_whitespace is_ascii_whitespace 256 b refl h

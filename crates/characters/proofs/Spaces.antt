@@ -1,7 +1,7 @@
 -- Whitespace and line ends at an offset: a law for each branch of the definitions, and that what is measured stands within the text, since no
 -- whitespace character has a byte 0. A line end is a whitespace character, so what holds of whitespace is not proved again for line ends.
 use mathlib.Core.Path.{◌≡◌, refl, sym, ap, ◌∙◌}
-use mathlib.Core.Bool.{Bool, true, false, ◌&&◌, ◌||◌, true≢false}
+use mathlib.Core.Bool.{Bool, true, false, ◌&&◌, ◌||◌, true≢false, and-false, or-true}
 use mathlib.Core.List.{List, [], ◌∷◌}
 use mathlib.Core.Logic.{◌⊎◌, inl, inr, ⊎_elim}
 use Prim.Native.Nat.{ℕ, zero, suc, ◌+◌, ◌≤◌, ◌<◌, zero-le, suc-le-suc}
@@ -10,11 +10,11 @@ use native.Mathlib.Omega.{arith}
 use borrow.Author.Tests.{ne_eqb, eqb-true, leb-false}
 use lib.Dec.{eqb, leb}
 use lib.ListN.{length}
+use Rattle.std.proofs.lemmas.Bool.{cond_both, or_parts, and_parts}
 use Rattle.std.proofs.lemmas.List.{get_or_past}
 use Rattle.characters.specs.Class.{is_whitespace_byte, is_line_end, is_blank, is_other_whitespace}
 use Rattle.characters.specs.Shortcuts.{RulesOut, may_end_line, may_be_whitespace}
 use Rattle.characters.specs.Whitespace.{byte, is_next_line, is_mark, is_separator, whitespace_of, line_end_of, whitespace_len, line_end_len, at_line_end}
-use Rattle.characters.proofs.Tests.{by_test, and_left, and_false, or_true, or_none}
 
 -- ---- from the first byte alone
 
@@ -31,14 +31,14 @@ module _ (a b c : ℕ) where
   pub white_ruled_out : may_be_whitespace a ≡ false → 0 ≡ whitespace_of a b c
   unfolding whitespace_of
   white_ruled_out e =
-      let f = or_none (is_whitespace_byte a) (leb 0x80 a) e in
+      let f = or_parts (is_whitespace_byte a) (leb 0x80 a) e in
       let h = leb-false 0x80 a f.1 in
       simp (f.0, ne_eqb a 0xc2 (omega arith), ne_eqb a 0xe2 (omega arith))
 
   pub end_ruled_out : may_end_line a ≡ false → 0 ≡ line_end_of a b c
   unfolding line_end_of
   end_ruled_out e =
-      let f = or_none (is_line_end a) (leb 0x80 a) e in
+      let f = or_parts (is_line_end a) (leb 0x80 a) e in
       let h = leb-false 0x80 a f.1 in
       simp (f.0, ne_eqb a 0xe2 (omega arith))
 
@@ -50,19 +50,19 @@ line_is_white a e = rw e
 
 separator_is_white : (b c : ℕ) → is_separator 0xe2 b c ≡ true → 3 ≡ whitespace_of 0xe2 b c
 unfolding whitespace_of is_whitespace_byte is_line_end is_blank is_other_whitespace
-separator_is_white b c e = rw (e, or_true (is_mark 0xe2 b c))
+separator_is_white b c e = rw (e, or-true (is_mark 0xe2 b c))
 
 -- of the same width, or there is none
 pub end_or_white : (a b c : ℕ) → (line_end_of a b c ≡ 0) ⊎ (line_end_of a b c ≡ whitespace_of a b c)
 unfolding line_end_of
 end_or_white a b c =
     let P : ℕ → Type 0 = λ n. (n ≡ 0) ⊎ (n ≡ whitespace_of a b c) in
-    by_test P (is_line_end a) 1 _ (λ e. inr (white_one a b c (line_is_white a e)))
-    (λ _. by_test P (is_separator a b c) 3 0 (λ e. inr (three e)) (λ _. inl refl))
+    cond_both (is_line_end a) 1 _ P (λ e. inr (white_one a b c (line_is_white a e)))
+    (λ _. cond_both (is_separator a b c) 3 0 P (λ e. inr (three e)) (λ _. inl refl))
   where
     three : is_separator a b c ≡ true → 3 ≡ whitespace_of a b c
     three e =
-        let q = eqb-true a 0xe2 (and_left (eqb a 0xe2) (eqb b 0x80 && (eqb c 0xa8 || eqb c 0xa9)) e) in
+        let q = eqb-true a 0xe2 (and_parts (eqb a 0xe2) (eqb b 0x80 && (eqb c 0xa8 || eqb c 0xa9)) e).0 in
         rw q (separator_is_white b c (rw q at e))
 
 pub end_none_of_white : (s : List ℕ) (i : ℕ) → whitespace_len s i ≡ 0 → line_end_len s i ≡ 0
@@ -87,7 +87,7 @@ unfolding is_line_end
 end_not_0 a z = rw z
 
 two_not_0 : (a b : ℕ) → is_next_line a b ≡ true → b ≡ 0 → ⊥
-two_not_0 a b e z = true≢false (sym e ∙ ap (is_next_line a) z ∙ and_false (eqb a 0xc2))
+two_not_0 a b e z = true≢false (sym e ∙ ap (is_next_line a) z ∙ and-false (eqb a 0xc2))
 
 three_not_0 : (a b c : ℕ) → is_mark a b c || is_separator a b c ≡ true → c ≡ 0 → ⊥
 three_not_0 a b c e z = true≢false (sym e ∙ ap (λ (x : ℕ). is_mark a b x || is_separator a b x) z ∙ with_0 (eqb a 0xe2) (eqb b 0x80))
@@ -104,9 +104,9 @@ white_inside s i =
     let b = byte s (i + 1) in
     let c = byte s (i + 2) in
     let P : ℕ → Type 0 = λ n. 0 < n → i + n ≤ length s in
-    by_test P (is_whitespace_byte a) 1 _ (λ e _. omega (arith, byte_inside s i (λ z. true≢false (sym e ∙ white_not_0 a z))))
-    (λ _. by_test P (is_next_line a b) 2 _ (λ e _. omega (arith, byte_inside s (i + 1) (two_not_0 a b e)))
-    (λ _. by_test P (is_mark a b c || is_separator a b c) 3 0 (λ e _. omega (arith, byte_inside s (i + 2) (three_not_0 a b c e)))
+    cond_both (is_whitespace_byte a) 1 _ P (λ e _. omega (arith, byte_inside s i (λ z. true≢false (sym e ∙ white_not_0 a z))))
+    (λ _. cond_both (is_next_line a b) 2 _ P (λ e _. omega (arith, byte_inside s (i + 1) (two_not_0 a b e)))
+    (λ _. cond_both (is_mark a b c || is_separator a b c) 3 0 P (λ e _. omega (arith, byte_inside s (i + 2) (three_not_0 a b c e)))
     (λ _ h. absurd (omega arith))))
 
 pub end_inside : (s : List ℕ) (i : ℕ) → 0 < line_end_len s i → i + line_end_len s i ≤ length s

@@ -11,9 +11,9 @@ use native.Mathlib.Omega.{arith}
 use borrow.Author.Tests.{eqb-true}
 use lib.Dec.{eqb}
 use lib.ListN.{get_or}
+use Rattle.std.proofs.lemmas.Bool.{and_parts}
 use Rattle.characters.specs.Class.{Classes, ClassTable, has, is_line_end, is_blank, is_other_whitespace}
 use Rattle.characters.specs.Class.{is_letter, is_digit, is_hex_digit, is_meta_character, is_escape_letter}
-use Rattle.characters.proofs.Tests.{and_left, and_right}
 
 -- the test passes at each number below n
 abbrev pub all_below : (ℕ → Bool) → ℕ → Bool
@@ -23,8 +23,8 @@ all_below test (suc n) = test n && all_below test n
 at_each : (test : ℕ → Bool) (n k : ℕ) → all_below test n ≡ true → k < n → test k ≡ true
 at_each test zero k e h = absurd (not-suc-le-zero h)
 at_each test (suc n) k e h =
-    ⊎_elim (λ q. subst (λ (j : ℕ). test j ≡ true) (sym q) (and_left (test n) (all_below test n) e))
-    (λ l. at_each test n k (and_right (test n) (all_below test n) e) l)
+    ⊎_elim (λ q. subst (λ (j : ℕ). test j ≡ true) (sym q) (and_parts (test n) (all_below test n) e).0)
+    (λ l. at_each test n k (and_parts (test n) (all_below test n) e).1 l)
     (eq-or-lt_of_le (le_of_suc-le-suc h))
 
 -- two tests agree, and all that follows holds

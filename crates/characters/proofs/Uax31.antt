@@ -11,10 +11,11 @@ use native.Mathlib.Omega.{arith}
 use borrow.Author.Tests.{eqb-true}
 use lib.Dec.{eqb}
 use lib.ListN.{length}
+use Rattle.std.proofs.lemmas.Bool.{cond_both, and_parts}
 use Rattle.characters.specs.Class.{among, is_whitespace_byte, is_line_end, is_blank, is_other_whitespace}
 use Rattle.characters.specs.Whitespace.{byte, is_next_line, is_mark, is_separator, whitespace_of, line_end_of, whitespace_len, line_end_len}
 use Rattle.characters.specs.Unicode.{encode, encode_all, pattern_white_space, line_terminators, is_pattern_white_space, is_line_terminator}
-use Rattle.characters.proofs.Tests.{and_left, and_right, or_cases, by_test}
+use Rattle.characters.proofs.Tests.{or_cases}
 use Rattle.characters.proofs.Spaces.{end_none_of_white, inner_none}
 use Rattle.characters.proofs.Codes.{Each, by_size, encode_1, encode_2, encode_3, encode_4, byte_behind, byte_next, encode_all-append}
 use Rattle.characters.proofs.Ascii.{inner_at}
@@ -75,18 +76,18 @@ measured_by :
 unfolding whitespace_of is_pattern_white_space
 measured_by {A} a b d h one two three =
     let P : ℕ → Type 0 = λ n. 0 < n → A in
-    by_test P (is_whitespace_byte a) 1 _ (λ e _. one e)
-    (λ _. by_test P (is_next_line a b) 2 _
-    (λ e _. two (eqb-true a 0xc2 (and_left (eqb a 0xc2) (eqb b 0x85) e)) (eqb-true b 0x85 (and_right (eqb a 0xc2) (eqb b 0x85) e)))
-    (λ _. by_test P (is_mark a b d || is_separator a b d) 3 0
+    cond_both (is_whitespace_byte a) 1 _ P (λ e _. one e)
+    (λ _. cond_both (is_next_line a b) 2 _ P
+    (λ e _. two (eqb-true a 0xc2 (and_parts (eqb a 0xc2) (eqb b 0x85) e).0) (eqb-true b 0x85 (and_parts (eqb a 0xc2) (eqb b 0x85) e).1))
+    (λ _. cond_both (is_mark a b d || is_separator a b d) 3 0 P
     (λ e _. or_cases (is_mark a b d) (is_separator a b d) e (third 0x8e 0x8f refl refl) (third 0xa8 0xa9 refl refl)) (λ _ k. absurd (omega arith)))) h
   where
     third : (x y : ℕ) → is_pattern_white_space (0x1f80 + x) ≡ true → is_pattern_white_space (0x1f80 + y) ≡ true
         → eqb a 0xe2 && (eqb b 0x80 && (eqb d x || eqb d y)) ≡ true → A
     third x y p q e =
-        let f = and_right (eqb a 0xe2) (eqb b 0x80 && (eqb d x || eqb d y)) e in
-        three (eqb-true a 0xe2 (and_left (eqb a 0xe2) (eqb b 0x80 && (eqb d x || eqb d y)) e)) (eqb-true b 0x80 (and_left (eqb b 0x80) (eqb d x || eqb d y) f))
-        (or_cases (eqb d x) (eqb d y) (and_right (eqb b 0x80) (eqb d x || eqb d y) f)
+        let f = (and_parts (eqb a 0xe2) (eqb b 0x80 && (eqb d x || eqb d y)) e).1 in
+        three (eqb-true a 0xe2 (and_parts (eqb a 0xe2) (eqb b 0x80 && (eqb d x || eqb d y)) e).0) (eqb-true b 0x80 (and_parts (eqb b 0x80) (eqb d x || eqb d y) f).0)
+        (or_cases (eqb d x) (eqb d y) (and_parts (eqb b 0x80) (eqb d x || eqb d y) f).1
         (λ t. rw (eqb-true d x t) p)
         (λ t. rw (eqb-true d y t) q))
 

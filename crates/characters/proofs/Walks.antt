@@ -10,9 +10,10 @@ use native.Mathlib.Omega.{arith}
 use borrow.Author.Rules.{rules}
 use borrow.Author.Tests.{eqb-true, eqb-false, eq-eqb, ne_eqb}
 use lib.Dec.{eqb}
+use Rattle.std.proofs.lemmas.Bool.{cond_both}
 use Rattle.characters.specs.Walk.{first_of, first, last_of, last, repeat, skip}
 use Rattle.std.specs.Prelude.{Option, Some, None}
-use Rattle.characters.proofs.Tests.{answer, answer_not, answer_yes, answer_no, by_test}
+use Rattle.characters.proofs.Tests.{answer, answer_not, answer_yes, answer_no}
 
 -- ---- the first position that passes
 
@@ -173,7 +174,7 @@ repeat_stop next (suc n) k h = rw (eq-eqb (next k) k h)
 pub repeat_keeps : (P : ℕ → Type 0) (next : ℕ → ℕ) → ((k : ℕ) → P k → P (next k)) → (n k : ℕ) → P k → P (repeat next n k)
 unfolding repeat
 repeat_keeps P next keeps zero k h = h
-repeat_keeps P next keeps (suc n) k h = by_test P (eqb (next k) k) k _ (λ _. h) (λ _. repeat_keeps P next keeps n (next k) (keeps k h))
+repeat_keeps P next keeps (suc n) k h = cond_both (eqb (next k) k) k _ P (λ _. h) (λ _. repeat_keeps P next keeps n (next k) (keeps k h))
 
 -- a measure that falls whenever the step changes something bounds how often it does
 module _ (next : ℕ → ℕ) (μ : ℕ → ℕ) (falls : (k : ℕ) → (next k ≡ k → ⊥) → μ (next k) < μ k) where

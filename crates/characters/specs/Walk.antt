@@ -62,12 +62,16 @@ Below e n None = e ≡ n
 
 -- ---- what code that walks promises, of a test that may give the answers at a position
 
+-- the answer is false at each position from i to before r, and true at r where that is before e
+pub record FirstTrue (answers : ℕ → Bool → Type 0) (i e r : ℕ) : Type 0 where
+  pub fails : (k : ℕ) → i ≤ k → k < r → answers k false
+  pub passes : r < e → answers r true
+
 -- r is the first position from i to before e where the answer is true, or e
 pub record Finds (answers : ℕ → Bool → Type 0) (i e r : ℕ) : Type 0 where
   pub from : i ≤ r
   pub to : r ≤ e
-  pub fails : (k : ℕ) → i ≤ k → k < r → answers k false
-  pub passes : r < e → answers r true
+  pub is : FirstTrue answers i e r
 
 -- q is the last position from i to before e where the answer is true
 pub record FoundLast (answers : ℕ → Bool → Type 0) (i e q : ℕ) : Type 0 where

@@ -22,7 +22,7 @@ const META_CHARACTER: u8 = 64;
 
 const ESCAPE_LETTER: u8 = 128;
 
-// The classes of each byte.
+// The classes of each byte: one const table, which 01 names as the form.
 pub const CLASS: [u8; 256] = [
     0,
     0,
@@ -282,8 +282,8 @@ pub const CLASS: [u8; 256] = [
     0,
 ];
 
-// A constant array has no place of its own: each look into it lays it out anew on the stack. A byte of 128 or more has no class and is told
-// before, so that half of the table is enough.
+// A constant array has no place of its own, which a `static` would have: each look into it lays it out anew on the stack. A byte of 128 or more has
+// no class and is told before, so that half of the table is enough.
 pub fn class(b: u8) -> u8
     ensures { Classes b result }
 {
@@ -335,7 +335,7 @@ pub fn may_be_blank(b: u8) -> bool
     b <= 0x20
 }
 
-// ---- the classes
+// ---- the classes, each by the table and not by the library's `is_ascii_..`: 01 has every scanner go by it
 
 pub fn is_line_end(b: u8) -> bool
     ensures { result ≡ is_line_end b }
@@ -405,8 +405,9 @@ pub fn is_whitespace_byte(b: u8) -> bool
 }
 
 // What `split_ascii_whitespace` splits at: vertical tab is not in it.
+#[tactic(auto, using(crate::proofs::Shortcuts::ascii_whitespace_tested))]
 pub fn is_ascii_whitespace(b: u8) -> bool
     ensures { result ≡ is_ascii_whitespace b }
 {
-    is_whitespace_byte(b) & !(b == 0x0b)
+    b.is_ascii_whitespace()
 }

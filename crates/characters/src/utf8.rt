@@ -62,7 +62,7 @@ fn four_bytes(a: u8, b: u8, c: u8, d: u8) -> bool
             | ((a == 0xf4) & (within(0x80, 0x8f, b) & last)))
 }
 
-// Of the bytes a b c d, how many make a character, or 0.
+// Of the bytes a b c d, how many make a character, or 0. As in the definitions, 0 is none: a walk adds the width, and takes no Option apart.
 #[tactic(auto, unfolding(crate::specs::Utf8::char_of))]
 fn char_of(a: u8, b: u8, c: u8, d: u8) -> usize
     ensures { result ≡ char_of a b c d }
@@ -101,6 +101,7 @@ pub fn char_len(s: &[u8], k: usize) -> usize
 }
 
 // Whether one of the n bytes from k on is not ASCII. It looks at all of them whatever it finds, so that the compiler can take many at once.
+#[tactic(auto, using(crate::proofs::Asking::asks_rules_out, crate::proofs::Runs::answer_rules_out))]
 fn has_above_ascii(s: &[u8], k: usize, n: usize) -> bool
     requires { k + n ≤ length s.now }
     ensures { RulesOut (any (λ j. leb 0x80 (byte s.now (k + j))) n) result }
@@ -147,6 +148,7 @@ fn ends_out_of_place(a: u8, b: u8, c: u8) -> bool
 }
 
 // Whether one of the n bytes behind the three from k on is out of place. It looks at all of them too.
+#[tactic(auto, using(crate::proofs::Asking::asks_rules_out, crate::proofs::Runs::answer_rules_out))]
 fn has_out_of_place(s: &[u8], k: usize, n: usize) -> bool
     requires { k + n + 3 ≤ length s.now }
     ensures { RulesOut (any (λ j. out_of_place_behind s.now (k + j)) n) result }
@@ -168,8 +170,8 @@ fn block_out_of_place(s: &[u8], k: usize) -> bool
     has_out_of_place(s, k, BLOCK)
 }
 
-// Whether one of the n bytes from position 3 on is out of place, with a way out at the first block that has one. It is a `while`, since what a block
-// goes by reaches into the next block: no `for` over parts of the text gives it.
+// Whether one of the n bytes from position 3 on is out of place, with a way out at the first block that has one. It is a `while`, since the bytes
+// behind the last whole block are asked from where it ends, and a `for` by steps would not hand that out.
 #[tactic(auto, using(crate::proofs::InPlace::passing_blocks))]
 fn is_any_out_of_place(s: &[u8], n: usize) -> bool
     requires { n + 3 ≤ length s.now }

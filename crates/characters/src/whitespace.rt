@@ -20,7 +20,8 @@ fn is_separator(a: u8, b: u8, c: u8) -> bool
     (a == 0xe2) & ((b == 0x80) & ((c == 0xa8) | (c == 0xa9)))
 }
 
-// Of the bytes a b c, of which a is none by itself, how many the whitespace character has that they start with.
+// Of the bytes a b c, of which a is none by itself, how many the whitespace character has that they start with. As in the definitions, 0 is none: a
+// walk adds the width, and takes no Option apart.
 #[tactic(auto, unfolding(crate::specs::Whitespace::whitespace_of))]
 fn wide_whitespace_of(a: u8, b: u8, c: u8) -> usize
     requires { is_whitespace_byte a ≡ false }

@@ -5,6 +5,7 @@ use Rattle.characters.specs.Class.{is_letter, is_digit}
 use Rattle.characters.specs.Whitespace.{byte, whitespace_len}
 use Rattle.text.specs.Range.{lookahead_is}
 use Rattle.text.specs.Scan.{line_end, skip_blanks, skip_ascii_whitespace, find_ascii_whitespace, find_whitespace, trim_end, trim_start}
+use Rattle.area.specs.declared.AreaName.TheVariants as Areas
 use Rattle.area.specs.declared.State.{State}
 use Rattle.area.specs.declared.Expected.{Expected}
 use Rattle.area.specs.declared.Fault.{Fault}
@@ -12,38 +13,38 @@ use Rattle.area.specs.Records.{nth_state}
 use Rattle.area.specs.Contents.{append, state_format, expected_format}
 use Rattle.fault.specs.Step.{Out, go, bad, next, onto, written, loop}
 use Rattle.fault.specs.Faults.{add_repeat, PrematureEnd, UnknownDeclaration, InvalidName, DuplicateStartState, InvalidStartStateName}
-use Rattle.section.specs.Request.{Options}
+use Rattle.section.specs.declared.options.Options.{Options}
+use Rattle.section.specs.declared.reader.Line.{Line}
 use Rattle.section.specs.Section.{percents, to_declaration, in_section}
 use Rattle.names.specs.Names.{all_bytes, is_state_name, find_state}
 use Rattle.declarations.specs.declared.Declaration.{Declaration}
 use Rattle.declarations.specs.declared.Declaration.TheVariants.{States, Expecting, Unknown}
 
 -- a part of the source: its first byte, and behind its last one
-pub record Range : Type 0 where
-  pub from : ℕ
-  pub to : ℕ
+abbrev pub Range : Type 0
+Range = Line
 
 -- the part from a to e
 abbrev pub range : ℕ → ℕ → Range
-range a e = record { from = a; to = e }
+range a e = record { start = a; end = e }
 
 -- without the whitespace at both ends (01, Declarations)
 unfoldable pub trimmed : List ℕ → Range → Range
-trimmed s r = range (trim_start s r.from r.to) (trim_end s (trim_start s r.from r.to) r.to)
+trimmed s r = range (trim_start s r.start r.end) (trim_end s (trim_start s r.start r.end) r.end)
 
 -- ---- the first word of a line l, and what it declares
 
 -- the first word ends at the first whitespace character, or with the line (01, Declarations)
 unfoldable pub word_end : List ℕ → Range → ℕ
-word_end s l = find_whitespace s l.from l.to
+word_end s l = find_whitespace s l.start l.end
 
 -- the first word (01, Declarations)
 unfoldable pub first_word : List ℕ → Range → Range
-first_word s l = range l.from (word_end s l)
+first_word s l = range l.start (word_end s l)
 
 -- the rest of the line, which starts behind the word; a line that is only the word once trimmed has none (01, Declarations)
 unfoldable pub rest_of : List ℕ → Range → Range
-rest_of s l = range (cond (eqb (word_end s l) (trim_end s l.from l.to)) l.to (word_end s l)) l.to
+rest_of s l = range (cond (eqb (word_end s l) (trim_end s l.start l.end)) l.end (word_end s l)) l.end
 
 -- a letter or a digit (01, Declarations)
 unfoldable pub is_alphanumeric : ℕ → Bool
@@ -52,8 +53,8 @@ is_alphanumeric b = is_letter b || is_digit b
 -- the word w is `%`, one of the letters x and y, and letters or digits (01, Declarations)
 unfoldable pub declares : ℕ → ℕ → List ℕ → Range → Bool
 declares x y s w =
-    eqb (byte s w.from) 0x25
-    && ((eqb (byte s (w.from + 1)) x || eqb (byte s (w.from + 1)) y) && all_bytes is_alphanumeric s (w.from + 2) w.to)
+    eqb (byte s w.start) 0x25
+    && ((eqb (byte s (w.start + 1)) x || eqb (byte s (w.start + 1)) y) && all_bytes is_alphanumeric s (w.start + 2) w.end)
 
 -- `%s` or `%S`: inclusive states (01, Declarations)
 unfoldable pub is_inclusive : List ℕ → Range → Bool
@@ -69,18 +70,18 @@ expect_missing = 0x25 ∷ 0x65 ∷ 0x78 ∷ 0x70 ∷ 0x65 ∷ 0x63 ∷ 0x74 ∷ 
 
 -- the word w starts with `%expect-missing` (01, Declarations)
 unfoldable pub is_expecting : List ℕ → Range → Bool
-is_expecting s w = is_some (lookahead_is s expect_missing w.from)
+is_expecting s w = is_some (lookahead_is s expect_missing w.start)
 
 -- names of states, exclusive ones or not; no names is an unknown declaration (01, Declarations)
 unfoldable pub states_of : ℕ → Range → Declaration
-states_of exclusive r = cond (eqb r.from r.to) Unknown (States exclusive r.from r.to)
+states_of exclusive r = cond (eqb r.start r.end) Unknown (States exclusive r)
 
 -- what the line says: its first word decides (01, Declarations)
 unfoldable pub declaration_of : List ℕ → Range → Declaration
 declaration_of s l =
     cond (is_inclusive s (first_word s l)) (states_of 0 (trimmed s (rest_of s l)))
     (cond (is_exclusive s (first_word s l)) (states_of 1 (trimmed s (rest_of s l)))
-    (cond (is_expecting s (first_word s l)) (Expecting (rest_of s l).from)
+    (cond (is_expecting s (first_word s l)) (Expecting (rest_of s l).start)
     Unknown))
 
 -- ---- names of states
@@ -113,12 +114,12 @@ behind_name s x = x.end + whitespace_len s x.end
 
 -- x is a new state (01, Declarations)
 unfoldable pub add_state : List ℕ → NameCaps → State → Names → Out Names
-add_state s k x n = onto (λ xs. names xs n.faults) (written 1 (behind_name s x) (append state_format k.c1 (x ∷ []) n.states))
+add_state s k x n = onto (λ xs. names xs n.faults) (written Areas.States (behind_name s x) (append state_format k.c1 (x ∷ []) n.states))
 
 -- x repeats the name of the state y, which is a fault (01, Declarations)
 unfoldable pub repeat_state : List ℕ → NameCaps → State → State → Names → Out Names
 repeat_state s k x y n =
-    onto (names n.states) (written 6 (behind_name s x) (add_repeat k.c6 DuplicateStartState y.start y.end x.start x.end n.faults))
+    onto (names n.states) (written Areas.Faults (behind_name s x) (add_repeat k.c6 DuplicateStartState y.start y.end x.start x.end n.faults))
 
 -- which state has the name of x; the number of states where none has (01, Declarations)
 unfoldable pub state_named : List ℕ → State → List State → ℕ
@@ -134,7 +135,7 @@ declare_state s k x n =
 -- the names in the part r, split at each single whitespace character, each declared in turn (01, Declarations)
 unfoldable pub state_names : List ℕ → NameCaps → ℕ → Range → Names → Out Names
 state_names s k exclusive r n =
-    loop (length s) (λ a. ltb a r.to) (λ a. declare_state s k (state a (find_whitespace s a r.to) exclusive)) r.from n
+    loop (length s) (λ a. ltb a r.end) (λ a. declare_state s k (state a (find_whitespace s a r.end) exclusive)) r.start n
 
 -- ---- expected names of a line l
 
@@ -144,19 +145,19 @@ expected a e = record { start = a; end = e }
 
 -- the word w has a double quote at each end, and these are two bytes (01, Declarations)
 unfoldable pub is_quoted : List ℕ → Range → Bool
-is_quoted s w = leb (w.from + 2) w.to && (eqb (byte s w.from) 0x22 && eqb (byte s (w.to - 1)) 0x22)
+is_quoted s w = leb (w.start + 2) w.end && (eqb (byte s w.start) 0x22 && eqb (byte s (w.end - 1)) 0x22)
 
 -- the word w of the line: a name in quotes, which are cut off, and on behind the ASCII whitespace that follows; any other is a fault at the first
 -- word (01, Declarations)
 unfoldable pub declare_expected : List ℕ → ℕ → Range → Range → List Expected → Out (List Expected)
 declare_expected s c5 l w xs =
-    cond (is_quoted s w) (written 5 (skip_ascii_whitespace s w.to l.to) (append expected_format c5 (expected (w.from + 1) (w.to - 1) ∷ []) xs))
-    (bad InvalidName l.from xs)
+    cond (is_quoted s w) (written Areas.Expected (skip_ascii_whitespace s w.end l.end) (append expected_format c5 (expected (w.start + 1) (w.end - 1) ∷ []) xs))
+    (bad InvalidName l.start xs)
 
 -- the words from a to the line's end, split at ASCII whitespace, each a name in turn (01, Declarations)
 unfoldable pub expected_names : List ℕ → ℕ → Range → ℕ → List Expected → Out (List Expected)
 expected_names s c5 l a xs =
-    loop (length s) (λ j. ltb j l.to) (λ j. declare_expected s c5 l (range j (find_ascii_whitespace s j l.to))) (skip_ascii_whitespace s a l.to) xs
+    loop (length s) (λ j. ltb j l.end) (λ j. declare_expected s c5 l (range j (find_ascii_whitespace s j l.end))) (skip_ascii_whitespace s a l.end) xs
 
 -- ---- what a declaration writes
 
@@ -186,10 +187,10 @@ then_at e o = next o (λ j s. go e s)
 
 -- what the declaration in the line l writes; one that is neither of the two is a fault at the first word (01, Declarations)
 unfoldable pub declare_as : List ℕ → Caps → Range → Declaration → Declared → Out Declared
-declare_as s k l (States exclusive a e) d =
-    then_at l.to (onto (with_names d) (state_names s (name_caps k.c1 k.c6) exclusive (range a e) (names d.states d.faults)))
-declare_as s k l (Expecting a) d = then_at l.to (onto (with_expected d) (expected_names s k.c5 l a d.expected))
-declare_as s k l Unknown d = bad UnknownDeclaration l.from d
+declare_as s k l (States exclusive r) d =
+    then_at l.end (onto (with_names d) (state_names s (name_caps k.c1 k.c6) exclusive r (names d.states d.faults)))
+declare_as s k l (Expecting a) d = then_at l.end (onto (with_expected d) (expected_names s k.c5 l a d.expected))
+declare_as s k l Unknown d = bad UnknownDeclaration l.start d
 
 -- the declaration in the line from i to e (01, Declarations)
 unfoldable pub declaration : List ℕ → Caps → ℕ → ℕ → Declared → Out Declared
@@ -204,8 +205,8 @@ end_declarations s i d = cond (is_some (lookahead_is s percents i)) (go (skip_bl
 module _ (s : List ℕ) (options : Options) (k : Caps) where
   -- a declaration, and on to the next (01, Declarations)
   unfoldable pub next_declaration : ℕ → Declared → Out Declared
-  next_declaration i d = next (declaration s k i (line_end s i) d) (λ j t. go (to_declaration s options.flags j) t)
+  next_declaration i d = next (declaration s k i (line_end s i) d) (λ j t. go (to_declaration s options j) t)
 
   -- the section from i on (01, Declarations)
   unfoldable pub declarations : ℕ → Declared → Out Declared
-  declarations i d = next (loop (length s) (in_section s) next_declaration (to_declaration s options.flags i) d) (end_declarations s)
+  declarations i d = next (loop (length s) (in_section s) next_declaration (to_declaration s options i) d) (end_declarations s)

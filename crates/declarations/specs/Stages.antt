@@ -20,7 +20,7 @@ unfoldable pub declaration_by : List ℕ → Range → Range → Declaration
 declaration_by s w r =
     cond (is_inclusive s w) (states_of 0 (trimmed s r))
     (cond (is_exclusive s w) (states_of 1 (trimmed s r))
-    (cond (is_expecting s w) (Expecting r.from)
+    (cond (is_expecting s w) (Expecting r.start)
     Unknown))
 
 -- `validate_start_state`: the form of the name from a to e, and the span of the state that has it

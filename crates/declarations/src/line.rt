@@ -1,86 +1,87 @@
-// What a declaration's line says: its first word decides (01, Declarations). The line and each part of it are a `Line`, where the definitions
-// have a `Range`.
+// What a declaration's line says: its first word decides (01, Declarations). The line and each part of it are a `FileLine`; the definitions take the
+// source and its `Line`.
 ghost use Rattle.std.specs.Prelude.{◌≡◌, ◌+◌, ◌≤◌, length};
 ghost use Rattle.area.specs.Phrases.{before};
-ghost use Rattle.names.specs.Names.{all_bytes};
-ghost use Rattle.declarations.specs.Declarations.{range, trimmed, is_alphanumeric, declares, states_of, declaration_of};
+ghost use Rattle.std.specs.List.{list_all};
+ghost use Rattle.std.specs.Char.{is_ascii_alphanumeric, to_ascii_lowercase, to_ascii_uppercase};
+ghost use Rattle.declarations.specs.Declarations.{range, trimmed, declares, states_of, declaration_of};
 ghost use Rattle.declarations.specs.Stages.{declaration_by};
 
 use crate::Declaration;
-use characters::walk::find;
-use section::reader::Line;
-use text::range::lookahead_is;
+use section::reader::{FileLine, Line};
+use text::range::{lookahead_is, part};
 use text::scan::{find_whitespace, trim_end, trim_start};
 
-// Whether the bytes from a to before e are all letters or digits.
-fn all_alphanumeric(src: &[u8], a: usize, e: usize) -> bool
-    requires { (a ≤ e) × (e ≤ length src.now) }
-    ensures { result ≡ all_bytes is_alphanumeric src.now a e }
+fn all_alphanumeric(bytes: &[u8]) -> bool
+    ensures { result ≡ list_all is_ascii_alphanumeric bytes.now }
 {
-    find(a, e, |k| !src[k].is_ascii_alphanumeric()) == e
+    bytes.iter().all(u8::is_ascii_alphanumeric)
 }
 
-// Whether the word is `%`, one of two letters, and letters or digits.
+// Whether the word is `%`, the letter in either case, and letters or digits.
 #[tactic(auto, using(crate::proofs::Words::words))]
-fn declares_with(src: &[u8], x: u8, y: u8, word: Line) -> bool
-    requires { (word.start ≤ word.end) × (word.end ≤ length src.now) }
-    ensures { result ≡ declares x y src.now (range word.start word.end) }
+fn declares_with(letter: u8, word: FileLine) -> bool
+    ensures { result ≡ declares (to_ascii_lowercase letter) (to_ascii_uppercase letter) word.entry.file.source.now word.entry.line }
 {
-    if word.end - word.start < 2 {
-        return false;
+    match part(word.file.source, word.line.start, word.line.end) {
+        [b'%', first, rest @ ..] => first.eq_ignore_ascii_case(&letter) && all_alphanumeric(rest),
+        _ => false,
     }
-    let letter = src[word.start + 1];
-    if (src[word.start] == b'%') & ((letter == x) | (letter == y)) {
-        return all_alphanumeric(src, word.start + 2, word.end);
-    }
-    false
 }
 
 // The names in the rest of a line, trimmed. Without names it is no declaration of states.
 #[tactic(auto, using(crate::proofs::Words::stating))]
-fn states_from(src: &[u8], exclusive: u16, rest: Line) -> Declaration
-    requires { (rest.start ≤ rest.end) × (rest.end ≤ length src.now) }
-    ensures { result ≡ states_of exclusive (trimmed src.now (range rest.start rest.end)) }
+fn states_from(exclusive: u16, rest: FileLine) -> Declaration
+    ensures { result ≡ states_of exclusive (trimmed rest.entry.file.source.now rest.entry.line) }
 {
-    let a = trim_start(src, rest.start, rest.end);
-    let t = trim_end(src, a, rest.end);
-    if a == t {
+    let FileLine { file, line } = rest;
+    let start = trim_start(file.source, line.start, line.end);
+    let end = trim_end(file.source, start, line.end);
+    if start == end {
         return Declaration::Unknown;
     }
-    Declaration::States(exclusive, a, t)
+    Declaration::States(exclusive, Line { start, end })
 }
 
-// The line of this first word and this rest.
+// What the line says whose first word ends at w, and whose rest starts at r.
 #[tactic(auto, using(crate::proofs::Words::deciding))]
-fn declaration_by(src: &[u8], word: Line, rest: Line) -> Declaration
-    requires word_inside { (word.start ≤ word.end) × (word.end ≤ length src.now) }
-    requires rest_inside { (rest.start ≤ rest.end) × (rest.end ≤ length src.now) }
-    ensures { result ≡ declaration_by src.now (range word.start word.end) (range rest.start rest.end) }
+fn declaration_by(at: FileLine, w: usize, r: usize) -> Declaration
+    requires { (at.line.start ≤ w) × (w ≤ r) × (r ≤ at.line.end) }
+    ensures { result ≡ declaration_by at.entry.file.source.now (range at.entry.line.start w) (range r at.entry.line.end) }
 {
-    if declares_with(src, b's', b'S', word) {
-        return states_from(src, 0, rest);
+    let FileLine { file, line } = at;
+    let Line { start, end } = line;
+    let word = FileLine {
+        file,
+        line: Line { start, end: w },
+    };
+    let rest = FileLine {
+        file,
+        line: Line { start: r, end },
+    };
+    if declares_with(b's', word) {
+        return states_from(0, rest);
     }
-    if declares_with(src, b'x', b'X', word) {
-        return states_from(src, 1, rest);
+    if declares_with(b'x', word) {
+        return states_from(1, rest);
     }
-    if lookahead_is(src, b"%expect-missing", word.start).is_some() {
-        return Declaration::Expecting(rest.start);
+    if lookahead_is(file.source, b"%expect-missing", start).is_some() {
+        return Declaration::Expecting(r);
     }
     Declaration::Unknown
 }
 
 // What the line says. One that is only the word once trimmed has no rest.
 #[tactic(auto, using(crate::proofs::Words::lining))]
-pub fn declaration_of(src: &[u8], line: Line) -> Declaration
-    requires { (line.start ≤ line.end) × (line.end ≤ length src.now) }
-    ensures { result ≡ declaration_of src.now (range line.start line.end) }
+pub fn declaration_of(at: FileLine) -> Declaration
+    ensures { result ≡ declaration_of at.entry.file.source.now at.entry.line }
 {
-    let Line { start, end } = line;
+    let src = at.file.source;
+    let Line { start, end } = at.line;
     let t = trim_end(src, start, end);
     let w = find_whitespace(src, start, end);
-    let word = Line { start, end: w };
     if w == t {
-        return declaration_by(src, word, Line { start: end, end });
+        return declaration_by(at, w, end);
     }
-    declaration_by(src, word, Line { start: w, end })
+    declaration_by(at, w, w)
 }

@@ -112,41 +112,41 @@ part_none s a e h =
     let z : e - a ≡ 0 = omega arith in
     rw z
 
-module _ (s : List ℕ) (flags c p : ℕ) where
+module _ (s : List ℕ) (posix_escapes : Bool) (c p : ℕ) where
   text_next : (e : Escape) → escapes s p c ≡ e ∷ escapes s e.end c
-      → unescaped s flags p c ≡ part s p e.backslash ++ (escaped s flags c e ++ unescaped s flags e.end c)
+      → unescaped s posix_escapes p c ≡ part s p e.backslash ++ (escaped s posix_escapes c e ++ unescaped s posix_escapes e.end c)
   unfolding unescaped replaced rewritten_end last_whole last_end
   text_next e q = rw q refl
 
-  text_last : escapes s p c ≡ [] → unescaped s flags p c ≡ part s p (drop_lone s c p)
+  text_last : escapes s p c ≡ [] → unescaped s posix_escapes p c ≡ part s p (drop_lone s c p)
   unfolding unescaped replaced rewritten_end last_whole last_end
   text_last q = rw q refl
 
-module _ (s : List ℕ) (flags c p : ℕ) {whole l : List ℕ} {n : ℕ} {a : List ℕ} {m : ℕ} where
+module _ (s : List ℕ) (posix_escapes : Bool) (c p : ℕ) {whole l : List ℕ} {n : ℕ} {a : List ℕ} {m : ℕ} where
   module _ {e : Escape} (found : Next s c p e) where
     -- the text up to the next escape
-    module _ (w : Writing whole l n (unescaped s flags p c) a m) {r : Result ℕ AreaFull} {b : List ℕ} (pushed : PushedText (part s p e.backslash) a m r b) where
-      pub text_pushed : {k : ℕ} → r ≡ Ok k → Writing whole l n (escaped s flags c e ++ unescaped s flags e.end c) b k
-      text_pushed q = writing_next w _ _ (text_next s flags c p e found.left) pushed q
+    module _ (w : Writing whole l n (unescaped s posix_escapes p c) a m) {r : Result ℕ AreaFull} {b : List ℕ} (pushed : PushedText (part s p e.backslash) a m r b) where
+      pub text_pushed : {k : ℕ} → r ≡ Ok k → Writing whole l n (escaped s posix_escapes c e ++ unescaped s posix_escapes e.end c) b k
+      text_pushed q = writing_next w _ _ (text_next s posix_escapes c p e found.left) pushed q
 
       pub text_full : {x : AreaFull} → r ≡ Err x → Grows text_format (append text_format (length l) whole) l n (Err x) b
-      text_full q = writing_full w _ _ (text_next s flags c p e found.left) pushed q
+      text_full q = writing_full w _ _ (text_next s posix_escapes c p e found.left) pushed q
 
     -- or nothing, where no text stands before it
-    pub text_skipped : Writing whole l n (unescaped s flags p c) a m → e.backslash ≤ p → Writing whole l n (escaped s flags c e ++ unescaped s flags e.end c) a m
+    pub text_skipped : Writing whole l n (unescaped s posix_escapes p c) a m → e.backslash ≤ p → Writing whole l n (escaped s posix_escapes c e ++ unescaped s posix_escapes e.end c) a m
     text_skipped w h =
-        let rest = text_next s flags c p e found.left ∙ ap (λ (t : List ℕ). t ++ (escaped s flags c e ++ unescaped s flags e.end c)) (part_none s p e.backslash h) in
+        let rest = text_next s posix_escapes c p e found.left ∙ ap (λ (t : List ℕ). t ++ (escaped s posix_escapes c e ++ unescaped s posix_escapes e.end c)) (part_none s p e.backslash h) in
         record { done = w.done; same = ap (λ (t : List ℕ). w.done ++ t) (sym rest) ∙ w.same; held = w.held; has = w.has; long = w.long }
 
     -- what the escape becomes
-    module _ (w : Writing whole l n (escaped s flags c e ++ unescaped s flags e.end c) a m) {r : Result ℕ AreaFull} {b : List ℕ} (pushed : PushedText (escaped s flags c e) a m r b) where
-      pub escape_pushed : {k : ℕ} → r ≡ Ok k → Writing whole l n (unescaped s flags e.end c) b k
+    module _ (w : Writing whole l n (escaped s posix_escapes c e ++ unescaped s posix_escapes e.end c) a m) {r : Result ℕ AreaFull} {b : List ℕ} (pushed : PushedText (escaped s posix_escapes c e) a m r b) where
+      pub escape_pushed : {k : ℕ} → r ≡ Ok k → Writing whole l n (unescaped s posix_escapes e.end c) b k
       escape_pushed q = writing_next w _ _ refl pushed q
 
       pub escape_full : {x : AreaFull} → r ≡ Err x → Grows text_format (append text_format (length l) whole) l n (Err x) b
       escape_full q = writing_full w _ _ refl pushed q
 
   -- the text behind the last escape
-  pub tail_pushed : {z : ℕ} {r : Result ℕ AreaFull} {b : List ℕ} → escapes s p c ≡ [] → Between p c (drop_lone s c p) z → Writing whole l n (unescaped s flags p c) a m
+  pub tail_pushed : {z : ℕ} {r : Result ℕ AreaFull} {b : List ℕ} → escapes s p c ≡ [] → Between p c (drop_lone s c p) z → Writing whole l n (unescaped s posix_escapes p c) a m
       → PushedText (part s p z) a m r b → Grows text_format (append text_format (length l) whole) l n r b
-  tail_pushed none f w pushed = writing_end w (text_last s flags c p none ∙ ap (part s p) (sym f.is)) pushed
+  tail_pushed none f w pushed = writing_end w (text_last s posix_escapes c p none ∙ ap (part s p) (sym f.is)) pushed

@@ -1,5 +1,5 @@
 -- A pattern's escapes: which stay, what each becomes, and the text that a pattern from i to c of the source s is rewritten to (01, Rules).
-use Rattle.std.specs.Prelude.{ℕ, zero, suc, ◌+◌, ◌-◌, ◌/◌, ◌%◌, Bool, false, cond, not, ◌&&◌, ◌||◌, List, [], ◌∷◌, ◌++◌, eqb, ltb}
+use Rattle.std.specs.Prelude.{ℕ, zero, suc, ◌+◌, ◌-◌, Bool, false, cond, not, ◌&&◌, ◌||◌, List, [], ◌∷◌, ◌++◌, eqb, ltb}
 use Rattle.characters.specs.Class.{among, is_hex_digit, is_always_kept}
 use Rattle.characters.specs.Walk.{first}
 use Rattle.characters.specs.Whitespace.{byte}
@@ -61,21 +61,17 @@ is_kept s c q = is_kept_by (byte s q) (byte s (q + 1)) (ltb (q + 1) c)
 
 -- ---- what an escape becomes
 
--- flag 2 (01, Declarations)
-unfoldable pub posix_escapes : ℕ → Bool
-posix_escapes flags = eqb (flags / 2 % 2) 1
-
 -- what `\b` becomes: `\x08` with flag 2, else `\b` (01, Rules)
-unfoldable pub backspace : ℕ → List ℕ
-backspace flags = cond (posix_escapes flags) (0x5c ∷ 0x78 ∷ 0x30 ∷ 0x38 ∷ []) (0x5c ∷ 0x62 ∷ [])
+unfoldable pub backspace : Bool → List ℕ
+backspace posix_escapes = cond posix_escapes (0x5c ∷ 0x78 ∷ 0x30 ∷ 0x38 ∷ []) (0x5c ∷ 0x62 ∷ [])
 
 -- an escape but `\b` begins with its backslash if it is of the kept kind; others lose the backslash (01, Rules)
 unfoldable pub escape_from : List ℕ → ℕ → Escape → ℕ
 escape_from s c e = cond (is_kept s c e.start) e.backslash e.start
 
 -- what an escape becomes (01, Rules)
-unfoldable pub escaped : List ℕ → ℕ → ℕ → Escape → List ℕ
-escaped s flags c e = cond (eqb (byte s e.start) 0x62) (backspace flags) (part s (escape_from s c e) e.end)
+unfoldable pub escaped : List ℕ → Bool → ℕ → Escape → List ℕ
+escaped s posix_escapes c e = cond (eqb (byte s e.start) 0x62) (backspace posix_escapes) (part s (escape_from s c e) e.end)
 
 -- ---- the rewritten text
 
@@ -111,5 +107,5 @@ replaced becomes s p z [] = part s p z
 replaced becomes s p z (e ∷ es) = part s p e.backslash ++ (becomes e ++ replaced becomes s e.end z es)
 
 -- the rewritten text of the pattern from i to c (01, Rules)
-unfoldable pub unescaped : List ℕ → ℕ → ℕ → ℕ → List ℕ
-unescaped s flags i c = replaced (escaped s flags c) s i (rewritten_end s i c) (escapes s i c)
+unfoldable pub unescaped : List ℕ → Bool → ℕ → ℕ → List ℕ
+unescaped s posix_escapes i c = replaced (escaped s posix_escapes c) s i (rewritten_end s i c) (escapes s i c)

@@ -1,6 +1,6 @@
 // A pattern's escapes: whether one of them is rewritten, and the rewritten text, appended to the text area (01, Rules).
-// Functions take the source and places in it, as the definitions do: a part of the source would move each place. The area goes with its count,
-// for a struct of a `&mut` slice and a count that is lent again gets no proof.
+// Functions take the source and places in it, as the definitions do: a part of the source would move each place. The area that is lent stays beside
+// its count: in a struct of both there would be a parameter less and, at each function, a promise more that the same bytes are lent.
 #![tactic(auto)]
 
 ghost use Rattle.std.specs.Prelude.{◌≡◌, [], ◌+◌, ◌≤◌, ◌<◌, length};
@@ -9,7 +9,7 @@ ghost use Rattle.characters.specs.Walk.{Between};
 ghost use Rattle.characters.specs.Whitespace.{byte};
 ghost use Rattle.area.specs.Areas.{PushedText};
 ghost use Rattle.area.specs.Contents.{Held, Grows, append, text_format};
-ghost use Rattle.escape.specs.Escape.{char_end, escapes, is_code_letter, is_kept, posix_escapes, backspace, escape_from, escaped, is_rewritten, drop_lone, unescaped};
+ghost use Rattle.escape.specs.Escape.{char_end, escapes, is_code_letter, is_kept, backspace, escape_from, escaped, is_rewritten, drop_lone, unescaped};
 ghost use Rattle.escape.specs.Phrases.{starts_code, next_whole};
 
 use area::{AreaFull, push_text};
@@ -75,6 +75,7 @@ impl<'a> Pattern<'a> {
     }
 
     // Where the character ends that starts at q.
+    #[tactic(auto, using(characters::proofs::Asking::finds_first))]
     fn char_end(&self, q: usize) -> usize
         requires { q < self.now.end }
         ensures { Between (q + 1) self.now.end (char_end self.now.source.now self.now.end q) result }
@@ -171,20 +172,12 @@ pub fn is_rewritten(src: &[u8], i: usize, c: usize) -> bool
 
 // ---- the rewritten text
 
-// Flag 2.
-#[tactic(auto, unfolding(crate::specs::Escape::posix_escapes))]
-fn posix_escapes(flags: u64) -> bool
-    ensures { result ≡ posix_escapes flags }
-{
-    flags / 2 % 2 == 1
-}
-
-// What `\b` becomes.
+// What `\b` becomes: by flag 2.
 #[tactic(auto, unfolding(crate::specs::Escape::backspace))]
-fn push_backspace(flags: u64, area: &mut [u8], n: u16) -> Result<u16, AreaFull>
-    ensures { PushedText (backspace flags) area.old n result area.new }
+fn push_backspace(posix_escapes: bool, area: &mut [u8], n: u16) -> Result<u16, AreaFull>
+    ensures { PushedText (backspace posix_escapes) area.old n result area.new }
 {
-    if posix_escapes(flags) {
+    if posix_escapes {
         return push_text(area, n, b"\\x08");
     }
     push_text(area, n, b"\\b")
@@ -205,12 +198,18 @@ impl<'a> Pattern<'a> {
 
     // What the escape becomes.
     #[tactic(auto, unfolding(crate::specs::Escape::escaped, text::specs::Range::part))]
-    fn push_escape(&self, flags: u64, e: Escape, area: &mut [u8], n: u16) -> Result<u16, AreaFull>
+    fn push_escape(
+        &self,
+        posix_escapes: bool,
+        e: Escape,
+        area: &mut [u8],
+        n: u16,
+    ) -> Result<u16, AreaFull>
         requires { (e.backslash ≤ e.start) × (e.start < e.end) × (e.end ≤ self.now.end) }
-        ensures { PushedText (escaped self.now.source.now flags self.now.end e) area.old n result area.new }
+        ensures { PushedText (escaped self.now.source.now posix_escapes self.now.end e) area.old n result area.new }
     {
         if byte_at(self.source, e.start) == b'b' {
-            return push_backspace(flags, area, n);
+            return push_backspace(posix_escapes, area, n);
         }
         push_text(area, n, &self.source[self.escape_from(e)..e.end])
     }
@@ -220,7 +219,7 @@ impl<'a> Pattern<'a> {
 // the pieces that did are left in the area.
 pub fn unescape(
     src: &[u8],
-    flags: u64,
+    posix_escapes: bool,
     i: usize,
     c: usize,
     area: &mut [u8],
@@ -228,7 +227,7 @@ pub fn unescape(
 ) -> Result<u16, AreaFull>
     requires i_le_c { (i ≤ c) × (c ≤ length src.now) }
     requires held { Held text_format area.old n }
-    ensures { Grows text_format (append text_format (length area.old) (unescaped src.now flags i c))
+    ensures { Grows text_format (append text_format (length area.old) (unescaped src.now posix_escapes i c))
         area.old n result area.new }
 {
     let pattern = Pattern {
@@ -242,7 +241,7 @@ pub fn unescape(
         if p < e.backslash {
             count = push_text(area, count, &src[p..e.backslash])?;
         }
-        count = pattern.push_escape(flags, e, area, count)?;
+        count = pattern.push_escape(posix_escapes, e, area, count)?;
         p = e.end;
     }
     push_text(area, count, &src[p..pattern.text_end(p)])

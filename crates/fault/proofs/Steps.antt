@@ -9,6 +9,7 @@ use mathlib.Core.List.{List}
 use Rattle.std.specs.Prelude.{Result, Ok, Err, IsErrAnd}
 use Rattle.std.proofs.lemmas.Result.{err_from_is_err_and}
 use Rattle.area.specs.declared.AreaFull.{AreaFull}
+use Rattle.area.specs.declared.AreaName.{AreaName}
 use Rattle.area.specs.Contents.{Format, contents, left_by}
 use Rattle.fault.specs.declared.Stop.{Stop}
 use Rattle.fault.specs.declared.Stop.TheVariants.{Fault, Full}
@@ -62,8 +63,8 @@ module _ {S : Type 0} (test : ℕ → Bool) (body : ℕ → S → Out S) (bound 
       pub going_bad : {kind at : ℕ} {t : S} → body i s ≡ bad kind at t → bad kind at t ≡ whole
       going_bad {kind} {at} {t} e = (turned pass inside (bad kind at t) e).same
 
-      pub going_full : {n : ℕ} → body i s ≡ full n → full n ≡ whole
-      going_full {n} e = (turned pass inside (full n) e).same
+      pub going_full : {name : AreaName} → body i s ≡ full name → full name ≡ whole
+      going_full {name} e = (turned pass inside (full name) e).same
 
 -- ---- answers
 
@@ -90,15 +91,15 @@ module _ {S Q : Type 0} {H : Q → Type 0} {f : S → Out S} {s : S} {view : Q �
           let q : ◌≡◌ {A = ℕ} 0 1 = cc in
           omega arith
 
-  pub does_full : {n : ℕ} → f s ≡ full n → Does H f s view (full n)
-  does_full {n} e = record { says = e; goes = λ j p z. absurd (not_go z); ends = λ k a p z. absurd (not_bad z) }
+  pub does_full : {name : AreaName} → f s ≡ full name → Does H f s view (full name)
+  does_full {name} e = record { says = e; goes = λ j p z. absurd (not_go z); ends = λ k a p z. absurd (not_bad z) }
     where
-      not_go : {j : ℕ} {p : Q} → full n ≡ go j p → ⊥
+      not_go : {j : ℕ} {p : Q} → full name ≡ go j p → ⊥
       not_go z =
           let q : ◌≡◌ {A = ℕ} 0 1 = cc in
           omega arith
 
-      not_bad : {k a : ℕ} {p : Q} → full n ≡ bad k a p → ⊥
+      not_bad : {k a : ℕ} {p : Q} → full name ≡ bad k a p → ⊥
       not_bad z =
           let q : ◌≡◌ {A = ℕ} 0 1 = cc in
           omega arith
@@ -110,23 +111,23 @@ module _ {S Q : Type 0} {H : Q → Type 0} {f : S → Out S} {s : S} {view : Q �
     pub was_bad : {kind at : ℕ} {q : Q} → o ≡ bad kind at q → f s ≡ bad kind at (view q)
     was_bad e = d.says ∙ ap (onto view) e
 
-    pub was_full : {n : ℕ} → o ≡ full n → f s ≡ full n
+    pub was_full : {name : AreaName} → o ≡ full name → f s ≡ full name
     was_full e = d.says ∙ ap (onto view) e
 
 -- ---- an answer that ends the parse, whichever it is
 
 -- a fault, and not a full area
 abbrev pub IsFault : Stop → Type 0
-IsFault (Fault kind at) = Unit {0}
+IsFault (Fault error) = Unit {0}
 IsFault (Full name) = ⊥
 
 -- it is passed on by what follows, and by a larger state
 pub next_err : {S : Type 0} (x : Stop) (s : S) (g : ℕ → S → Out S) → next (outcome (Err x) s) g ≡ outcome (Err x) s
-next_err (Fault kind at) s g = refl
+next_err (Fault error) s g = refl
 next_err (Full name) s g = refl
 
 pub onto_err : {S T : Type 0} (f : S → T) (x : Stop) (s : S) → onto f (outcome (Err x) s) ≡ outcome (Err x) (f s)
-onto_err f (Fault kind at) s = refl
+onto_err f (Fault error) s = refl
 onto_err f (Full name) s = refl
 
 pub onto_outcome : {S T : Type 0} (f : S → T) (r : Result ℕ Stop) (s : S) → onto f (outcome r s) ≡ outcome r (f s)
@@ -136,7 +137,7 @@ onto_outcome f (Err x) s = onto_err f x s
 module _ {S Q : Type 0} {H : Q → Type 0} {f : S → Out S} {s : S} {view : Q → S} where
   -- what the areas hold is known unless one of them is full
   pub does_err : (x : Stop) (q : Q) → f s ≡ outcome (Err x) (view q) → (IsFault x → H q) → Does H f s view (outcome (Err x) q)
-  does_err (Fault kind at) q e h = does_bad e (h tt)
+  does_err (Fault error) q e h = does_bad e (h tt)
   does_err (Full name) q e h = does_full e
 
   module _ (r : Result ℕ Stop) (q : Q) (d : Does H f s view (outcome r q)) where
@@ -150,7 +151,7 @@ module _ {S Q : Type 0} {H : Q → Type 0} {f : S → Out S} {s : S} {view : Q �
     was_err x e = d.says ∙ ap (λ (y : Result ℕ Stop). onto view (outcome y q)) e ∙ onto_err view x q
 
     pub holds_err : (x : Stop) → r ≡ Err x → IsFault x → H q
-    holds_err (Fault kind at) e z = d.ends (kind_number kind) at q (ap (λ (y : Result ℕ Stop). outcome y q) e)
+    holds_err (Fault error) e z = d.ends (kind_number error.kind) error.at q (ap (λ (y : Result ℕ Stop). outcome y q) e)
     holds_err (Full name) e z = absurd z
 
   -- where `?` passes on the error x, its answer r comes to what x comes to
@@ -160,12 +161,12 @@ module _ {S Q : Type 0} {H : Q → Type 0} {f : S → Out S} {s : S} {view : Q �
       rw (p.1, p.2) d
 
 -- what an append to an area writes, or that it is full
-module _ {A : Type 0} (F : Format A) (n i : ℕ) (f : Option (List A)) (e : List ℕ) (r : Result ℕ AreaFull) (is : f ≡ left_by F e r) where
-  pub written_next : {m : ℕ} → r ≡ Ok m → written n i f ≡ go i (contents F e m)
-  written_next q = ap (written n i) (is ∙ ap (left_by F e) q)
+module _ {A : Type 0} (F : Format A) (name : AreaName) (i : ℕ) (f : Option (List A)) (e : List ℕ) (r : Result ℕ AreaFull) (is : f ≡ left_by F e r) where
+  pub written_next : {m : ℕ} → r ≡ Ok m → written name i f ≡ go i (contents F e m)
+  written_next q = ap (written name i) (is ∙ ap (left_by F e) q)
 
-  pub written_full : {x : AreaFull} → r ≡ Err x → written n i f ≡ full n
-  written_full q = ap (written n i) (is ∙ ap (left_by F e) q)
+  pub written_full : {x : AreaFull} → r ≡ Err x → written name i f ≡ full name
+  written_full q = ap (written name i) (is ∙ ap (left_by F e) q)
 
 -- ---- where a step that goes on goes
 
@@ -174,21 +175,21 @@ bad_goes z =
     let q : ◌≡◌ {A = ℕ} 0 1 = cc in
     omega arith
 
-pub full_goes : {S : Type 0} {n j : ℕ} {t : S} → full n ≡ go j t → ⊥
+pub full_goes : {S : Type 0} {name : AreaName} {j : ℕ} {t : S} → full name ≡ go j t → ⊥
 full_goes z =
     let q : ◌≡◌ {A = ℕ} 0 1 = cc in
     omega arith
 
-pub written_place : {S : Type 0} (n i : ℕ) {j : ℕ} {t : S} (o : Option S) → written n i o ≡ go j t → i ≡ j
-written_place n i none e = absurd (full_goes e)
-written_place n i (some s) e = cc
+pub written_place : {S : Type 0} (name : AreaName) (i : ℕ) {j : ℕ} {t : S} (o : Option S) → written name i o ≡ go j t → i ≡ j
+written_place name i none e = absurd (full_goes e)
+written_place name i (some s) e = cc
 
 pub onto_place : {S T : Type 0} (f : S → T) {j : ℕ} {t : T} (o : Out S) → onto f o ≡ go j t → (s : S) × (o ≡ go j s)
 onto_place f {j} (go i s) e =
     let q : i ≡ j = cc in
     (s, ap (λ (k : ℕ). go k s) q)
 onto_place f (bad kind at s) e = absurd (bad_goes e)
-onto_place f (full n) e = absurd (full_goes e)
+onto_place f (full name) e = absurd (full_goes e)
 
 -- ---- a loop over areas: its body depends on the areas' sizes c; the areas now have the sizes `now`, which are the same
 
@@ -213,7 +214,7 @@ module _ {S C : Type 0} {whole : Out S} {test : ℕ → Bool} {body : C → ℕ 
     pub loops_bad : {kind at : ℕ} {q : Q} → o ≡ bad kind at q → whole ≡ bad kind at (view q)
     loops_bad e = sym (going_bad test (body c) bound i s x.going pass inside (here ∙ was_bad d e))
 
-    pub loops_full : {n : ℕ} → o ≡ full n → whole ≡ full n
+    pub loops_full : {name : AreaName} → o ≡ full name → whole ≡ full name
     loops_full e = sym (going_full test (body c) bound i s x.going pass inside (here ∙ was_full d e))
 
 -- the body answers a Result
@@ -223,7 +224,7 @@ module _ {S C : Type 0} {whole : Out S} {test : ℕ → Bool} {body : C → ℕ 
   loops_ok then e h k = loops_next x pass inside d then (ap (λ (y : Result ℕ Stop). outcome y q) e) h k
 
   pub loops_err : (e : Stop) → r ≡ Err e → whole ≡ outcome (Err e) (view q)
-  loops_err (Fault kind at) e = loops_bad x pass inside d (ap (λ (y : Result ℕ Stop). outcome y q) e)
+  loops_err (Fault error) e = loops_bad x pass inside d (ap (λ (y : Result ℕ Stop). outcome y q) e)
   loops_err (Full name) e = loops_full x pass inside d (ap (λ (y : Result ℕ Stop). outcome y q) e)
 
 -- ---- a step that does g, and goes on from where g leaves off to the place that h gives
@@ -235,7 +236,7 @@ module _ {S : Type 0} {f g : S → Out S} {s : S} (h : ℕ → ℕ) (is : f s �
   pub then_bad : {kind at : ℕ} {q : Q} → o ≡ bad kind at q → Does H f s view (bad kind at q)
   then_bad {kind} {at} {q} e = does_bad (is ∙ ap (λ (x : Out S). next x (λ j t. go (h j) t)) (was_bad d e)) (d.ends kind at q e)
 
-  pub then_full : {n : ℕ} → o ≡ full n → Does H f s view (full n)
+  pub then_full : {name : AreaName} → o ≡ full name → Does H f s view (full name)
   then_full e = does_full (is ∙ ap (λ (x : Out S). next x (λ j t. go (h j) t)) (was_full d e))
 
 -- the step answers a Result
@@ -244,7 +245,7 @@ module _ {S : Type 0} {f g : S → Out S} {s : S} (h : ℕ → ℕ) (is : f s �
   then_ok e = then_go h is d (ap (λ (y : Result ℕ Stop). outcome y q) e)
 
   pub then_err : (x : Stop) → r ≡ Err x → Does H f s view (outcome (Err x) q)
-  then_err (Fault kind at) e = then_bad h is d (ap (λ (y : Result ℕ Stop). outcome y q) e)
+  then_err (Fault error) e = then_bad h is d (ap (λ (y : Result ℕ Stop). outcome y q) e)
   then_err (Full name) e = then_full h is d (ap (λ (y : Result ℕ Stop). outcome y q) e)
 
 -- ---- a step on a part of a larger state
@@ -254,4 +255,4 @@ module _ {S T Q P : Type 0} (lift : S → T) (inject : Q → P) {g : S → Out S
   pub does_onto : f t ≡ onto lift (g s) → ((q : Q) → whole (inject q) ≡ lift (view q)) → ((q : Q) → H q → K (inject q)) → (o : Out Q) → Does H g s view o → Does K f t whole (onto inject o)
   does_onto is same keep (go i q) d = does_go (is ∙ ap (onto lift) d.says ∙ ap (go i) (sym (same q))) (keep q (d.goes i q refl))
   does_onto is same keep (bad kind at q) d = does_bad (is ∙ ap (onto lift) d.says ∙ ap (bad kind at) (sym (same q))) (keep q (d.ends kind at q refl))
-  does_onto is same keep (full n) d = does_full (is ∙ ap (onto lift) d.says)
+  does_onto is same keep (full name) d = does_full (is ∙ ap (onto lift) d.says)

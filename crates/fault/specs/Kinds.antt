@@ -1,5 +1,6 @@
--- The number of each kind of fault, in the order of LexErrorKind (01, Areas, 6).
+-- The number of each kind of fault, in the order of LexErrorKind (01, Areas, 6), and the fault of a kind.
 use Rattle.std.specs.Prelude.{ℕ}
+use Rattle.fault.specs.declared.kinds.LexError.{LexError}
 use Rattle.fault.specs.declared.kinds.LexErrorKind.{LexErrorKind}
 use Rattle.fault.specs.declared.kinds.LexErrorKind.TheVariants as K
 
@@ -17,3 +18,7 @@ kind_number K.InvalidStartStateName = 8
 kind_number K.DuplicateName = 9
 kind_number K.RegexError = 10
 kind_number K.VerbatimNotSupported = 11
+
+-- a fault of a kind at a place
+abbrev pub error_at : LexErrorKind → ℕ → LexError
+error_at kind at = record { kind = kind; at = at }

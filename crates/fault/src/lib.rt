@@ -2,25 +2,36 @@
 // A `kind` that is a number is a field of a record: it is compared or written, and chooses no step.
 #![tactic(auto)]
 
-mod kinds; // the kinds of faults
+mod kinds; // the kinds of faults, and a fault of a kind
 
 ghost use Rattle.std.specs.Prelude.{◌≡◌, ◌≤◌, ◌<◌, length};
 ghost use Rattle.characters.specs.Walk.{Between, Below};
 ghost use Rattle.area.specs.Phrases.{before, after};
 ghost use Rattle.fault.specs.Kinds.{kind_number};
 ghost use Rattle.fault.specs.Faults.{Numbered, HeldFaults, GrowsFaults};
-ghost use Rattle.fault.specs.Faults.{next_number, add_fault, starts_fault, is_fault, find_fault, fault_end, add_span, add_pair, add_repeat};
+ghost use Rattle.fault.specs.Faults.{fault, next_number, add_fault, starts_fault, is_fault, find_fault, fault_end, add_span, add_pair, add_repeat};
 
-pub use crate::kinds::LexErrorKind;
+pub use crate::kinds::{LexError, LexErrorKind};
 use area::list::Records;
-use area::{AreaFull, AreaName, Fault, has_room, insert, push};
+use area::{AreaFull, AreaName, Fault, Rule, State, has_room, insert, push};
 use characters::walk::find_last;
 
-// What ends a parse, as the error of a step's Result: a fault of a kind at a place, or an area that is full.
+// What ends a parse, as the error of a step's Result: a fault, or an area that is full.
+// A step's Ok has the place behind what is read, as the definition's `Out` has, also where callers drop it: by `()` a contract would have to name it.
 #[derive(Clone, Copy, PartialEq, Eq, Debug)]
 pub enum Stop {
-    Fault(LexErrorKind, u16),
+    Fault(LexError),
     Full(AreaName),
+}
+
+impl From<LexError> for Stop {
+    ghost use Rattle.fault.specs.declared.Stop.TheVariants.{Fault};
+
+    ghost from_gives = { λ error stop. stop ≡ Fault error };
+
+    fn from(error: LexError) -> Stop {
+        Stop::Fault(error)
+    }
 }
 
 impl From<AreaFull> for Stop {
@@ -34,10 +45,55 @@ impl From<AreaFull> for Stop {
 }
 
 // Where a name stands in the source.
-#[derive(Clone, Copy)]
+#[derive(Clone, Copy, PartialEq, Eq, Debug)]
 pub struct Span {
     pub start: u16,
     pub end: u16,
+}
+
+impl From<State> for Span {
+    ghost from_gives = { λ state span. span ≡ record { start = state.start; end = state.end } };
+
+    fn from(state: State) -> Span {
+        Span {
+            start: state.start,
+            end: state.end,
+        }
+    }
+}
+
+impl From<Rule> for Span {
+    ghost from_gives = { λ rule span. span ≡ record { start = rule.span_start; end = rule.span_end } };
+
+    fn from(rule: Rule) -> Span {
+        Span {
+            start: rule.span_start,
+            end: rule.span_end,
+        }
+    }
+}
+
+impl From<Fault> for Span {
+    ghost from_gives = { λ fault span. span ≡ record { start = fault.start; end = fault.end } };
+
+    fn from(fault: Fault) -> Span {
+        Span {
+            start: fault.start,
+            end: fault.end,
+        }
+    }
+}
+
+// A span of the fault of a number.
+fn fault_of(number: u16, kind: u16, span: Span) -> Fault
+    ensures { result ≡ fault number kind span.start span.end }
+{
+    Fault {
+        number,
+        kind,
+        start: span.start,
+        end: span.end,
+    }
 }
 
 // The number of the next fault: one above that of the last span.
@@ -55,23 +111,14 @@ fn next_number(spans: &Records<Fault>) -> u16
     last.number + 1
 }
 
-// A fault of one span behind the others. What writes takes the area beside its count: a struct of both that is lent again gets no proof.
+// A fault of one span behind the others. The area that is lent stays beside its count: in a struct of both there would be a parameter less and, at
+// each function, a promise more that the same bytes are lent.
 pub fn add_fault(area: &mut [u8], n: u16, kind: LexErrorKind, span: Span) -> Result<u16, AreaFull>
     requires { HeldFaults area.old n }
     ensures { GrowsFaults (add_fault (length area.old) (kind_number kind) span.start span.end) area.old n result area.new }
 {
     let number = next_number(&Records::new(area, n));
-    let code = u16::from(kind);
-    push(
-        area,
-        n,
-        Fault {
-            number,
-            kind: code,
-            start: span.start,
-            end: span.end,
-        },
-    )
+    push(area, n, fault_of(number, u16::from(kind), span))
 }
 
 // Whether the span j is the first of its fault.
@@ -96,7 +143,7 @@ fn is_fault(spans: &Records<Fault>, kind: u16, first: Span, j: usize) -> bool
 {
     let x = spans.get(j);
     let starts = starts_fault(spans, j);
-    (x.kind == kind) & ((x.start == first.start) & ((x.end == first.end) & starts))
+    (x.kind == kind) & ((Span::from(x) == first) & starts)
 }
 
 // The fault of the kind whose first span is `first`, by the number of that span.
@@ -128,13 +175,7 @@ fn add_span(area: &mut [u8], n: u16, j: usize, second: Span) -> Result<u16, Area
         let spans = Records::<Fault>::new(area, n);
         let x = spans.get(j);
         let p = fault_end(&spans, x.number);
-        let more = Fault {
-            number: x.number,
-            kind: x.kind,
-            start: second.start,
-            end: second.end,
-        };
-        insert(area, p, count, more);
+        insert(area, p, count, fault_of(x.number, x.kind, second));
         return Ok(n + 1);
     }
     Err(AreaFull(AreaName::Faults))
@@ -149,20 +190,8 @@ fn add_pair(area: &mut [u8], n: u16, kind: u16, first: Span, second: Span) -> Re
     let count = n as usize;
     if has_room::<Fault>(area, count, 2) {
         let number = next_number(&Records::new(area, n));
-        let one = Fault {
-            number,
-            kind,
-            start: first.start,
-            end: first.end,
-        };
-        let two = Fault {
-            number,
-            kind,
-            start: second.start,
-            end: second.end,
-        };
-        let m = push(area, n, one)?;
-        return push(area, m, two);
+        let m = push(area, n, fault_of(number, kind, first))?;
+        return push(area, m, fault_of(number, kind, second));
     }
     Err(AreaFull(AreaName::Faults))
 }

@@ -15,6 +15,6 @@ fn show(rt: &impl Print, s: &[u8]) {
 // Each program has a `main` of its own.
 fn main(rt: HostRuntime) {
     let mut buffer = [0u8; 4096];
-    let n = read_full(&mut rt.stdin(), &mut buffer);
-    show_texts(&buffer[..n], |text| show(&rt, text));
+    let texts = read_full(&mut rt.stdin(), &mut buffer);
+    show_texts(texts, 0, |text| show(&rt, text));
 }

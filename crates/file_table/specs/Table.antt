@@ -6,7 +6,7 @@ use Rattle.area.specs.declared.Rule.{Rule}
 use Rattle.area.specs.Records.{rule_of}
 use Rattle.fault.specs.Faults.{fault}
 use Rattle.declarations.specs.Declarations.{state}
-use Rattle.section.specs.Request.{request, options}
+use Rattle.section.specs.Request.{asked}
 use Rattle.parse.specs.Parse.{Caps, caps, Contents, Outcome, long_file, unknown_flag, invalid_utf8, area_full, faulty, accepted, outcome}
 
 -- a file, its flags, what becomes of it, and the text of each of its rules
@@ -94,12 +94,12 @@ text_of s b x = part (cond (eqb x.place 1) b.text s) x.text_from (x.text_from + 
 abbrev pub texts_of : List ℕ → Outcome → List (List ℕ)
 texts_of s (accepted b) = map (text_of s b) b.rules
 texts_of s (faulty fs) = []
-texts_of s (area_full n) = []
+texts_of s (area_full name) = []
 texts_of s long_file = []
 texts_of s unknown_flag = []
 texts_of s invalid_utf8 = []
 
 -- row by row, each file becomes what its row says, and its rules have these texts. There are no verdicts
 pub record Right (rows : List Row) : Type 0 where
-  pub becomes : map (λ r. outcome (request r.file (options r.flags) []) areas) rows ≡ map (λ r. r.becomes) rows
+  pub becomes : map (λ r. outcome (asked r.file r.flags []) areas) rows ≡ map (λ r. r.becomes) rows
   pub texts : map (λ r. texts_of r.file r.becomes) rows ≡ map (λ r. r.texts) rows

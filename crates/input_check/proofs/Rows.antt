@@ -10,10 +10,10 @@ use native.Mathlib.Omega.{arith}
 use borrow.Author.Tests.{le-leb}
 use lib.Dec.{leb}
 use lib.ListN.{length}
+use Rattle.std.proofs.lemmas.Bool.{and_parts}
 use Rattle.characters.specs.Utf8.{is_continuation, is_edge}
 use Rattle.characters.specs.Walk.{any}
 use Rattle.characters.specs.Whitespace.{byte}
-use Rattle.characters.proofs.Tests.{and_left, and_right}
 use Rattle.characters.proofs.Runs.{none_passes}
 use Rattle.area.specs.Records.{entry_at}
 use Rattle.area.specs.Contents.{contents, entry_format}
@@ -30,24 +30,11 @@ use Rattle.input_check.specs.InputCheck.{length_fits}
 module _ (text : List ℕ) (left position l : ℕ) where
   pub fits_low : length_fits text left position l ≡ true → leb l left ≡ true
   unfolding length_fits
-  fits_low e = and_left (leb l left) _ e
+  fits_low e = (and_parts (leb l left) _ e).0
 
   pub fits_edge : length_fits text left position l ≡ true → is_edge text (position + l) ≡ true
   unfolding length_fits
-  fits_edge e = and_right (leb l left) (is_edge text (position + l)) e
-
--- the lengths of a row that fits are not above what is left
-pub row_low : (text : List ℕ) (left position rules : ℕ) (row : List ℕ) (x : Row) → RowFits (length_fits text left position) rules row x
-    → RowFits (λ l. leb l left) rules row x
-row_low text left position rules row x h =
-    let test : ℕ → Bool = length_fits text left position in
-    record {
-      good = row_good (λ l. leb l left) rules row (row_long test rules row h.good)
-          (λ k l. fits_low text left position (entry_at row k) (row-length test rules row h.good k l));
-      bytes_are = h.bytes_are;
-      rules_are = h.rules_are;
-      greatest_is = h.greatest_is;
-    }
+  fits_edge e = (and_parts (leb l left) (is_edge text (position + l)) e).1
 
 -- ---- by the greatest length
 

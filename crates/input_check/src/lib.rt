@@ -49,10 +49,10 @@ fn all_at_edge(text: &[u8], position: u16, row: Row) -> bool
     requires { position + row.top ≤ length text.now }
     ensures { result ≡ all (λ l. is_edge text.now (position + l)) (contents entry_format row.entry.bytes.now row.entry.rules) }
 {
-    if is_edge(text, position as usize + row.top as usize) {
-        if !has_inside(text, position as usize, row.top as usize) {
-            return true;
-        }
+    let from = position as usize;
+    let top = row.top as usize;
+    if is_edge(text, from + top) && !has_inside(text, from, top) {
+        return true;
     }
     each_at_edge(text, position, row)
 }
@@ -69,9 +69,7 @@ pub fn row_top<'a>(
     requires { position + left ≤ length text.now }
     ensures { RowTopIs (length_fits text.now left position) rules row.now result }
 {
-    let Some(lengths) = Row::fitting(row, rules, left) else {
-        return None;
-    };
+    let lengths = Row::fitting(row, rules, left)?;
     if all_at_edge(text, position, lengths) {
         return Some(lengths);
     }

@@ -7,7 +7,7 @@ use borrow.Author.Tests.{eqb-false}
 use lib.Bits.{bit_and, bit_or, or_add_and, and_le_l, and_le_r, and_zero_r, or_zero_l, or_zero_r}
 use Rattle.characters.proofs.Tests.{le_or_lt}
 use Rattle.area.specs.Bytes.{field_from}
-use Rattle.area.specs.Records.{rule_at, rule_of, rule_width, entry_at}
+use Rattle.area.specs.Records.{rule_at, rule_of, rule_width, nth_entry}
 use Rattle.lanes.specs.declared.Lane.{Lane}
 use Rattle.lanes.specs.declared.Limits.{Limits}
 use Rattle.lanes.specs.Lanes.{lane_count, lane_at, FieldsWithin, SumWithin, FieldsAt, SumAt, JoinedTo, Joined, AllZero}
@@ -233,23 +233,23 @@ rules_within l limits count source highest entries text f t joined none small ar
       (λ j w. joined.totals.each k j g w (none.each j w).1);
 }
 
--- ---- the entries of an area
+-- ---- list entries
 
-module _ (l : List ℕ) (from highest : ℕ) where
-  pub entries_next : (k : ℕ) → EntriesWithin l from k highest → entry_at l k ≤ highest → EntriesWithin l from (k + 1) highest
+module _ (ids : List ℕ) (from highest : ℕ) where
+  entries_next : (k : ℕ) → EntriesWithin ids from k highest → nth_entry ids k ≤ highest → EntriesWithin ids from (k + 1) highest
   entries_next k before h = record {
     each = λ i g w. ⊎_elim
-        (λ e. let z : k ≡ i = omega (arith, e, w) in subst (λ (n : ℕ). entry_at l n ≤ highest) z h)
+        (λ e. let z : k ≡ i = omega (arith, e, w) in subst (λ (n : ℕ). nth_entry ids n ≤ highest) z h)
         (λ e. before.each i g e)
         (le_or_lt k i);
   }
 
-  pub entries_to : (k n : ℕ) → k ≡ n → EntriesWithin l from k highest → EntriesWithin l from n highest
-  entries_to k n e before = subst (λ (m : ℕ). EntriesWithin l from m highest) e before
+  pub entries_to : (k n : ℕ) → k ≡ n → EntriesWithin ids from k highest → EntriesWithin ids from n highest
+  entries_to k n e before = subst (λ (m : ℕ). EntriesWithin ids from m highest) e before
 
   -- an excess is joined to those before
-  pub excess_next : (k excess a x : ℕ) → (excess ≡ 0 → EntriesWithin l from k highest) → x ≡ entry_at l k → a ≡ x - highest → bit_or excess a ≡ 0
-      → EntriesWithin l from (k + 1) highest
+  pub excess_next : (k excess a x : ℕ) → (excess ≡ 0 → EntriesWithin ids from k highest) → x ≡ nth_entry ids k → a ≡ x - highest → bit_or excess a ≡ 0
+      → EntriesWithin ids from (k + 1) highest
   excess_next k excess a x before read is e =
       let z = or_none excess a e in
       entries_next k (before z.0) (omega (arith, read, is, z.1))

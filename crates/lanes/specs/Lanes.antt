@@ -3,7 +3,7 @@
 use Rattle.std.specs.Prelude.{◌≡◌, ℕ, ◌+◌, ◌*◌, ◌%◌, ◌<◌, ◌≤◌, min, List, length, bit_and, bit_or, slice_index}
 use Rattle.area.specs.declared.Rule.{Rule}
 use Rattle.area.specs.Bytes.{field_from}
-use Rattle.area.specs.Records.{rule_at, entry_at}
+use Rattle.area.specs.Records.{rule_at, nth_entry}
 use Rattle.lanes.specs.declared.Lane.{Lane}
 use Rattle.lanes.specs.declared.Limits.{Limits}
 
@@ -71,6 +71,6 @@ pub record RuleWithin (source highest entries text : ℕ) (x : Rule) : Type 0 wh
 pub record RulesWithin (l : List ℕ) (count source highest entries text : ℕ) : Type 0 where
   pub each : (k : ℕ) → k < count → RuleWithin source highest entries text (rule_at l k)
 
--- the entries of an area from one number up to before another are at most highest
-pub record EntriesWithin (l : List ℕ) (from to highest : ℕ) : Type 0 where
-  pub each : (k : ℕ) → from ≤ k → k < to → entry_at l k ≤ highest
+-- the entries of a list from one number up to before another are at most highest
+pub record EntriesWithin (ids : List ℕ) (from to highest : ℕ) : Type 0 where
+  pub each : (k : ℕ) → from ≤ k → k < to → nth_entry ids k ≤ highest

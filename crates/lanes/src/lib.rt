@@ -1,16 +1,17 @@
 // Quick tests of the rules and the list entries of a sheet, eight fields at a time. The compiler makes one vector of each eight, so every
 // lane does what every other does, and a field that is not asked for has no limit. Where a test passes, every record keeps the limits; where
-// it does not, nothing is known. The areas are lent as bytes, with a place or a count: a lane goes by the numbers of its fields, and a record of the
-// list that `area` has knows its fields by name.
+// it does not, nothing is known. The rules are lent as bytes, with a place or a count: a lane goes by the numbers of its fields, and a record of
+// the list that `area` has knows its fields by name.
 #![tactic(auto)]
 
-ghost use Rattle.std.specs.Prelude.{◌≡◌, ◌+◌, ◌*◌, ◌≤◌, true, length, bit_or};
+ghost use Rattle.std.specs.Prelude.{◌≡◌, ◌+◌, ◌*◌, ◌^◌, ◌≤◌, ◌<◌, true, length, bit_or};
 ghost use Rattle.std.specs.List.{fold};
-ghost use Rattle.area.specs.Records.{rule_width, entry_width};
+ghost use Rattle.area.specs.Records.{rule_width};
 ghost use Rattle.area.specs.Phrases.{before, after};
 ghost use Rattle.lanes.specs.Lanes.{lane_count, lane_at, FieldsWithin, SumWithin, Joined, AllZero, RulesWithin, EntriesWithin};
 
-use area::{RULE_WIDTH, read, read_field};
+use area::list::Records;
+use area::{Record, Rule, read_field};
 
 // No limit: no field is above it.
 const ANY: u16 = u16::MAX;
@@ -31,11 +32,11 @@ struct Lane {
 // that they become one vector; they are lent, since arrays that a struct holds are laid out in memory first.
 #[derive(Clone, Copy)]
 struct Limits<'a> {
-    heres: &'a [u16; 8],
-    order: &'a [u16; 8],
-    lasts: &'a [u16; 8],
-    sums: &'a [u16; 8],
-    more: &'a [u16; 8],
+    heres: &'a [u16; LANES],
+    order: &'a [u16; LANES],
+    lasts: &'a [u16; LANES],
+    sums: &'a [u16; LANES],
+    more: &'a [u16; LANES],
 }
 
 // ---- a lane
@@ -74,7 +75,13 @@ fn sum_excess(x: Lane, sums: u16, more: u16) -> u16
 
 // The lanes of the rule at a place are joined to the numbers of those before: what is not 0 stays so. Fields and sums have a number each, in
 // one loop: with one number for both, or with two loops, the code is slower.
-fn join(area: &[u8], at: usize, limits: Limits, fields: &mut [u16; 8], totals: &mut [u16; 8])
+fn join(
+    area: &[u8],
+    at: usize,
+    limits: Limits,
+    fields: &mut [u16; LANES],
+    totals: &mut [u16; LANES],
+)
     requires { at + rule_width ≤ length area.now }
     ensures { Joined area.now limits.entry at lane_count fields.old totals.old fields.new totals.new }
 {
@@ -86,14 +93,14 @@ fn join(area: &[u8], at: usize, limits: Limits, fields: &mut [u16; 8], totals: &
 }
 
 // The bits of all numbers.
-fn joint(xs: &[u16; 8]) -> u16
+fn joint(xs: &[u16; LANES]) -> u16
     ensures { result ≡ fold bit_or 0 xs.now }
 {
     xs.iter().fold(0, |bits, x| bits | *x)
 }
 
 // Whether each number of both is 0.
-fn all_zero(fields: &[u16; 8], totals: &[u16; 8]) -> bool
+fn all_zero(fields: &[u16; LANES], totals: &[u16; LANES]) -> bool
     ensures { result ≡ true → AllZero fields.now totals.now }
 {
     joint(fields) | joint(totals) == 0
@@ -128,39 +135,39 @@ pub fn quick_rules(
         sums: &sums,
         more: &more,
     };
-    let mut fields = [0; 8];
-    let mut totals = [0; 8];
+    let mut fields = [0; LANES];
+    let mut totals = [0; LANES];
     for k in 0..count as usize {
-        join(area, k * RULE_WIDTH, limits, &mut fields, &mut totals);
+        join(area, k * Rule::WIDTH, limits, &mut fields, &mut totals);
     }
     all_zero(&fields, &totals)
 }
 
-// ---- the entries of an area
+// ---- list entries
 
-// Whether n entries, from one on, are within. It looks at all of them without a branch, so that the compiler makes one vector of eight.
-fn each_within(area: &[u8], from: usize, n: usize, highest: u16) -> bool
-    requires { (from + n) * entry_width ≤ length area.now }
-    ensures { result ≡ true → EntriesWithin area.now from (from + n) highest }
+// Whether n entries, from one on, are within. It looks at all of them without a branch, so that the compiler makes one vector of eight. It takes
+// their number, and not the end: by the end the loop over the blocks had an instruction more for each.
+fn each_within(entries: &Records<u16>, from: usize, n: usize, highest: u16) -> bool
+    requires { (from + n ≤ length entries.now) × (from + n < 2 ^ 64) }
+    ensures { result ≡ true → EntriesWithin entries.now from (from + n) highest }
 {
     let mut excess = 0;
     for j in 0..n {
-        excess |= read::<u16>(area, from + j).saturating_sub(highest);
+        excess |= entries.get(from + j).saturating_sub(highest);
     }
     excess == 0
 }
 
 // It leaves at the first eight that do not pass, so that the compiler does not gather one entry of each eight.
-pub fn entries_within(area: &[u8], count: u16, highest: u16) -> bool
-    requires { count * entry_width ≤ length area.now }
-    ensures { result ≡ true → EntriesWithin area.now 0 count highest }
+pub fn entries_within(entries: &Records<u16>, highest: u16) -> bool
+    ensures { result ≡ true → EntriesWithin entries.now 0 (length entries.now) highest }
 {
-    let most = count as usize;
+    let most = entries.count();
     let blocks = most / LANES;
     for k in 0..blocks {
-        if !each_within(area, k * LANES, LANES, highest) {
+        if !each_within(entries, k * LANES, LANES, highest) {
             return false;
         }
     }
-    each_within(area, blocks * LANES, most % LANES, highest)
+    each_within(entries, blocks * LANES, most % LANES, highest)
 }

@@ -7,12 +7,12 @@ use native.Mathlib.Omega.{arith}
 use borrow.Author.Tests.{leb-true}
 use lib.Dec.{eqb, leb}
 use lib.ListN.{length, get_or}
+use Rattle.std.proofs.lemmas.Bool.{and_parts}
 use Rattle.std.specs.Prelude.{Result, Ok, Err}
 use Rattle.answers.specs.Numbers.{accepted_number, long_file_number, invalid_utf8_number, no_such_place_number, most_source}
 use Rattle.answers.specs.Words.{Fields, TwoBytes, TellsApart}
 use Rattle.answers.proofs.Words.{tells_by, two_bytes, no_values}
 use Rattle.characters.specs.Utf8.{at_edge}
-use Rattle.characters.proofs.Tests.{and_left}
 use Rattle.lines.specs.declared.Place.{Place}
 use Rattle.lines.specs.declared.Byte.{Byte}
 use Rattle.lines.specs.declared.PlaceError.{PlaceError}
@@ -37,7 +37,7 @@ use Rattle.lines.proofs.ThereAndBack.{Placed, known_placed, there_and_back}
 
 module _ (s : List ℕ) (b : ℕ) (p : Place) (h : Placed s b p) where
   placed_to : b ≤ most_source
-  placed_to = omega (arith, leb-true b (length s) (and_left (leb b (length s)) (at_edge s b) h.allowed), h.text.short)
+  placed_to = omega (arith, leb-true b (length s) (and_parts (leb b (length s)) (at_edge s b) h.allowed).0, h.text.short)
 
   placed_line : line_of p ≤ 65536
   unfolding place_at

@@ -1,7 +1,7 @@
 -- The places of a text only go up, and at each edge by something: so at most one offset that is allowed stands at a place, none before an offset whose
 -- place is not past it, and none from an offset on whose place is.
 use mathlib.Core.Path.{◌≡◌, refl, sym, ap, subst, ◌∙◌}
-use mathlib.Core.Bool.{Bool, true, false, ◌&&◌, ◌||◌, true≢false}
+use mathlib.Core.Bool.{Bool, true, false, ◌&&◌, ◌||◌, true≢false, or-true}
 use mathlib.Core.List.{List}
 use mathlib.Core.Logic.{◌⊎◌, inl, inr, ⊎_elim}
 use Prim.Native.Nat.{ℕ, ◌+◌, ◌≤◌, ◌<◌}
@@ -10,11 +10,11 @@ use native.Mathlib.Omega.{arith}
 use borrow.Author.Tests.{ltb-true, lt-ltb, eqb-true, eq-eqb, ne_eqb, not-false}
 use lib.Dec.{eqb, leb, ltb}
 use lib.ListN.{length}
-use Rattle.std.proofs.lemmas.Bool.{false_from_ne_true}
+use Rattle.std.proofs.lemmas.Bool.{false_from_ne_true, and_parts}
 use Rattle.characters.specs.Utf8.{is_continuation, at_edge}
 use Rattle.characters.specs.Walk.{count}
 use Rattle.characters.specs.Whitespace.{byte}
-use Rattle.characters.proofs.Tests.{and_left, and_right, or_true, range_of, le_or_lt}
+use Rattle.characters.proofs.Tests.{range_of, le_or_lt}
 use Rattle.characters.proofs.Counts.{count_some, count_failing}
 use Rattle.lines.specs.declared.Place.{Place}
 use Rattle.lines.specs.Lines.{line_feed, ends_line, line_num, col_num, place, is_allowed, stands, line_of, column_of}
@@ -34,13 +34,13 @@ module _ (p q : Place) where
       go true f g = inl (ltb-true (line_of q) (line_of p) f)
       go false f g =
           inr (
-            eqb-true (line_of q) (line_of p) (and_left (eqb (line_of q) (line_of p)) (ltb (column_of q) (column_of p)) g),
-            ltb-true (column_of q) (column_of p) (and_right (eqb (line_of q) (line_of p)) (ltb (column_of q) (column_of p)) g),
+            eqb-true (line_of q) (line_of p) (and_parts (eqb (line_of q) (line_of p)) (ltb (column_of q) (column_of p)) g).0,
+            ltb-true (column_of q) (column_of p) (and_parts (eqb (line_of q) (line_of p)) (ltb (column_of q) (column_of p)) g).1,
           )
 
   past_is : Past p q → is_past p q ≡ true
   past_is (inl h) = rw (lt-ltb (line_of q) (line_of p) h)
-  past_is (inr h) = rw (eq-eqb (line_of q) (line_of p) h.0, lt-ltb (column_of q) (column_of p) h.1) (or_true (ltb (line_of q) (line_of p)))
+  past_is (inr h) = rw (eq-eqb (line_of q) (line_of p) h.0, lt-ltb (column_of q) (column_of p) h.1) (or-true (ltb (line_of q) (line_of p)))
 
   not_past : is_past p q ≡ false → Past p q → ⊥
   not_past e h = true≢false (sym (past_is h) ∙ e)
@@ -120,17 +120,17 @@ inside_stays s i e =
 
 module _ (s : List ℕ) (q : Place) (m : ℕ) (e : stands s q m ≡ true) where
   same_line_and_column : eqb (line_num s m) (line_of q) && eqb (col_num s m) (column_of q) ≡ true
-  same_line_and_column = and_right (is_allowed s m) (eqb (line_num s m) (line_of q) && eqb (col_num s m) (column_of q)) e
+  same_line_and_column = (and_parts (is_allowed s m) (eqb (line_num s m) (line_of q) && eqb (col_num s m) (column_of q)) e).1
 
   pub stands_at : place_at s m ≡ q
   unfolding place_at
   stands_at =
-      let l = eqb-true (line_num s m) (line_of q) (and_left (eqb (line_num s m) (line_of q)) (eqb (col_num s m) (column_of q)) same_line_and_column) in
-      let c = eqb-true (col_num s m) (column_of q) (and_right (eqb (line_num s m) (line_of q)) (eqb (col_num s m) (column_of q)) same_line_and_column) in
+      let l = eqb-true (line_num s m) (line_of q) (and_parts (eqb (line_num s m) (line_of q)) (eqb (col_num s m) (column_of q)) same_line_and_column).0 in
+      let c = eqb-true (col_num s m) (column_of q) (and_parts (eqb (line_num s m) (line_of q)) (eqb (col_num s m) (column_of q)) same_line_and_column).1 in
       λ j. place (l j) (c j)
 
   pub stands_allowed : is_allowed s m ≡ true
-  stands_allowed = and_left (is_allowed s m) (eqb (line_num s m) (line_of q) && eqb (col_num s m) (column_of q)) e
+  stands_allowed = (and_parts (is_allowed s m) (eqb (line_num s m) (line_of q) && eqb (col_num s m) (column_of q)) e).0
 
 pub stands_where : (s : List ℕ) (q : Place) (m : ℕ) → is_allowed s m ≡ true → place_at s m ≡ q → stands s q m ≡ true
 unfolding place_at
@@ -149,4 +149,4 @@ module _ (s : List ℕ) (q : Place) (m k : ℕ) where
       (λ e. true≢false (sym (subst (λ (x : Place). is_past (place_at s k) x ≡ true) (stands_at s q m e) (edges_rise s m k h (edge e))) ∙ p))
     where
       edge : stands s q m ≡ true → at_edge s m ≡ true
-      edge e = and_right (leb m (length s)) (at_edge s m) (stands_allowed s q m e)
+      edge e = (and_parts (leb m (length s)) (at_edge s m) (stands_allowed s q m e)).1

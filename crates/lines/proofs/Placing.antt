@@ -7,9 +7,9 @@ use native.Mathlib.Omega.{arith}
 use borrow.Author.Tests.{leb-true}
 use lib.Dec.{leb}
 use lib.ListN.{length}
+use Rattle.std.proofs.lemmas.Bool.{and_parts}
 use Rattle.std.specs.Prelude.{Ok, Err}
 use Rattle.characters.specs.Utf8.{at_edge, is_edge}
-use Rattle.characters.proofs.Tests.{and_left}
 use Rattle.lines.specs.declared.Place.{Place}
 use Rattle.lines.specs.declared.PlaceError.TheVariants.{NoSuchPlace}
 use Rattle.lines.specs.Lines.{line_num, col_num, place, place_in}
@@ -38,6 +38,6 @@ module _ (s : List ℕ) (b : ℕ) (r : Bool) (is : r ≡ is_edge s b) where
   place_known p t at = rw (← is, t) (ap Ok at)
 
   pub edge_inside : r ≡ true → b ≤ length s
-  edge_inside t = leb-true b (length s) (and_left (leb b (length s)) (at_edge s b) (sym is ∙ t))
+  edge_inside t = leb-true b (length s) (and_parts (leb b (length s)) (at_edge s b) (sym is ∙ t)).0
 
 pub ruleset judging_offset = (no_place, place_known, edge_inside)

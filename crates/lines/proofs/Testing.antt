@@ -7,12 +7,16 @@ use borrow.Author.Tests.{le-ltb, ltb-false}
 use lib.Dec.{ltb}
 use lib.ListN.{length}
 use Rattle.std.specs.Prelude.{Result, Ok, Err}
-use Rattle.std.specs.Result.{is_ok, result_and}
+use Rattle.std.specs.Result.{is_ok, result_and, result_map_both, IsErrAnd}
+use Rattle.std.proofs.lemmas.Result.{err_from_is_err_and}
 use Rattle.answers.specs.Numbers.{most_source}
 use Rattle.characters.specs.Utf8.{utf8}
+use Rattle.lines.specs.declared.Byte.{Byte}
+use Rattle.lines.specs.declared.Place.{Place}
 use Rattle.lines.specs.declared.PlaceError.{PlaceError}
 use Rattle.lines.specs.declared.PlaceError.TheVariants.{LongFile, InvalidUtf8}
-use Rattle.lines.specs.Lines.{tested}
+use Rattle.lines.specs.declared.counts.Source.{Source}
+use Rattle.lines.specs.Lines.{tested, place_in, offset_in}
 
 -- the source passes the tests 1 and 3
 pub record Text (s : List ℕ) : Type 0 where
@@ -26,12 +30,12 @@ ok_or_else (Err e) y = y
 
 module _ {A : Type 0} (s : List ℕ) (answer : Result A PlaceError) where
   -- the tests come first, and then the answer
-  tests_first : tested s answer ≡ result_and (tested s (Ok (tt {0}))) answer
+  tests_first : tested s answer ≡ result_and (tested s (Ok s)) answer
   unfolding tested
   tests_first = go (ltb most_source (length s)) (utf8 s)
     where
       go : (t u : Bool) → cond t (Err LongFile) (cond u answer (Err InvalidUtf8))
-          ≡ result_and (cond t (Err LongFile) (cond u (Ok (tt {0})) (Err InvalidUtf8))) answer
+          ≡ result_and (cond t (Err LongFile) (cond u (Ok s) (Err InvalidUtf8))) answer
       go true u = refl
       go false true = refl
       go false false = refl
@@ -51,17 +55,30 @@ module _ {A : Type 0} (s : List ℕ) (answer : Result A PlaceError) where
       go false false l w e = absurd (false≢true (ap is_ok e))
       go false true l w e = (record { short = ltb-false most_source (length s) l; well_formed = w }, e)
 
-  -- ---- the tests alone gave r
+-- ---- the source that the tests gave, and what is asked of it
 
-  module _ (r : Result (Unit {0}) PlaceError) (is : r ≡ tested s (Ok tt)) where
-    then_answer : tested s answer ≡ result_and r answer
-    then_answer = tests_first ∙ ap (λ (x : Result (Unit {0}) PlaceError). result_and x answer) (sym is)
+-- what is asked of the text that passed is what the call answers
+asked : {A : Type 0} (ask : List ℕ → Result A PlaceError) (s t : List ℕ) → Ok t ≡ tested s (Ok s) → ask t ≡ tested s (ask s)
+asked ask s t is =
+    let known = text_known s (Ok s) t (sym is) in
+    ap (λ (x : Result (List ℕ) PlaceError). ask (ok_or_else x t)) (sym known.1) ∙ sym (tested_text s (ask s) known.0)
 
-    pub refused_first : (e : PlaceError) → r ≡ Err e → Err e ≡ tested s answer
-    refused_first e h = sym (then_answer ∙ ap (λ (x : Result (Unit {0}) PlaceError). result_and x answer) h)
+-- each answer with the bytes of its source
+abbrev bytes_of : Result Source PlaceError → Result (List ℕ) PlaceError
+bytes_of = result_map_both (λ source. source.bytes.now) (λ error. error)
 
-    pub passed_first : (u : Unit {0}) → r ≡ Ok u → tested s answer ≡ answer
-    passed_first u h = then_answer ∙ ap (λ (x : Result (Unit {0}) PlaceError). result_and x answer) h
+module _ (s : List ℕ) (r : Result Source PlaceError) (is : bytes_of r ≡ tested s (Ok s)) where
+  -- `?` passes the refusal on
+  pub refused_first : {A : Type 0} (answer x : Result A PlaceError) (e : PlaceError) → r ≡ Err e → IsErrAnd x (λ y. y ≡ e) → x ≡ tested s answer
+  refused_first answer x e h same =
+      let p = err_from_is_err_and x same in
+      p.1 ∙ ap Err p.2 ∙ ap (λ (y : Result (List ℕ) PlaceError). result_and y answer) (sym (ap bytes_of h) ∙ is) ∙ sym (tests_first s answer)
 
-pub passed_short : (s : List ℕ) (r : Result (Unit {0}) PlaceError) (u : Unit {0}) → r ≡ tested s (Ok tt) → r ≡ Ok u → length s ≤ most_source
-passed_short s r u is h = (text_known s (Ok tt) u (sym is ∙ h)).0.short
+  -- a source that passed is asked
+  pub passed_place : (u : Source) (x : Result Place PlaceError) (b : ℕ) → r ≡ Ok u → x ≡ place_in u.bytes.now b → x ≡ tested s (place_in s b)
+  passed_place u x b h e = e ∙ asked (λ t. place_in t b) s u.bytes.now (sym (ap bytes_of h) ∙ is)
+
+  pub passed_offset : (u : Source) (x : Result Byte PlaceError) (p : Place) → r ≡ Ok u → x ≡ offset_in u.bytes.now p → x ≡ tested s (offset_in s p)
+  passed_offset u x p h e = e ∙ asked (λ t. offset_in t p) s u.bytes.now (sym (ap bytes_of h) ∙ is)
+
+pub ruleset testing = (passed_place, passed_offset)

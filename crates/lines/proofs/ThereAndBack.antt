@@ -8,10 +8,10 @@ use native.Mathlib.Omega.{arith}
 use borrow.Author.Tests.{leb-true, le-leb}
 use lib.Dec.{leb}
 use lib.ListN.{length}
+use Rattle.std.proofs.lemmas.Bool.{and_parts}
 use Rattle.std.specs.Prelude.{Result, Ok, Err}
 use Rattle.std.specs.Result.{is_ok}
 use Rattle.characters.specs.Utf8.{at_edge}
-use Rattle.characters.proofs.Tests.{and_left}
 use Rattle.characters.proofs.Firsts.{first_passes, first_only}
 use Rattle.lines.specs.declared.Byte.{Byte}
 use Rattle.lines.specs.declared.Place.{Place}
@@ -69,7 +69,7 @@ module _ (s : List ℕ) (p : Place) where
   -- the offset that stands there is the one that is found
   pub stands_found : (b : ℕ) → stands s p b ≡ true → offset_in s p ≡ Ok (record { 0 = b })
   stands_found b e =
-      let inside = leb-true b (length s) (and_left (leb b (length s)) (at_edge s b) (stands_allowed s p b e)) in
+      let inside = leb-true b (length s) (and_parts (leb b (length s)) (at_edge s b) (stands_allowed s p b e)).0 in
       let near : is_past (place_at s b) p ≡ false = ap (λ (x : Place). is_past x p) (stands_at s p b e) ∙ not_past_itself p in
       let found = first_only (stands s p) 0 b (length s + 1) (omega arith) (omega arith) e (λ m h g. none_before s p m b near g) in
       in_cases true (le-leb (offset_of s p) (length s) (omega (arith, found, inside))) ∙ ap (λ (x : ℕ). Ok (record { 0 = x })) found

@@ -1,33 +1,23 @@
 -- The lists of those that find no partner: whether they fit an area, and the numbers that a loop counts or writes.
-use mathlib.Core.Path.{◌≡◌, refl, sym, ap, ◌∙◌}
+use mathlib.Core.Path.{◌≡◌, refl, ap}
 use mathlib.Core.Bool.{Bool, true, false, not}
 use mathlib.Core.List.{List}
-use Prim.Native.Nat.{ℕ, ◌+◌, ◌*◌, ◌≤◌, ◌<◌}
+use Prim.Native.Nat.{ℕ, ◌+◌, ◌*◌, ◌≤◌}
 use native.Mathlib.Omega.{arith}
-use borrow.Author.Rules.{rules}
 use borrow.Author.Tests.{leb-true}
-use lib.ListN.{length, get_or, length-replicate}
+use lib.ListN.{length, get_or}
 use Rattle.area.specs.declared.Rule.{Rule}
-use Rattle.area.specs.Bytes.{zeros}
 use Rattle.area.specs.Records.{entry_width, nth_rule}
 use Rattle.area.specs.Lists.{numbers}
-use Rattle.area.proofs.Numbers.{count_none, count_yes, count_no}
+use Rattle.area.proofs.Numbers.{count_yes, count_no}
 use Rattle.link.specs.Matches.{unmarked}
 use mir.Val.{bool_byte}
 use Rattle.link.specs.Link.{is_unlinked, unlinked, fits}
 
--- an area that is cleared is as long as it was
-pub cleared-length : (l c : List ℕ) → c ≡ zeros (length l) → length c ≡ length l
-cleared-length l c e = ap length e ∙ length-replicate (length l) 0
-
 -- whether the list fits, as a fact about numbers
-fits_says : (ns l : List ℕ) → fits ns l ≡ true → length ns * entry_width ≤ length l
+pub fits_says : (ns l : List ℕ) → fits ns l ≡ true → length ns * entry_width ≤ length l
 unfolding fits
 fits_says ns l e = leb-true (length ns * entry_width) (length l) e
-
--- what fits in the end, said of the list
-pub numbers_fit : (test : ℕ → Bool) (m : ℕ) (ns l : List ℕ) → numbers test m ≡ ns → fits ns l ≡ true → length (numbers test m) * entry_width ≤ length l
-numbers_fit test m ns l is e = omega (arith, fits_says ns l e, ap length is)
 
 -- one entry more is counted: by 1 where it has no mark
 pub mark_counted : (used : List Bool) (k n : ℕ) → n ≤ k → n ≡ length (unmarked used k)
@@ -45,5 +35,3 @@ mark_counted used k n few before = by (not (get_or used k false)) refl
 pub unlinked_is : (xs : List Rule) (n : ℕ) → n ≡ length xs → numbers (λ k. is_unlinked (nth_rule xs k)) n ≡ unlinked xs
 unfolding unlinked
 unlinked_is xs n e = ap (numbers (λ k. is_unlinked (nth_rule xs k))) e
-
-pub ruleset counting = (rules, count_none)

@@ -4,3 +4,4 @@ pub mod Outcomes
 pub mod LinkLaws
 pub mod Matching
 pub mod LinkWords
+pub mod Writing

@@ -6,7 +6,6 @@ use mathlib.Core.Bool.{Bool, true, false, cond}
 use mathlib.Core.List.{List}
 use Prim.Native.Nat.{ℕ, ◌+◌, ◌*◌, ◌≤◌, ◌<◌}
 use native.Mathlib.Omega.{arith}
-use borrow.Author.Tests.{eqb-true, eq-eqb, ne_eqb}
 use lib.Dec.{ltb}
 use lib.ListN.{length, get_or}
 use Rattle.area.specs.declared.Rule.{Rule}
@@ -25,13 +24,13 @@ use Rattle.link.specs.Matches.{EntriesFound, found_id, link_to}
 -- ---- a rule
 
 module _ (es : List Entry) (found : Option ℕ) (x : Rule) where
-  pub link_unnamed : (x.named ≡ 1 → ⊥) → x ≡ link_to es found x
+  pub link_unnamed : is_named x ≡ false → x ≡ link_to es found x
   unfolding link_to
-  link_unnamed h = rw (ne_eqb x.named 1 h)
+  link_unnamed e = rw e
 
-  pub link_named : x.named ≡ 1 → (id : Option ℕ) → option_of id ≡ found_id es found → (r : Rule) → r ≡ with_found (option_of id) x → r ≡ link_to es found x
+  pub link_named : is_named x ≡ true → (id : Option ℕ) → option_of id ≡ found_id es found → (r : Rule) → r ≡ with_found (option_of id) x → r ≡ link_to es found x
   unfolding link_to
-  link_named h id is r e = rw (eq-eqb x.named 1 h, ← is) e
+  link_named h id is r e = rw (h, ← is) e
 
 -- ---- the rules of an area
 
@@ -46,13 +45,13 @@ id_found es bytes = by (ltb (find_entry es bytes) (length es)) refl
     by false e = rw e
 
 -- a rule is linked by the entry that is found for its name
-linked_by : (name : Rule → List ℕ) (es : List Entry) (found : Option ℕ) (x : Rule) → (x.named ≡ 1 → found ≡ found_entry es (name x))
+linked_by : (name : Rule → List ℕ) (es : List Entry) (found : Option ℕ) (x : Rule) → (is_named x ≡ true → found ≡ found_entry es (name x))
     → link_to es found x ≡ link_rule name es x
 unfolding link_to link_rule
 linked_by name es found x f = by (is_named x) refl
   where
     by : (t : Bool) → is_named x ≡ t → cond t (with_found (found_id es found) x) x ≡ cond t (with_found (id_of es (name x)) x) x
-    by true e = ap (λ (i : Option ℕ). with_found (found_id es i) x) (f (eqb-true x.named 1 e)) ∙ ap (λ (i : M.Option ℕ). with_found i x) (id_found es (name x))
+    by true e = ap (λ (i : Option ℕ). with_found (found_id es i) x) (f e) ∙ ap (λ (i : M.Option ℕ). with_found i x) (id_found es (name x))
     by false e = refl
 
 module _ (name : Rule → List ℕ) (es : List Entry) (l : List ℕ) where
@@ -69,9 +68,9 @@ module _ (name : Rule → List ℕ) (es : List Entry) (l : List ℕ) where
     unfolding link_rules
     as_before = read ∙ after_read rule_sound rule_local (link_rule name es) l k a is ∙ sym (contents_read rule_format l count k h)
 
-    by_name : x.named ≡ 1 → get_or found k None ≡ found_entry es (name x)
+    by_name : is_named x ≡ true → get_or found k None ≡ found_entry es (name x)
     by_name named =
-        F.each k h (ap (λ (w : Rule). w.named) (sym as_before) ∙ named) ∙ ap (λ (w : Rule). found_entry es (name w)) (sym as_before)
+        F.each k h (ap is_named (sym as_before) ∙ named) ∙ ap (λ (w : Rule). found_entry es (name w)) (sym as_before)
 
     pub rules_next : count * rule_width ≤ length a → (y : Rule) (e : List ℕ)
         → y ≡ link_to es (get_or found k None) x → e ≡ sets a (k * rule_width) (rule_bytes y) → e ≡ linked_to (k + 1)

@@ -3,17 +3,17 @@
 use Rattle.std.specs.Prelude.{Option, Some, None, is_some}
 use Rattle.std.specs.Option.{unwrap_or}
 use mathlib.Core.Path.{◌≡◌, refl, sym, ap, subst, ◌∙◌}
-use mathlib.Core.Bool.{Bool, true, false, not, ◌&&◌, and-true, false≢true}
+use mathlib.Core.Bool.{Bool, true, false, not, ◌&&◌, and-true, false≢true, and-false}
 use mathlib.Core.List.{List}
 use mathlib.Core.Logic.{⊎_elim}
 use Prim.Native.Nat.{ℕ, ◌+◌, ◌≤◌, ◌<◌}
 use native.Mathlib.Numerals.{add-one}
 use native.Mathlib.Omega.{arith}
-use borrow.Author.Tests.{eqb-true, eqb-false, eq-eqb, ne_eqb, lt-ltb, le-ltb}
+use borrow.Author.Tests.{eqb-true, eqb-false, ne_eqb, lt-ltb, le-ltb}
 use lib.Dec.{eqb}
 use lib.ListN.{length, get_or, set, take, replicate, length-set, length-replicate, get_or-replicate, get_or-eq_default}
 use lib.Seq.{get_or-set_same, get_or-set_other, take-suc, take-length}
-use Rattle.characters.proofs.Tests.{le_or_lt, and_false}
+use Rattle.characters.proofs.Tests.{le_or_lt}
 use Rattle.characters.proofs.Firsts.{first_passes}
 use Rattle.text.specs.Range.{same_bytes}
 use Rattle.text.proofs.Ranges.{same_equal}
@@ -24,7 +24,8 @@ use Rattle.area.specs.Lists.{all, numbers}
 use Rattle.area.proofs.All.{all_one_more}
 use Rattle.area.proofs.Numbers.{numbers_same, count_none, count_yes, count_no}
 use Rattle.name_map.specs.Map.{most_entries, Entry, nth, find_entry, found_entry, id_at, id_of, distinct}
-use Rattle.link.specs.Link.{is_none, is_unmapped, has_that_name, is_unused, unmapped, unused}
+use Rattle.link.specs.declared.matches.Matches.{Matches}
+use Rattle.link.specs.Link.{is_named, is_none, is_unmapped, has_that_name, is_unused, unmapped, unused}
 use Rattle.link.specs.Matches.{unmarked, FoundInside, EntriesFound, Matched}
 use Rattle.name_map.proofs.Maps.{some_found, none_found, entry_first}
 
@@ -55,33 +56,33 @@ module _ (es : List Entry) (different : distinct es ≡ true) (bytes : List ℕ)
 -- ---- what is asked of a rule
 
 module _ (name : Rule → List ℕ) (es : List Entry) (x : Rule) where
-  module _ (d : x.named ≡ 1 → ⊥) where
+  module _ (unnamed : is_named x ≡ false) where
     unnamed_mapped : is_unmapped name es x ≡ false
     unfolding is_unmapped
-    unnamed_mapped = rw (ne_eqb x.named 1 d)
+    unnamed_mapped = rw unnamed
 
     unnamed_lacks : (bytes : List ℕ) → has_that_name name bytes x ≡ false
     unfolding has_that_name
-    unnamed_lacks bytes = rw (ne_eqb x.named 1 d)
+    unnamed_lacks bytes = rw unnamed
 
-  module _ (named : x.named ≡ 1) (j : ℕ) (at : j ≡ find_entry es (name x)) where
+  module _ (named : is_named x ≡ true) (j : ℕ) (at : j ≡ find_entry es (name x)) where
     found_mapped : j < length es → is_unmapped name es x ≡ false
     unfolding is_unmapped id_of id_at is_none
-    found_mapped h = rw (eq-eqb x.named 1 named, ← at, lt-ltb j (length es) h)
+    found_mapped h = rw (named, ← at, lt-ltb j (length es) h)
 
     missing_unmapped : length es ≤ j → is_unmapped name es x ≡ true
     unfolding is_unmapped id_of id_at is_none
-    missing_unmapped h = rw (eq-eqb x.named 1 named, ← at, le-ltb j (length es) h)
+    missing_unmapped h = rw (named, ← at, le-ltb j (length es) h)
 
     named_has : distinct es ≡ true → (i : ℕ) → i < length es → has_that_name name (nth es i).name x ≡ eqb j i
     unfolding has_that_name
-    named_has different i h = rw (eq-eqb x.named 1 named, at) (entry_named es different (name x) i h)
+    named_has different i h = rw (named, at) (entry_named es different (name x) i h)
 
 -- ---- the entries that were found for the first k rules
 
 -- no mark is set and nothing is found at first, within the array and past its end
-blank_at : {A : Type 0} (n i : ℕ) (d : A) (l : List A) → l ≡ replicate n d → get_or l i d ≡ d
-blank_at {A} n i d l e = ap (λ (m : List A). get_or m i d) e ∙ ⊎_elim past inside (le_or_lt n i)
+blank_at : {A : Type 0} (n i : ℕ) (d : A) → get_or (replicate n d) i d ≡ d
+blank_at {A} n i d = ⊎_elim past inside (le_or_lt n i)
   where
     past : n ≤ i → get_or (replicate n d) i d ≡ d
     past h = get_or-eq_default {A = A} (replicate n d) d {n = i} (omega (arith, h, length-replicate {A = A} n d))
@@ -97,30 +98,28 @@ module _ (name : Rule → List ℕ) (es : List Entry) (xs : List Rule) where
     pub later : (i : ℕ) → k ≤ i → get_or found i None ≡ None
     pub long : length found ≡ most_rules
 
-  found_none : (found : List (Option ℕ)) → found ≡ replicate most_rules None → Finding 0 found
-  found_none found e =
-      let nothing : (i : ℕ) → get_or found i None ≡ None = λ i. blank_at most_rules i None found e in
-      record {
-        kept = record { each = λ i h. absurd (omega (arith, h)) };
-        inside = record { each = λ i j q. absurd (false≢true (ap is_some (sym (nothing i) ∙ q))) };
-        later = λ i h. nothing i;
-        long = ap length e ∙ length-replicate {A = Option ℕ} most_rules None;
-      }
+  found_none : Finding 0 (replicate most_rules None)
+  found_none = record {
+    kept = record { each = λ i h. absurd (omega (arith, h)) };
+    inside = record { each = λ i j q. absurd (false≢true (ap is_some (sym (blank_at {A = Option ℕ} most_rules i None) ∙ q))) };
+    later = λ i h. blank_at {A = Option ℕ} most_rules i None;
+    long = length-replicate {A = Option ℕ} most_rules None;
+  }
 
   module _ {k : ℕ} {found : List (Option ℕ)} (F : Finding k found) where
     -- the rules before k, and rule k
     kept_next : (m : List (Option ℕ)) → ((i : ℕ) → i < k → get_or m i None ≡ get_or found i None)
-        → ((nth_rule xs k).named ≡ 1 → get_or m k None ≡ found_entry es (name (nth_rule xs k))) → EntriesFound name es xs (k + 1) m
+        → (is_named (nth_rule xs k) ≡ true → get_or m k None ≡ found_entry es (name (nth_rule xs k))) → EntriesFound name es xs (k + 1) m
     kept_next m same here = record {
       each = λ i h. ⊎_elim
           (λ g.
           let q : k ≡ i = omega (arith, h, g) in
-          subst (λ (j : ℕ). (nth_rule xs j).named ≡ 1 → get_or m j None ≡ found_entry es (name (nth_rule xs j))) q here)
+          subst (λ (j : ℕ). is_named (nth_rule xs j) ≡ true → get_or m j None ≡ found_entry es (name (nth_rule xs j))) q here)
           (λ g named. same i g ∙ F.kept.each i g named)
           (le_or_lt k i);
     }
 
-    found_kept : ((nth_rule xs k).named ≡ 1 → None ≡ found_entry es (name (nth_rule xs k))) → Finding (k + 1) found
+    found_kept : (is_named (nth_rule xs k) ≡ true → None ≡ found_entry es (name (nth_rule xs k))) → Finding (k + 1) found
     found_kept f = record {
       kept = kept_next found (λ i h. refl) (λ named. F.later k (omega arith) ∙ f named);
       inside = F.inside;
@@ -161,15 +160,15 @@ mark_set used i j h = by (eqb i j) refl
     by : (t : Bool) → eqb i j ≡ t → not (get_or (set used i true) j false) ≡ not (get_or used j false) && not t
     by true e =
         ap (λ (m : ℕ). not (get_or (set used i true) m false)) (sym (eqb-true i j e)) ∙ ap not (get_or-set_same used i true false h)
-        ∙ sym (and_false (not (get_or used j false)))
+        ∙ sym (and-false (not (get_or used j false)))
     by false e = ap not (get_or-set_other used i j true false (λ q. eqb-false i j e (sym q))) ∙ sym (and-true (not (get_or used j false)))
 
 module _ (name : Rule → List ℕ) (es : List Entry) (xs : List Rule) where
-  marked_none : (used : List Bool) → used ≡ replicate most_entries false → EntriesMarked name es xs 0 used
+  marked_none : EntriesMarked name es xs 0 (replicate most_entries false)
   unfolding is_unused all
-  marked_none used e = record {
-    long = ap length e ∙ length-replicate {A = Bool} most_entries false;
-    each = λ j h. ap not (blank_at most_entries j false used e);
+  marked_none = record {
+    long = length-replicate {A = Bool} most_entries false;
+    each = λ j h. ap not (blank_at most_entries j false);
   }
 
   module _ {k : ℕ} {used : List Bool} (U : EntriesMarked name es xs k used) (h : k < length xs) where
@@ -193,7 +192,7 @@ module _ (name : Rule → List ℕ) (es : List Entry) (xs : List Rule) where
     marked_kept f =
         marked_next used refl (λ j g. sym (ap (λ (t : Bool). not (get_or used j false) && not t) (f j g) ∙ and-true (not (get_or used j false))))
 
-    module _ (different : distinct es ≡ true) (named : x.named ≡ 1) (j : ℕ) (at : j ≡ find_entry es (name x)) where
+    module _ (different : distinct es ≡ true) (named : is_named x ≡ true) (j : ℕ) (at : j ≡ find_entry es (name x)) where
       marked-set : j < most_entries → EntriesMarked name es xs (k + 1) (set used j true)
       marked-set few =
           marked_next (set used j true) (length-set used j true)
@@ -213,68 +212,67 @@ unmarked_unused name es xs used U =
 
 -- ---- the loop over the rules
 
+abbrev pub matches : ℕ → List (Option ℕ) → List Bool → Matches
+matches n found used = record { unmapped_count = n; found = found; used = used }
+
 module _ (name : Rule → List ℕ) (es : List Entry) (xs : List Rule) where
   abbrev test : ℕ → Bool
   test k = is_unmapped name es (nth_rule xs k)
 
-  pub record Matching (k n : ℕ) (found : List (Option ℕ)) (used : List Bool) : Type 0 where
-    pub missing : n ≡ length (numbers (λ j. is_unmapped name es (nth_rule xs j)) k)
-    pub entries : Finding name es xs k found
-    pub marks : EntriesMarked name es xs k used
+  pub record Matching (k : ℕ) (m : Matches) : Type 0 where
+    pub missing : m.unmapped_count ≡ length (numbers (λ j. is_unmapped name es (nth_rule xs j)) k)
+    pub entries : Finding name es xs k m.found
+    pub marks : EntriesMarked name es xs k m.used
 
-  pub matching_none : (found : List (Option ℕ)) (used : List Bool) → found ≡ replicate most_rules None → used ≡ replicate most_entries false → Matching 0 0 found used
-  matching_none found used nothing unset = record {
-    missing = count_none test;
-    entries = found_none name es xs found nothing;
-    marks = marked_none name es xs used unset;
-  }
+  pub matching_none : Matching 0 (matches 0 (replicate most_rules None) (replicate most_entries false))
+  matching_none = record { missing = count_none test; entries = found_none name es xs; marks = marked_none name es xs }
 
-  module _ {k n : ℕ} {found : List (Option ℕ)} {used : List Bool} (M : Matching k n found used) where
+  module _ {k : ℕ} {m : Matches} (M : Matching k m) where
     module _ (h : k < length xs) (x : Rule) (is : x ≡ nth_rule xs k) where
       here : (P : Rule → Type 0) → P x → P (nth_rule xs k)
       here P p = subst P is p
 
-      pub matching_unnamed : (x.named ≡ 1 → ⊥) → Matching (k + 1) n found used
-      matching_unnamed d =
-          let e : ((nth_rule xs k).named ≡ 1 → ⊥) = here (λ y. y.named ≡ 1 → ⊥) d in
+      pub matching_unnamed : is_named x ≡ false → Matching (k + 1) m
+      matching_unnamed unnamed =
+          let e : is_named (nth_rule xs k) ≡ false = here (λ y. is_named y ≡ false) unnamed in
           record {
-            missing = count_no test k n M.missing (unnamed_mapped name es (nth_rule xs k) e);
-            entries = found_kept name es xs M.entries (λ named. absurd (e named));
+            missing = count_no test k m.unmapped_count M.missing (unnamed_mapped name es (nth_rule xs k) e);
+            entries = found_kept name es xs M.entries (λ named. absurd (false≢true (sym e ∙ named)));
             marks = marked_kept name es xs M.marks h (λ j _. unnamed_lacks name es (nth_rule xs k) e (nth es j).name);
           }
 
-      module _ (different : distinct es ≡ true) (named : x.named ≡ 1) where
-        is_named : (nth_rule xs k).named ≡ 1
-        is_named = here (λ y. y.named ≡ 1) named
+      module _ (different : distinct es ≡ true) (named : is_named x ≡ true) where
+        named_here : is_named (nth_rule xs k) ≡ true
+        named_here = here (λ y. is_named y ≡ true) named
 
         pub matching_found : (j : ℕ) → Some j ≡ found_entry es (name x) → k < most_rules → j < most_entries
-            → Matching (k + 1) n (set found k (Some j)) (set used j true)
+            → Matching (k + 1) (matches m.unmapped_count (set m.found k (Some j)) (set m.used j true))
         matching_found j is_found few room =
             let own : Some j ≡ found_entry es (name (nth_rule xs k)) = here (λ y. Some j ≡ found_entry es (name y)) is_found in
             let at = some_found es (name (nth_rule xs k)) j own in
             record {
-              missing = count_no test k n M.missing (found_mapped name es (nth_rule xs k) is_named j at.1 at.0);
+              missing = count_no test k m.unmapped_count M.missing (found_mapped name es (nth_rule xs k) named_here j at.1 at.0);
               entries = found-set name es xs M.entries j few at.0 own;
-              marks = marked-set name es xs M.marks h different is_named j at.1 room;
+              marks = marked-set name es xs M.marks h different named_here j at.1 room;
             }
 
-        pub matching_missing : None ≡ found_entry es (name x) → Matching (k + 1) (n + 1) found used
+        pub matching_missing : None ≡ found_entry es (name x) → Matching (k + 1) (matches (m.unmapped_count + 1) m.found m.used)
         matching_missing is_found =
             let own : None ≡ found_entry es (name (nth_rule xs k)) = here (λ y. None ≡ found_entry es (name y)) is_found in
             let past : length es ≤ find_entry es (name (nth_rule xs k)) = none_found es (name (nth_rule xs k)) own in
             record {
-              missing = count_yes test k n M.missing (missing_unmapped name es (nth_rule xs k) is_named (find_entry es (name (nth_rule xs k))) refl past);
+              missing = count_yes test k m.unmapped_count M.missing (missing_unmapped name es (nth_rule xs k) named_here (find_entry es (name (nth_rule xs k))) refl past);
               entries = found_kept name es xs M.entries (λ _. own);
-              marks = marked_missing name es xs M.marks h different is_named (find_entry es (name (nth_rule xs k))) refl past;
+              marks = marked_missing name es xs M.marks h different named_here (find_entry es (name (nth_rule xs k))) refl past;
             }
 
-    pub matched : length xs ≤ k → k ≤ length xs → Matched name es xs n found used
+    pub matched : length xs ≤ k → k ≤ length xs → Matched name es xs m
     unfolding unmapped
     matched h g =
         let q : k ≡ length xs = omega (arith, h, g) in
         record {
-          missing = M.missing ∙ ap (λ (m : ℕ). length (numbers test m)) q;
-          kept = subst (λ (m : ℕ). EntriesFound name es xs m found) q M.entries.kept;
+          missing = M.missing ∙ ap (λ (n : ℕ). length (numbers test n)) q;
+          kept = subst (λ (n : ℕ). EntriesFound name es xs n m.found) q M.entries.kept;
           inside = M.entries.inside;
-          without_mark = unmarked_unused name es xs used (subst (λ (m : ℕ). EntriesMarked name es xs m used) q M.marks);
+          without_mark = unmarked_unused name es xs m.used (subst (λ (n : ℕ). EntriesMarked name es xs n m.used) q M.marks);
         }

@@ -5,11 +5,8 @@ use mathlib.Core.Path.{◌≡◌, refl, sym, ap, ◌∙◌}
 use mathlib.Core.Bool.{Bool, true, false, cond, ◌&&◌}
 use mathlib.Core.List.{List, map}
 use mathlib.Core.Option.{Option, none, some}
-use Prim.Native.Nat.{ℕ, ◌*◌, ◌%◌, ◌≤◌}
-use borrow.Author.Tests.{leb-true}
-use lib.Dec.{eqb, leb}
+use Prim.Native.Nat.{ℕ, ◌*◌, ◌≤◌}
 use lib.ListN.{length, get_or, length-map, get_or-map}
-use Rattle.characters.proofs.Tests.{and_left, and_right}
 use Rattle.area.specs.declared.Rule.{Rule}
 use Rattle.area.specs.Records.{rule_width, most_rules, rule_of, nth_rule}
 use Rattle.area.specs.Contents.{contents, rule_format, entry_format, relaid, laid}

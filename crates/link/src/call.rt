@@ -1,5 +1,5 @@
 // The link call (01, Linking). Everything is counted before a byte is written, so that a refusal changes nothing. The areas are those of the C
-// interface; those that are lent for writing go on one by one, since a struct of `&mut` slices that is lent again gets no proof.
+// interface; areas 7 and 8 stay parameters, for a struct of them would have one user, `link_checked`.
 ghost use Rattle.std.specs.Prelude.{◌≡◌, ◌*◌, ◌≤◌, length};
 ghost use Rattle.area.specs.Records.{rule_width, most_rules};
 ghost use Rattle.link.specs.Link.{room_for, link_left, link_checked, link_call};
@@ -9,12 +9,11 @@ ghost use Rattle.name_map.specs.Phrases.{map_in};
 ghost use Rattle.link.specs.Phrases.{rules_in, rule_names_in};
 
 use crate::matches::match_rules;
-use crate::numbers::{NUMBER_WIDTH, count_unused, write_unlinked, write_unused};
+use crate::numbers::{count_unused, write_unlinked, write_unused};
 use crate::rule_ids::link_rules;
 use crate::{LinkArea, LinkError, Linked};
-use area::MOST_RULES;
+use area::Record;
 use area::list::Records;
-use name_map::MOST_ENTRIES;
 use name_map::index::{NameIndex, SLOTS, check_map};
 use sheet_check::Sheet;
 use sheet_check::check::check;
@@ -24,7 +23,7 @@ use sheet_check::check::check;
 fn check_room(area: &[u8], count: u16, which: LinkArea) -> Result<(), LinkError>
     ensures { result ≡ room_for count area.now which }
 {
-    if area.len() < count as usize * NUMBER_WIDTH {
+    if area.len() < count as usize * u16::WIDTH {
         return Err(LinkError::AreaFull(which));
     }
     Ok(())
@@ -43,20 +42,18 @@ fn link_checked(
     ensures { link_left result area2.new area7.new area8.new
         ≡ link_checked (rule_names_in src.now) (rules_in area2.old rules) (map_in index.now.map) area2.old area7.old area8.old }
 {
-    let mut found = [None; MOST_RULES];
-    let mut used = [false; MOST_ENTRIES];
     let entries = index.map.entries.count() as u16;
     let lent = Records::new(area2, rules);
-    let unmapped_count = match_rules(src, &lent, index, &mut found, &mut used);
-    check_room(area7, unmapped_count, LinkArea::Unmapped)?;
-    let unused_count = count_unused(&used, entries);
+    let matches = match_rules(src, &lent, index);
+    check_room(area7, matches.unmapped_count, LinkArea::Unmapped)?;
+    let unused_count = count_unused(&matches.used, entries);
     check_room(area8, unused_count, LinkArea::Unused)?;
-    write_unused(&used, entries, area8);
-    link_rules(area2, rules, &index.map, &found);
+    write_unused(&matches.used, entries, area8);
+    link_rules(area2, rules, &index.map, &matches.found);
     let linked = Records::new(area2, rules);
     write_unlinked(&linked, area7);
     Ok(Linked {
-        unmapped_count,
+        unmapped_count: matches.unmapped_count,
         unused_count,
     })
 }
@@ -90,10 +87,11 @@ pub fn set_rule_ids_spanned(
     if !check(sheet) {
         return Err(LinkError::BrokenSheet);
     }
-    let mut slots = [0; SLOTS];
+    let rules = sheet.sizes().rules;
+    let mut slots = [None; SLOTS];
     let Some(map) = check_map(names, entries, &mut slots) else {
         return Err(LinkError::BrokenMap);
     };
     let index = NameIndex { map, slots: &slots };
-    link_checked(src, area2, counts[1], &index, area7, area8)
+    link_checked(src, area2, rules, &index, area7, area8)
 }

@@ -10,20 +10,17 @@ ghost use Rattle.area.specs.Phrases.{before, after};
 ghost use Rattle.name_map.specs.Phrases.{map_in};
 ghost use Rattle.link.specs.Phrases.{rules_in};
 
-use area::{MOST_RULES, RULE_WIDTH, Record, Rule, read};
+use area::{Record, Rule};
 use name_map::NameMap;
 
 #[tactic(auto, unfolding(crate::specs::Link::with_id, crate::specs::Link::with_found))]
 fn with_id(x: Rule, id: Option<u16>) -> Rule
     ensures { result ≡ with_found (option_of id) x }
 {
-    match id {
-        Some(id) => Rule { has_id: 1, id, ..x },
-        None => Rule {
-            has_id: 0,
-            id: 0,
-            ..x
-        },
+    Rule {
+        has_id: u16::from(id.is_some()),
+        id: id.unwrap_or(0),
+        ..x
     }
 }
 
@@ -32,7 +29,7 @@ fn link_rule(map: &NameMap, found: Option<u16>, x: Rule) -> Rule
     requires { (j : ℕ) → found ≡ Some j → j < length map.now.entries }
     ensures { result ≡ link_to (map_in map.now) found x }
 {
-    if x.named != 1 {
+    if !x.is_named() {
         return x;
     }
     // by `map` of the Option the closure's answer was not known to the proof
@@ -44,15 +41,14 @@ fn link_rule(map: &NameMap, found: Option<u16>, x: Rule) -> Rule
 
 // The rules by the entries that were found, whatever says which name a rule has. Every rule is written back whole, so that an area holds the
 // linked rules. The count is that of the rules in use, which fill a part of the area.
-pub fn link_rules(area: &mut [u8], count: u16, map: &NameMap, found: &[Option<u16>; MOST_RULES])
+pub fn link_rules(area: &mut [u8], count: u16, map: &NameMap, found: &[Option<u16>; Rule::MOST])
     requires count_le_most_rules { (count ≤ most_rules) × (count * rule_width ≤ length area.old) }
     requires found_inside { FoundInside (map_in map.now) found.now }
     ensures { (name : Rule → List ℕ) → EntriesFound name (map_in map.now) (rules_in area.old count) count found.now
         → area.new ≡ relaid rule_format area.old (link_rules name (map_in map.now) (rules_in area.old count)) }
 {
-    for k in 0..count {
-        let at = k as usize;
-        let x = read(area, at);
-        link_rule(map, found[at], x).write(area, at * RULE_WIDTH);
+    for at in 0..count as usize {
+        let x = Rule::read(area, at);
+        link_rule(map, found[at], x).write(area, at);
     }
 }

@@ -9,7 +9,8 @@ use native.Mathlib.Omega.{arith}
 use borrow.Author.Tests.{leb-true}
 use lib.Dec.{eqb, leb}
 use lib.ListN.{length, get_or, get_or-eq_default}
-use Rattle.characters.proofs.Tests.{le_or_lt, by_test, and_left, and_right}
+use Rattle.std.proofs.lemmas.Bool.{cond_both, and_parts}
+use Rattle.characters.proofs.Tests.{le_or_lt}
 use Rattle.area.specs.declared.Rule.{Rule}
 use Rattle.area.specs.Records.{rule_width, entry_width, rule_of, rule_at, entry_at, nth_rule}
 use Rattle.area.specs.Contents.{contents, rule_format}
@@ -19,7 +20,7 @@ use Rattle.answers.specs.Words.{TwoBytes}
 use Rattle.area.specs.Bytes.{AllBytes}
 use Rattle.answers.proofs.Words.{two_bytes, no_values}
 use Rattle.area.proofs.Fields.{field_small}
-use Rattle.sheet_check.specs.declared.Part.{Part}
+use Rattle.area.specs.declared.RuleText.{RuleText}
 use Rattle.sheet_check.specs.SheetCheck.{SheetBytes, name_in, decoded, sheet_check}
 use Rattle.area.specs.Lists.{all}
 use Rattle.sheet_check.specs.Pattern.{has_rule, part_of, pattern_part, pattern_fields}
@@ -73,7 +74,7 @@ small_rule l n k h = ⊎_elim past before (le_or_lt n k)
 pub pattern_small : (b : SheetBytes) (k : ℕ) → AllBytes b.area2 → TwoBytes (pattern_fields (pattern_part b k))
 unfolding pattern_part pattern_fields decoded
 pattern_small b k h =
-    by_test (λ (x : Option Part). TwoBytes (pattern_fields x)) (has_rule b k) (Some (part_of (nth_rule (decoded b).rules k))) None
+    cond_both (has_rule b k) (Some (part_of (nth_rule (decoded b).rules k))) None (λ (x : Option RuleText). TwoBytes (pattern_fields x))
     (λ _.
     let r = small_rule b.area2 (get_or b.counts 1 0) k h in
     two_bytes accepted_number _ _ _ (omega arith) r.place r.from r.len)
@@ -96,8 +97,8 @@ module _ (name : Rule → List ℕ) (xs : List Rule) (es : List Entry) (x2 x7 x8
   checked_small : LinkSmall (link_checked name xs es x2 x7 x8)
   unfolding link_checked link_all link_fields
   checked_small =
-      by_test LinkSmall (L.fits (unmapped name es xs) x7) _ _
-      (λ _. by_test LinkSmall (L.fits (unused name es xs) x8) _ _
+      cond_both (L.fits (unmapped name es xs) x7) _ _ LinkSmall
+      (λ _. cond_both (L.fits (unused name es xs) x8) _ _ LinkSmall
       (λ _. two_bytes accepted_number _ _ 0 (omega arith) (omega (arith, few_unmapped, few-rules)) (omega (arith, few_unused, few-entries)) (omega arith))
       (λ _. two_bytes area_full_number 8 0 0 (omega arith) (omega arith) (omega arith) (omega arith)))
       (λ _. two_bytes area_full_number 7 0 0 (omega arith) (omega arith) (omega arith) (omega arith))
@@ -108,14 +109,14 @@ few_mapped names entries good =
     let whole : Bool = eqb (length entries % map_width) 0 in
     let few : Bool = leb (entry_count entries) most_entries in
     let inside : Bool = all (name_inside (length names)) (contents map_format entries (entry_count entries)) in
-    let front = and_left (whole && few) inside (and_left (whole && few && inside) (distinct (entries_of names entries)) good) in
-    omega (arith, entries_count names entries, leb-true (entry_count entries) most_entries (and_right whole few front))
+    let front = (and_parts (whole && few) inside (and_parts (whole && few && inside) (distinct (entries_of names entries)) good).0).0 in
+    omega (arith, entries_count names entries, leb-true (entry_count entries) most_entries (and_parts whole few front).1)
 
 pub link_small : (b : SheetBytes) (names entries x7 x8 : List ℕ) → TwoBytes (link_fields (link_call b names entries x7 x8).answer)
 unfolding link_call link_fields
 link_small b names entries x7 x8 =
-    by_test LinkSmall (sheet_check b) _ _
-    (λ passed. by_test LinkSmall (map_check names entries) _ _
+    cond_both (sheet_check b) _ _ LinkSmall
+    (λ passed. cond_both (map_check names entries) _ _ LinkSmall
     (λ good.
     let few : length (decoded b).rules ≤ 2048 = omega (arith, rules_count b, (checked_counts b passed).2) in
     checked_small (name_in b) (decoded b).rules (entries_of names entries) b.area2 x7 x8 few (few_mapped names entries good))
@@ -138,8 +139,8 @@ module _ (x : Lexer) (small : (k : ℕ) → SmallRule (nth_rule x.rules k)) (run
   won_small : (k bytes : ℕ) → bytes < 65536 → run.run.position < 65536 → Small (won_by run (nth_rule x.rules k) bytes)
   unfolding won_by view view_fields
   won_small k bytes h p =
-      by_test Small (eqb (nth_rule x.rules k).named 1) _ _
-      (λ _. by_test Small (eqb (nth_rule x.rules k).has_id 1) _ _
+      cond_both (eqb (nth_rule x.rules k).named 1) _ _ Small
+      (λ _. cond_both (eqb (nth_rule x.rules k).has_id 1) _ _ Small
       (λ _. two_bytes token_number _ _ _ (omega arith) (small k).id p h) (λ _. no_values unlinked_number (omega arith)))
       (λ _. no_values skip_number (omega arith))
 
@@ -147,10 +148,10 @@ module _ (x : Lexer) (small : (k : ℕ) → SmallRule (nth_rule x.rules k)) (run
   unfolding step_run step_row choose view view_fields
   run_small =
       let f : ℕ → ℕ = weight x (current run) row in
-      by_test Small (good_run (length x.states) run) _ _
-      (λ good. by_test Small (eqb run.run.position run.run.n) _ _ (λ _. no_values done_number (omega arith))
-      (λ _. by_test Small (good_row (fits_in run.run) (length x.rules) row) _ _
-      (λ _. by_test Small (eqb (greatest f (length x.rules)) 0) _ _ (λ _. no_values stopped_number (omega arith))
+      cond_both (good_run (length x.states) run) _ _ Small
+      (λ good. cond_both (eqb run.run.position run.run.n) _ _ Small (λ _. no_values done_number (omega arith))
+      (λ _. cond_both (good_row (fits_in run.run) (length x.rules) row) _ _ Small
+      (λ _. cond_both (eqb (greatest f (length x.rules)) 0) _ _ Small (λ _. no_values stopped_number (omega arith))
       (λ _.
       let low = weights_low x (current run) row 65535 (length x.rules) (λ k _. omega (arith, length_small k)) in
       let numbers = run_is (length x.states) run.run run.stack good in
@@ -162,7 +163,7 @@ pub step_small : (b : SheetBytes) (run : Running) (i : Input) → AllBytes b.are
     → TwoBytes (step_fields (step_call b run i).answer)
 unfolding step_call view view_fields decoded
 step_small b run i rules-bytes row-bytes =
-    by_test Small (sheet_check b) _ _ (λ _. run_small (lexer_of (decoded b)) (λ k. small_rule b.area2 (get_or b.counts 1 0) k rules-bytes) run i row-bytes)
+    cond_both (sheet_check b) _ _ Small (λ _. run_small (lexer_of (decoded b)) (λ k. small_rule b.area2 (get_or b.counts 1 0) k rules-bytes) run i row-bytes)
     (λ _. no_values broken_sheet_number (omega arith))
 
 pub start_small : (x : StartAnswer) → TwoBytes (start_fields x)

@@ -8,9 +8,9 @@ use Prim.Native.Nat.{ℕ, zero, suc, ◌<◌}
 use native.Mathlib.Omega.{arith}
 use borrow.Author.Tests.{ltb-true}
 use lib.ListN.{get_or, get_elem?, replicate}
-use Rattle.characters.proofs.Tests.{and_left, and_right}
+use Rattle.std.proofs.lemmas.Bool.{and_parts}
 use Rattle.area.specs.Bytes.{AllBytes}
-use Rattle.section.specs.Request.{request, options}
+use Rattle.section.specs.Request.{asked}
 use Rattle.parse.specs.Parse.{Caps, caps}
 use Rattle.area.specs.Lists.{all}
 use Rattle.parsed_sheet.specs.Accepted.{is_byte}
@@ -71,7 +71,7 @@ entry_rows =
 -- the file and the map, and the start of an entry of 8 bytes, over a stack of 18 bytes 7
 abbrev pub session : Run → Session
 session r = record {
-  request = request lex_file (options 0) [];
+  request = asked lex_file 0 [];
   capacities = capacities;
   names = names_of_map;
   entries = entries_of_map;
@@ -124,8 +124,8 @@ met_demand r = demand (session r) (met r) entry_rows
 all_small : (l : List ℕ) (k : ℕ) → all is_byte l ≡ true → get_or l k 0 < 256
 unfolding all
 all_small [] k e = omega arith
-all_small (x ∷ l) zero e = ltb-true x 256 (and_left (is_byte x) (all is_byte l) e)
-all_small (x ∷ l) (suc k) e = all_small l k (and_right (is_byte x) (all is_byte l) e)
+all_small (x ∷ l) zero e = ltb-true x 256 (and_parts (is_byte x) (all is_byte l) e).0
+all_small (x ∷ l) (suc k) e = all_small l k (and_parts (is_byte x) (all is_byte l) e).1
 
 entries_are_bytes : AllBytes entries_of_map
 unfolding all

@@ -1,16 +1,17 @@
 -- What the machine answers means what it should: of every row, by the machine's own definitions.
 use mathlib.Core.Path.{◌≡◌, refl, sym, ap, ap₂, ◌∙◌}
-use mathlib.Core.Bool.{Bool, true, false, not, ◌&&◌, ◌||◌, false≢true, true≢false}
+use mathlib.Core.Bool.{Bool, true, false, not, ◌&&◌, ◌||◌, false≢true, true≢false, or-true}
 use mathlib.Core.List.{List, [], ◌∷◌}
 use mathlib.Core.Logic.{inl, inr}
 use mathlib.Core.Option.{Option, none, some}
 use Prim.Native.Nat.{ℕ, zero, suc, ◌+◌, ◌*◌, ◌-◌, ◌≤◌, ◌<◌}
 use native.Mathlib.Omega.{arith}
-use borrow.Author.Tests.{eq-eqb, eqb-true, eqb-false, leb-true, leb-false, ltb-true, ltb-false}
+use borrow.Author.Tests.{eq-eqb, eqb-true, eqb-false, leb-true, leb-false, ltb-true, ltb-false, not-true}
 use lib.Dec.{eqb, ltb}
 use lib.ListN.{length, get_or, get_elem?}
+use Rattle.std.proofs.lemmas.Bool.{cond_both, and_parts}
 use Rattle.text.specs.Range.{same_bytes}
-use Rattle.characters.proofs.Tests.{by_test, and_left, and_right, or_true, or_cases}
+use Rattle.characters.proofs.Tests.{or_cases}
 use Rattle.text.proofs.Ranges.{same_equal, same_self}
 use Rattle.area.specs.Lists.{all}
 use Rattle.area.proofs.All.{all-at}
@@ -40,23 +41,19 @@ at_has : (xs : List ℕ) (id j : ℕ) → get_elem? xs j ≡ some id → has xs 
 unfolding has
 at_has [] id j e = absurd (none_some id e)
 at_has (x ∷ xs) id zero e = rw (eq-eqb x id (some_is x id e))
-at_has (x ∷ xs) id (suc j) e = ap (λ (t : Bool). eqb x id || t) (at_has xs id j e) ∙ or_true (eqb x id)
+at_has (x ∷ xs) id (suc j) e = ap (λ (t : Bool). eqb x id || t) (at_has xs id j e) ∙ or-true (eqb x id)
 
 empty_is : (xs : List ℕ) → is_empty xs ≡ true → xs ≡ []
 unfolding is_empty
 empty_is [] e = refl
 empty_is (x ∷ xs) e = absurd (false≢true e)
 
-not_true : (b : Bool) → not b ≡ true → b ≡ false
-not_true true e = absurd (false≢true e)
-not_true false e = refl
-
 module _ (g : Given) (m : Machine) (x : FileRule) where
   pub live_is : is_live g.file.states (current_state m.stack) x ≡ true → Live g m x
   unfolding is_live
   live_is e =
       or_cases (has x.list (current_state m.stack)) _ e (λ q. inl (has-at x.list (current_state m.stack) q))
-      (λ q. inr (empty_is x.list (and_left (is_empty x.list) _ q), not_true _ (and_right (is_empty x.list) _ q)))
+      (λ q. inr (empty_is x.list (and_parts (is_empty x.list) _ q).0, not-true _ (and_parts (is_empty x.list) _ q).1))
 
   pub live_says : Live g m x → is_live g.file.states (current_state m.stack) x ≡ true
   unfolding is_live is_empty has
@@ -107,8 +104,8 @@ module _ (g : Given) (m : Machine) (i : Input) (off : m.position ≡ g.n → ⊥
   unfolding fits n left
   row_fitting e =
       let row : List ℕ = i.row in
-      let size : length row ≡ n * 2 = eqb-true (length row) (n * 2) (and_left (eqb (length row) (n * 2)) _ e) in
-      let pass : all (not_above left) (lengths row) ≡ true = and_right (eqb (length row) (n * 2)) _ e in
+      let size : length row ≡ n * 2 = eqb-true (length row) (n * 2) (and_parts (eqb (length row) (n * 2)) _ e).0 in
+      let pass : all (not_above left) (lengths row) ≡ true = (and_parts (eqb (length row) (n * 2)) _ e).1 in
       record {
         before = off;
         size = size;
@@ -186,7 +183,7 @@ module _ (live : FileRule → Bool) (x : FileRule) (xs : List FileRule) (l : ℕ
   unfolding first_or_longer
   alive e none p = first_found e (λ k y q t. absurd (p k y q t))
   alive e (some w) p =
-      by_test (Picks live (x ∷ xs) (l ∷ ls)) (ltb l w.bytes) (some w) (some (winner x l)) (λ q. later_found w (ltb-true l w.bytes q) p)
+      cond_both (ltb l w.bytes) (some w) (some (winner x l)) (Picks live (x ∷ xs) (l ∷ ls)) (λ q. later_found w (ltb-true l w.bytes q) p)
       (λ q. first_found e (λ k y r t. omega (arith, p.greatest k y r t, ltb-false l w.bytes q)))
 
 pub picked : (states : List FileState) (state : ℕ) (xs : List FileRule) (ls : List ℕ) → length ls ≡ length xs
@@ -196,8 +193,7 @@ picked states state [] ls h = λ k x e t. none_some x e
 picked states state (x ∷ xs) [] h = absurd (omega arith)
 picked states state (x ∷ xs) (l ∷ ls) h =
     let p = picked states state xs ls (omega arith) in
-    by_test (Picks (is_live states state) (x ∷ xs) (l ∷ ls)) (is_live states state x) (first_or_longer x l (winner_of states state xs ls))
-    (winner_of states state xs ls) (λ e. alive (is_live states state) x xs l ls e (winner_of states state xs ls) p)
+    cond_both (is_live states state x) (first_or_longer x l (winner_of states state xs ls)) (winner_of states state xs ls) (Picks (is_live states state) (x ∷ xs) (l ∷ ls)) (λ e. alive (is_live states state) x xs l ls e (winner_of states state xs ls) p)
     (λ e. dead (is_live states state) x xs l ls e (winner_of states state xs ls) p)
 
 -- ---- ids
@@ -210,7 +206,7 @@ pub id_given : (es : List Entry) (name : List ℕ) → Gives es name (id_in es n
 unfolding id_in
 id_given [] name = λ id e. none_some e.1 e.2
 id_given (e ∷ es) name =
-    by_test (Gives (e ∷ es) name) (same_bytes e.name name) (some e.id) (id_in es name) (λ t. (0, e, refl, same_equal e.name name t, refl))
+    cond_both (same_bytes e.name name) (some e.id) (id_in es name) (Gives (e ∷ es) name) (λ t. (0, e, refl, same_equal e.name name t, refl))
     (λ t. later t (id_in es name) (id_given es name))
   where
     later : same_bytes e.name name ≡ false → (o : Option ℕ) → Gives es name o → Gives (e ∷ es) name o
@@ -265,15 +261,15 @@ module _ (g : Given) (m : Machine) (i : Input) where
     unfolding chooses
     chooses_means none p = (fitting, λ k x e l. absurd (p k x e (live_says g m x l)), refl)
     chooses_means (some w) p =
-        by_test Meant (eqb w.bytes 0) (answered (Ok Stopped) m) (wins g w.rule.name w m)
+        cond_both (eqb w.bytes 0) (answered (Ok Stopped) m) (wins g w.rule.name w m) Meant
         (λ z. (fitting, λ k x e l. omega (arith, has-length k x e, p.greatest k x e (live_says g m x l), eqb-true w.bytes 0 z), refl))
         (λ z. wins_means w (won w (omega (arith, eqb-false w.bytes 0 z)) p) w.rule.name refl)
 
   pub means : Means g m i (step g m i).answer (step g m i).machine
   unfolding step
   means =
-      by_test Meant (eqb m.position g.n) (answered (Ok Done) m) _ (λ e. (eqb-true m.position g.n e, refl))
-      (λ e. by_test Meant (fits (not_above (g.n - m.position)) (length g.file.rules) i.row) _ (answered (Err RowMismatch) m)
+      cond_both (eqb m.position g.n) (answered (Ok Done) m) _ Meant (λ e. (eqb-true m.position g.n e, refl))
+      (λ e. cond_both (fits (not_above (g.n - m.position)) (length g.file.rules) i.row) _ (answered (Err RowMismatch) m) Meant
       (λ f.
       let fitting : Fitting g m i = row_fitting g m i (eqb-false m.position g.n e) f in
       let count = lengths_count (length g.file.rules) i.row fitting.size in

@@ -10,9 +10,10 @@ use borrow.Author.Tests.{eqb-true, ne_eqb, lt-ltb, le-ltb}
 use lib.Dec.{eqb, ltb}
 use lib.ListN.{length, get_or, get_elem?, take, drop, get_or-map}
 use lib.Seq.{drop-cons}
+use Rattle.std.proofs.lemmas.Bool.{and_parts}
 use Rattle.characters.specs.Walk.{first_of, first}
 use Rattle.text.specs.Range.{part, same_bytes}
-use Rattle.characters.proofs.Tests.{le_or_lt, and_left}
+use Rattle.characters.proofs.Tests.{le_or_lt}
 use Rattle.area.specs.declared.State.{State}
 use Rattle.area.specs.declared.Rule.{Rule}
 use Rattle.area.specs.Records.{entry_at, state_of, nth_state, nth_rule, nth_entry}
@@ -142,7 +143,7 @@ id_same es name =
 
 pub fits_size : (test : ℕ → Bool) (n : ℕ) (row : List ℕ) → fits test n row ≡ true → length row ≡ n * 2
 unfolding fits
-fits_size test n row e = eqb-true (length row) (n * 2) (and_left (eqb (length row) (n * 2)) _ e)
+fits_size test n row e = eqb-true (length row) (n * 2) (and_parts (eqb (length row) (n * 2)) _ e).0
 
 pub map_at : {A B : Type 0} (f : A → B) (xs : List A) (k : ℕ) (d : A) → k < length xs → get_elem? (map f xs) k ≡ some (f (get_or xs k d))
 map_at f [] k d h = absurd (omega arith)

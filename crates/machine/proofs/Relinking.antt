@@ -1,4 +1,5 @@
 -- An accepted link wrote the linked rules over area 2, so the linked sheet is the sheet with linked rules; and its map passed the map's check.
+use Rattle.std.proofs.lemmas.Bool.{and_parts}
 use Rattle.std.specs.Prelude.{Ok, Err}
 use mathlib.Core.Path.{◌≡◌, refl, sym, ap, ◌∙◌}
 use mathlib.Core.Bool.{Bool, true, false, cond, ◌&&◌}
@@ -19,7 +20,6 @@ use Rattle.name_map.specs.Map.{Entry, entry, nth, map_width, most_entries, map_f
 use Rattle.link.specs.Link.{LinkAnswer, linked_answer, LinkLeft, link_left, link_rules, fits, unmapped, unused, link_all, link_checked, link_call}
 use Rattle.link.proofs.LinkLaws.{linked_contents_lem, linked_passes, entry_id_lem}
 use borrow.Author.Tests.{eqb-true}
-use Rattle.characters.proofs.Tests.{and_left, and_right}
 use Rattle.run.specs.Run.{lexer_of}
 use Rattle.machine.specs.Means.{EntryOf}
 use Rattle.machine.specs.Demand.{linked_sheet}
@@ -99,14 +99,14 @@ module _ (b : SheetBytes) (names entries x7 x8 : List ℕ) (p q : ℕ) (accepted
 
   map_distinct : distinct (entries_of names entries) ≡ true
   unfolding map_check
-  map_distinct = and_right (whole_test && few_test && inside_test) (distinct (entries_of names entries)) map_checked
+  map_distinct = (and_parts (whole_test && few_test && inside_test) (distinct (entries_of names entries)) map_checked).1
 
   -- its bytes are whole entries
   map_whole : length entries ≡ entry_count entries * 6
   unfolding map_check
   map_whole =
-      let tests = and_left (whole_test && few_test && inside_test) (distinct (entries_of names entries)) map_checked in
-      let whole = and_left whole_test few_test (and_left (whole_test && few_test) inside_test tests) in
+      let tests = (and_parts (whole_test && few_test && inside_test) (distinct (entries_of names entries)) map_checked).0 in
+      let whole = (and_parts whole_test few_test (and_parts (whole_test && few_test) inside_test tests).0).0 in
       omega (arith, eqb-true (length entries % map_width) 0 whole)
 
   -- it has one id for a name

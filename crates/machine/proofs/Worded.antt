@@ -42,7 +42,7 @@ parse_zero (Ok tt) e = refl
 parse_zero (Err P.LongFile) e = absurd (omega (arith, e))
 parse_zero (Err P.UnknownFlag) e = absurd (omega (arith, e))
 parse_zero (Err P.InvalidUtf8) e = absurd (omega (arith, e))
-parse_zero (Err (P.AreaFull n)) e = absurd (omega (arith, e))
+parse_zero (Err (P.AreaFull name)) e = absurd (omega (arith, e))
 parse_zero (Err (P.FaultyFile n)) e = absurd (omega (arith, e))
 
 link_zero : (x : LinkAnswer) → link_word x % 65536 ≡ 0 → (a : ℕ) × (b : ℕ) × (x ≡ linked_answer a b)

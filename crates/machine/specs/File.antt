@@ -69,7 +69,7 @@ file_by s (accepted c) = file_in (name_at s) c
 file_by s long_file = record { states = []; rules = [] }
 file_by s unknown_flag = record { states = []; rules = [] }
 file_by s invalid_utf8 = record { states = []; rules = [] }
-file_by s (area_full n) = record { states = []; rules = [] }
+file_by s (area_full name) = record { states = []; rules = [] }
 file_by s (faulty fs) = record { states = []; rules = [] }
 
 -- ---- a map

@@ -1,5 +1,11 @@
--- The home of a name: a loop keeps that it has added the numbers so far.
-use Rattle.std.proofs.Common.{◌≡◌, ℕ, ◌+◌, ◌*◌, ◌/◌, ◌%◌, ◌^◌, List, length, sym, refl, ap, ◌∙◌, ap₂, add-one, arith}
+-- The home of a name: a fold adds the numbers of a list one after the other, and each stands in the name at a known place.
+use Rattle.std.proofs.Common.{◌≡◌, ℕ, zero, suc, ◌<◌, ◌≤◌, [], ◌∷◌, ◌++◌, take, drop, get_or, ◌+◌, ◌*◌, ◌/◌, ◌%◌, ◌^◌, List, length, sym, refl, ap, ◌∙◌, ap₂, add-one, arith}
+use Rattle.std.specs.List.{fold}
+use Rattle.std.specs.Int.{from_le_bytes, w32}
+use Rattle.std.specs.Simd.{first_chunks}
+use Rattle.std.proofs.lemmas.List.{get_or-take, get_or-drop}
+use Rattle.std.proofs.lemmas.List.Sums.{fold-append, fold_more}
+use lib.Seq.{drop-drop, take-length}
 use Rattle.characters.specs.Whitespace.{byte}
 use Rattle.area.specs.Bytes.{field_at}
 use Rattle.name_map.specs.declared.home.Checksum.{Checksum}
@@ -19,15 +25,66 @@ word_read l i r e =
     let last : byte l (i + 2 + 1) ≡ byte l (i + 3) = ap (byte l) (omega arith) in
     omega (arith, e, last)
 
-module _ (number : ℕ → ℕ) (c : Checksum) where
-  pub numbers_none : c ≡ add_numbers number 0 c
-  unfolding add_numbers
-  numbers_none = refl
+-- one value more at the end of a fold
+pub fold_push : {A B : Type 0} (step : B → A → B) (start : B) (ys : List A) (x : A) (a b : B) → a ≡ fold step start ys → b ≡ step a x
+    → b ≡ fold step start (ys ++ (x ∷ []))
+fold_push step start ys x a b before e = e ∙ ap (λ z. step z x) before ∙ sym (fold-append step start ys (x ∷ []))
 
-  module _ (k : ℕ) (x : Checksum) (before : x ≡ add_numbers number k c) where
-    pub numbers_next : (y : ℕ) (r : Checksum) → y ≡ number k → r ≡ add_number x y → r ≡ add_numbers number (k + 1) c
-    unfolding add_numbers
-    numbers_next y r q e = e ∙ ap₂ add_number before q ∙ sym (ap (λ (n : ℕ). add_numbers number n c) (add-one k))
+-- numbers that are the same, added
+numbers_alike : (f g : ℕ → ℕ) (c : Checksum) (n : ℕ) → ((k : ℕ) → k < n → f k ≡ g k) → add_numbers f n c ≡ add_numbers g n c
+unfolding add_numbers
+numbers_alike f g c zero e = refl
+numbers_alike f g c (suc n) e = ap₂ add_number (numbers_alike f g c n (λ k h. e k (omega (arith, h)))) (e n (omega arith))
+
+-- a fold over a list adds the number of each element
+module _ {A : Type 0} (value : A → ℕ) (start : Checksum) (xs : List A) (d : A) where
+  abbrev step : Checksum → A → Checksum
+  step c x = add_number c (value x)
+
+  fold_to : (i : ℕ) → i ≤ length xs → fold step start (take i xs) ≡ add_numbers (λ k. value (get_or xs k d)) i start
+  unfolding add_numbers
+  fold_to zero h = refl
+  fold_to (suc i) h =
+      ap (λ (n : ℕ). fold step start (take n xs)) (sym (add-one i)) ∙ fold_more step start xs i d (omega (arith, h))
+      ∙ ap (λ (c : Checksum). add_number c (value (get_or xs i d))) (fold_to i (omega (arith, h)))
+
+  fold_adds : fold step start xs ≡ add_numbers (λ k. value (get_or xs k d)) (length xs) start
+  fold_adds = ap (fold step start) (sym (take-length xs)) ∙ fold_to (length xs) (omega arith)
+
+-- ---- the words of a name, and the bytes behind them
+
+abbrev pub word_value : List ℕ → ℕ
+word_value w = from_le_bytes w32 w
+
+chunk_at : (n k : ℕ) (l : List ℕ) → k < n → get_or (first_chunks 4 n l) k [] ≡ take 4 (drop (4 * k) l)
+chunk_at zero k l h = absurd (omega (arith, h))
+chunk_at (suc n) zero l h = refl
+chunk_at (suc n) (suc k) l h =
+    chunk_at n k (drop 4 l) (omega (arith, h)) ∙ ap (take 4) (drop-drop (4 * k) 4 l ∙ ap (λ (j : ℕ). drop j l) (omega arith))
+
+byte_of_chunk : (l : List ℕ) (i j : ℕ) → j < 4 → get_or (take 4 (drop i l)) j 0 ≡ byte l (i + j)
+byte_of_chunk l i j h = get_or-take 4 (drop i l) j 0 h ∙ get_or-drop i l j 0
+
+word_of_chunk : (l : List ℕ) (i : ℕ) → word_value (take 4 (drop i l)) ≡ word_at l i
+word_of_chunk l i =
+    let w : List ℕ = take 4 (drop i l) in
+    let read : word_value w ≡ get_or w 0 0 + get_or w 1 0 * 256 + get_or w 2 0 * 256 ^ 2 + get_or w 3 0 * 256 ^ 3 = refl in
+    let first : byte l (i + 0) ≡ byte l i = ap (byte l) (omega arith) in
+    read ∙ word_read l i _ (omega (arith, first, byte_of_chunk l i 0 (omega arith), byte_of_chunk l i 1 (omega arith), byte_of_chunk l i 2 (omega arith), byte_of_chunk l i 3 (omega arith)))
+
+-- each is added as the number at its place
+pub words_added : (l : List ℕ) (n : ℕ) (ws : List (List ℕ)) → ws ≡ first_chunks 4 n l → length ws ≡ n → (start : Checksum)
+    → fold (λ c w. add_number c (word_value w)) start ws ≡ add_words l 0 n start
+words_added l n ws is long start =
+    fold_adds word_value start ws [] ∙ ap (λ (m : ℕ). add_numbers (λ k. word_value (get_or ws k [])) m start) long
+    ∙ numbers_alike _ _ start n (λ k h. ap (λ (xs : List (List ℕ)). word_value (get_or xs k [])) is ∙ ap word_value (chunk_at n k l h)
+    ∙ word_of_chunk l (4 * k) ∙ ap (word_at l) (omega arith))
+
+pub bytes_added : (l : List ℕ) (a n : ℕ) (bs : List ℕ) → bs ≡ drop a l → length bs ≡ n → (start : Checksum)
+    → fold (λ c b. add_number c b) start bs ≡ add_bytes l a n start
+bytes_added l a n bs is long start =
+    fold_adds (λ b. b) start bs 0 ∙ ap (λ (m : ℕ). add_numbers (λ k. get_or bs k 0) m start) long
+    ∙ numbers_alike _ _ start n (λ k h. ap (λ (xs : List ℕ). get_or xs k 0) is ∙ get_or-drop a l k 0)
 
 -- ---- the home of a name
 

@@ -1,5 +1,5 @@
 -- A map as a list of names and ids: entry j is what record j of the entries says. Then the entry that a search finds, and the map check.
-use Rattle.std.proofs.Common.{◌≡◌, ℕ, zero, suc, ◌+◌, ◌%◌, ◌<◌, ◌≤◌, Bool, true, false, not, ◌&&◌, cond, eqb, leb, ltb, ◌⊎◌, List, [], map, length, get_or, Option, Some, None}
+use Rattle.std.proofs.Common.{◌≡◌, ℕ, zero, suc, ◌%◌, ◌<◌, ◌≤◌, Bool, true, false, not, ◌&&◌, cond, eqb, leb, ltb, ◌⊎◌, List, [], map, length, get_or, Option, Some, None}
 use Rattle.std.proofs.Common.{sym, refl, ap, ◌∙◌, inl, inr, true≢false, eq-or-lt_of_le, arith, eq-eqb, ne_eqb, eqb-true, le-leb}
 use Rattle.std.specs.Option.{option_eq}
 use borrow.Author.Tests.{lt-leb, lt-ltb, le-ltb, ltb-true, ltb-false}

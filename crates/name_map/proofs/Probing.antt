@@ -2,7 +2,7 @@
 -- has a slot before every free one: so where the search comes to a free slot, there is no such entry.
 use Rattle.std.specs.Option.{unwrap_or}
 use Rattle.std.specs.Prelude.{is_some}
-use Rattle.std.proofs.Common.{◌≡◌, ℕ, ◌+◌, ◌-◌, ◌<◌, ◌≤◌, Bool, true, false, eqb, List, length, Option, Some, None, get_or, set, replicate, sym, refl, ap, ◌∙◌, subst, ⊎_elim, true≢false, arith, get_or-set_other, get_or-set_same, eq-eqb, ne_eqb, eqb-true}
+use Rattle.std.proofs.Common.{◌≡◌, ℕ, ◌+◌, ◌<◌, ◌≤◌, Bool, true, false, eqb, List, length, Option, Some, None, get_or, set, replicate, sym, refl, ap, ◌∙◌, subst, ⊎_elim, true≢false, arith, get_or-set_other, get_or-set_same, eq-eqb, ne_eqb, eqb-true}
 use Rattle.std.proofs.Math.Logic.{∥∥₁_map}
 use Rattle.std.proofs.lemmas.Grind.{not_there}
 use mathlib.Core.Bool.{false≢true}
@@ -26,11 +26,11 @@ use Rattle.name_map.proofs.Maps.{entry_first, distinct_read, found_some, found_n
 
 -- ---- the search; the loop stands at p
 
-module _ (es : List Entry) (slots name : List ℕ) where
+module _ (es : List Entry) (slots : List (Option ℕ)) (name : List ℕ) where
   -- slot p is taken by an entry of another name
   pub record TakenByOther (p : ℕ) : Type 0 where
-    pub taken : 0 < get_or slots p 0
-    pub other : same_bytes (nth es (get_or slots p 0 - 1)).name name ≡ false
+    pub taken : is_some (get_or slots p None) ≡ true
+    pub other : (i : ℕ) → get_or slots p None ≡ Some i → same_bytes (nth es i).name name ≡ false
 
   -- so are those from the home on to before p
   pub record Passed (p : ℕ) : Type 0 where
@@ -39,7 +39,7 @@ module _ (es : List Entry) (slots name : List ℕ) where
     pub each : (q : ℕ) → home_of name ≤ q → q < p → TakenByOther q
 
   module _ (p : ℕ) (P : Passed p) where
-    module _ (n : ℕ) (S : EntrySlots es n slots) (inside : p < slot_count) (free : get_or slots p 0 ≡ 0) where
+    module _ (n : ℕ) (S : EntrySlots es n slots) (inside : p < slot_count) (free : get_or slots p None ≡ None) where
       -- an entry of the name would have a slot that was passed
       not_any : (i : ℕ) → i < n → (nth es i).name ≡ name → ⊥
       not_any i h e =
@@ -48,9 +48,8 @@ module _ (es : List Entry) (slots name : List ℕ) where
         where
           was_passed : HasSlot slots i (home_of (nth es i).name) p → home_of (nth es i).name ≡ home_of name → ⊥
           was_passed own same =
-              let number : i ≡ get_or slots own.slot 0 - 1 = omega (arith, own.has) in
               let passed = P.each own.slot (omega (arith, same, own.from)) own.to in
-              true≢false (sym (same_self name) ∙ ap (λ (m : List ℕ). same_bytes m name) (sym e ∙ ap (λ (x : ℕ). (nth es x).name) number) ∙ passed.other)
+              true≢false (sym (same_self name) ∙ ap (λ (m : List ℕ). same_bytes m name) (sym e) ∙ passed.other i own.has)
 
       pub probe_free : FreeFor es n slots name p
       probe_free = record {
@@ -63,62 +62,70 @@ module _ (es : List Entry) (slots name : List ℕ) where
 
 -- ---- one entry more in the slots
 
+-- a slot is not both free and taken
+none_some : {i : ℕ} → None ≡ Some i → ⊥
+none_some q = false≢true (ap is_some q)
+
+number_same : (i j : ℕ) → Some i ≡ Some j → i ≡ j
+number_same i j q = ap (λ (o : Option ℕ). unwrap_or o i) q
+
 module _ (es : List Entry) where
-  pub slots_none : (l : List ℕ) → l ≡ replicate slot_count 0 → EntrySlots es 0 l
+  pub slots_none : (l : List (Option ℕ)) → l ≡ replicate slot_count None → EntrySlots es 0 l
   slots_none l e = record {
-    low = λ p. ⊎_elim
-        (λ g.
-        let past = get_or-eq_default {A = ℕ} (replicate slot_count 0) 0 {n = p} (omega (arith, g, length-replicate {A = ℕ} slot_count 0)) in
-        omega (arith, ap (λ (m : List ℕ). get_or m p 0) e, past))
-        (λ g. omega (arith, ap (λ (m : List ℕ). get_or m p 0) e, get_or-replicate {A = ℕ} slot_count p 0 0 g))
-        (le_or_lt slot_count p);
+    low = λ p i q. absurd (none_some (sym (all_free p) ∙ ap (λ (m : List (Option ℕ)). get_or m p None) (sym e) ∙ q));
     stands = λ i b h. absurd (omega (arith, h));
   }
+    where
+      all_free : (p : ℕ) → get_or {A = Option ℕ} (replicate slot_count None) p None ≡ None
+      all_free p = ⊎_elim
+          (λ g. get_or-eq_default {A = Option ℕ} (replicate slot_count None) None {n = p} (omega (arith, g, length-replicate {A = Option ℕ} slot_count None)))
+          (λ g. get_or-replicate {A = Option ℕ} slot_count p None None g)
+          (le_or_lt slot_count p)
 
-  module _ (k : ℕ) (l : List ℕ) (S : EntrySlots es k l) where
+  module _ (k : ℕ) (l : List (Option ℕ)) (S : EntrySlots es k l) where
     abbrev home : ℕ
     home = home_of (nth es k).name
 
     -- from the home of entry k on no slot is free
     pub slots_full : Taken l home slot_count → EntrySlots es (k + 1) l
     slots_full T = record {
-      low = λ p. omega (arith, S.low p);
+      low = λ p i q. omega (arith, S.low p i q);
       stands = λ i b h from inside free. ⊎_elim
           (λ w.
           let z : home_of (nth es i).name ≡ home = ap (λ (x : ℕ). home_of (nth es x).name) (omega (arith, h, w)) in
-          absurd (omega (arith, T.each b (omega (arith, z, from)) inside, free)))
+          absurd (false≢true (ap is_some (sym free) ∙ T.each b (omega (arith, z, from)) inside)))
           (λ w. S.stands i b w from inside free)
           (le_or_lt k i);
     }
 
     module _ (p : ℕ) (F : FreeFor es k l (nth es k).name p) (long : length l ≡ slot_count) where
-      abbrev l' : List ℕ
-      l' = set l p (k + 1)
+      abbrev l' : List (Option ℕ)
+      l' = set l p (Some k)
 
-      here : get_or l' p 0 ≡ k + 1
-      here = get_or-set_same l p (k + 1) 0 (omega (arith, F.inside, long))
+      here : get_or l' p None ≡ Some k
+      here = get_or-set_same l p (Some k) None (omega (arith, F.inside, long))
 
-      other : (q : ℕ) → (q ≡ p → ⊥) → get_or l' q 0 ≡ get_or l q 0
-      other q d = get_or-set_other l p q (k + 1) 0 d
+      other : (q : ℕ) → (q ≡ p → ⊥) → get_or l' q None ≡ get_or l q None
+      other q d = get_or-set_other l p q (Some k) None d
 
-      low' : (q : ℕ) → get_or l' q 0 ≤ k + 1
-      low' q = by (eqb q p) refl
+      low' : (q i : ℕ) → get_or l' q None ≡ Some i → i < k + 1
+      low' q i has = by (eqb q p) refl
         where
-          by : (t : Bool) → eqb q p ≡ t → get_or l' q 0 ≤ k + 1
-          by true e = omega (arith, ap (λ (x : ℕ). get_or l' x 0) (eqb-true q p e), here)
-          by false e = omega (arith, other q (eqb-false q p e), S.low q)
+          by : (t : Bool) → eqb q p ≡ t → i < k + 1
+          by true e = omega (arith, number_same k i (sym here ∙ ap (λ (x : ℕ). get_or l' x None) (sym (eqb-true q p e)) ∙ has))
+          by false e = omega (arith, S.low q i (sym (other q (eqb-false q p e)) ∙ has))
 
       -- a slot that is free still was free before, and is not the one that is taken now
-      module _ (b : ℕ) (inside : b < slot_count) (free : get_or l' b 0 ≡ 0) where
+      module _ (b : ℕ) (inside : b < slot_count) (free : get_or l' b None ≡ None) where
         not_here : b ≡ p → ⊥
-        not_here z = omega (arith, ap (λ (x : ℕ). get_or l' x 0) z, here, free)
+        not_here z = none_some (sym free ∙ ap (λ (x : ℕ). get_or l' x None) z ∙ here)
 
-        was_free : get_or l b 0 ≡ 0
+        was_free : get_or l b None ≡ None
         was_free = sym (other b not_here) ∙ free
 
         has_still : (i : ℕ) → HasSlot l i (home_of (nth es i).name) b → HasSlot l' i (home_of (nth es i).name) b
         has_still i own =
-            let apart : (own.slot ≡ p → ⊥) = λ z. omega (arith, ap (λ (x : ℕ). get_or l x 0) z, own.has, F.free) in
+            let apart : (own.slot ≡ p → ⊥) = λ z. none_some (sym F.free ∙ ap (λ (x : ℕ). get_or l x None) (sym z) ∙ own.has) in
             record { slot = own.slot; from = own.from; to = own.to; has = other own.slot apart ∙ own.has }
 
         stands_still : (i : ℕ) → i < k → home_of (nth es i).name ≤ b → ∥ HasSlot l' i (home_of (nth es i).name) b ∥₁
@@ -128,7 +135,7 @@ module _ (es : List Entry) where
         stands_new from = ∣ record { slot = p; from = F.from; to = ⊎_elim behind (λ w. w) (le_or_lt b p); has = here } ∣₁
           where
             behind : b ≤ p → p < b
-            behind w = absurd (omega (arith, F.taken.each b from (omega (arith, w, not_here)), was_free))
+            behind w = absurd (false≢true (ap is_some (sym was_free) ∙ F.taken.each b from (omega (arith, w, not_here))))
 
       pub slots_set : EntrySlots es (k + 1) l'
       slots_set = record {
@@ -162,12 +169,12 @@ abbrev pub firsts_below : List Entry → ℕ → Bool
 firsts_below es k = all_below (λ j. eqb (find_entry es (nth es j).name) j) k
 
 -- the search for the name of entry j has answered r
-pub record Searched (es : List Entry) (l : List ℕ) (j : ℕ) (r : Option Probed) : Type 0 where
+pub record Searched (es : List Entry) (l : List (Option ℕ)) (j : ℕ) (r : Option Probed) : Type 0 where
   pub inside : j < length es
   pub slots : EntrySlots es j l
   pub answer : Probes es j l (nth es j).name r
 
-module _ (es : List Entry) (l : List ℕ) where
+module _ (es : List Entry) (l : List (Option ℕ)) where
   pub searched : (j : ℕ) → j < length es → EntrySlots es j l → (name : List ℕ) → name ≡ (nth es j).name → (r : Option Probed) → Probes es j l name r
       → Searched es l j r
   searched j h S name own r P = record { inside = h; slots = S; answer = subst (λ (n : List ℕ). Probes es j l n r) own P }
@@ -176,7 +183,7 @@ module _ (es : List Entry) (l : List ℕ) where
     came : (q : Option Probed) → r ≡ q → Probes es j l (nth es j).name q
     came q e = subst (Probes es j l (nth es j).name) e N.answer
 
-    pub indexed_free : length l ≡ slot_count → (p : ℕ) → r ≡ Some (Free p) → EntryIndexed es j true (set l p (j + 1))
+    pub indexed_free : length l ≡ slot_count → (p : ℕ) → r ≡ Some (Free p) → EntryIndexed es j true (set l p (Some j))
     indexed_free long p e =
         let free : FreeFor es j l (nth es j).name p = came (Some (Free p)) e in
         record { is = first_new es j N.inside free.none; slots = λ _. slots_set es j l N.slots p free long }
@@ -223,7 +230,7 @@ module _ (es : List Entry) (l : List ℕ) where
 
 -- ---- the map check
 
-module _ (names entries l : List ℕ) where
+module _ (names entries : List ℕ) (l : List (Option ℕ)) where
   pub checked_no : false ≡ map_check names entries → MapChecked names entries None l
   checked_no e = record { is = e; map = λ m q. absurd (false≢true (ap is_some q)); index = λ m q. absurd (false≢true (ap is_some q)) }
 

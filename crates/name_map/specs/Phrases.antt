@@ -9,7 +9,7 @@ abbrev pub map_in : NameMap → List Entry
 map_in m = map (entry_of m.names.now) m.entries
 
 -- what the map check answers: the map that the names and the entries stand for, where it passes, with its slots
-pub record MapChecked (names entries : List ℕ) (r : Option NameMap) (l : List ℕ) : Type 0 where
+pub record MapChecked (names entries : List ℕ) (r : Option NameMap) (l : List (Option ℕ)) : Type 0 where
   pub is : is_some r ≡ map_check names entries
   pub map : (m : NameMap) → r ≡ Some m → map_in m ≡ entries_of names entries
   pub index : (m : NameMap) → r ≡ Some m → EntryIndex (map_in m) l

@@ -15,12 +15,6 @@ use area::list::Records;
 use area::{AreaName, Record, read_field, write_field};
 use text::range::part;
 
-// How many bytes an entry has.
-pub const MAP_WIDTH: usize = 6;
-
-// How many entries a map may have.
-pub const MOST_ENTRIES: usize = 2048;
-
 // Where an entry's name stands in the names of the map, and its id.
 #[derive(Clone, Copy, Debug, PartialEq, Eq)]
 pub struct MapEntry {
@@ -43,13 +37,13 @@ impl Record for MapEntry {
 
     const NAME: AreaName = AreaName::Entries;
 
-    const WIDTH: usize = MAP_WIDTH;
+    const WIDTH: usize = 6;
 
-    const MOST: usize = MOST_ENTRIES;
+    const MOST: usize = 2048;
 
     #[tactic(auto, unfolding(crate::specs::Map::map_entry_at, crate::specs::Map::map_entry_of, area::specs::Bytes::field_from))]
     fn read(area: &[u8], k: usize) -> MapEntry {
-        let at = k * MAP_WIDTH;
+        let at = k * Self::WIDTH;
         MapEntry {
             name_from: read_field(area, at),
             name_length: read_field(area, at + 2),
@@ -58,7 +52,8 @@ impl Record for MapEntry {
     }
 
     #[tactic(auto, unfolding(area::specs::Bytes::two, area::specs::Bytes::bytes, crate::specs::Map::map_entry_fields))]
-    fn write(self, area: &mut [u8], at: usize) {
+    fn write(self, area: &mut [u8], k: usize) {
+        let at = k * Self::WIDTH;
         write_field(area, at, self.name_from);
         write_field(area, at + 2, self.name_length);
         write_field(area, at + 4, self.id);

@@ -1,17 +1,18 @@
 -- The record of a name: what the test of one record says, and that the first that passes is the record that is looked for.
-use mathlib.Core.Path.{◌≡◌, refl, sym, ap, ◌∙◌}
+use mathlib.Core.Path.{◌≡◌, refl}
 use mathlib.Core.Bool.{Bool, true, false}
 use mathlib.Core.List.{List}
-use Prim.Native.Nat.{ℕ, ◌+◌, ◌≤◌, ◌<◌}
+use Prim.Native.Nat.{ℕ, ◌+◌}
 use borrow.Author.Rules.{rules}
 use borrow.Author.Tests.{eq-eqb, ne_eqb, eqb-true}
 use lib.Dec.{eqb}
 use lib.ListN.{length}
+use Rattle.std.proofs.lemmas.Bool.{and_parts}
 use Rattle.std.specs.Prelude.{Option}
+use Rattle.std.specs.Cmp.Lexicographic.{pointwise}
 use Rattle.characters.specs.Walk.{first, Below}
 use Rattle.text.specs.Range.{part, same_bytes, same_range}
-use Rattle.characters.proofs.Tests.{and_left, and_right}
-use Rattle.text.proofs.Ranges.{same_equal}
+use Rattle.text.proofs.Ranges.{same_equal, slices_same}
 use Rattle.area.specs.declared.State.{State}
 use Rattle.area.specs.declared.Rule.{Rule}
 use Rattle.area.specs.Records.{nth_state, nth_rule}
@@ -20,9 +21,9 @@ use Rattle.names.specs.Names.{initial, is_state, find_state, name_of, has_name, 
 -- ---- whether a record has the name
 
 module _ (s : List ℕ) (a e j : ℕ) (r : Bool) where
-  pub state_initial : (x : State) → j ≡ 0 → r ≡ same_range s a e initial 0 7 → (xs : List State) → nth_state xs j ≡ x → r ≡ is_state s a e xs j
+  pub state_initial : (cut : List ℕ) → j ≡ 0 → cut ≡ part s a e → r ≡ pointwise eqb cut initial → (xs : List State) → r ≡ is_state s a e xs j
   unfolding is_state
-  state_initial x z q xs is = rw (eq-eqb j 0 z) q
+  state_initial cut z is q xs = rw (eq-eqb j 0 z) (slices_same cut initial (part s a e) r is q)
 
   pub state_other : (x : State) → (j ≡ 0 → ⊥) → r ≡ same_range s a e s x.start x.end → (xs : List State) → nth_state xs j ≡ x → r ≡ is_state s a e xs j
   unfolding is_state
@@ -43,7 +44,7 @@ unfolding has_name same_range name_of
 named_same s a e x t =
     let test = eqb x.named 1 in
     let name = part s x.name_from (x.name_from + x.name_length) in
-    (eqb-true x.named 1 (and_left test (same_bytes (part s a e) name) t), same_equal (part s a e) name (and_right test (same_bytes (part s a e) name) t))
+    (eqb-true x.named 1 (and_parts test (same_bytes (part s a e) name) t).0, same_equal (part s a e) name (and_parts test (same_bytes (part s a e) name) t).1)
 
 pub ruleset comparing_names = (rules, state_initial, state_other, rule_unnamed, rule_compared)
 

@@ -1,21 +1,21 @@
--- Marks of names. Where the mark of a name is 0 no rule has the name, for the same bytes have the same mark; so a search that is spared would
+-- Marks of names. Where the mark of a name is not set no rule has the name, for the same bytes have the same mark; so a search that is spared would
 -- have found nothing.
 use mathlib.Core.Path.{◌≡◌, refl, sym, ap, subst, ◌∙◌}
-use mathlib.Core.Bool.{Bool, true, false}
-use mathlib.Core.List.{List, [], ◌∷◌}
+use mathlib.Core.Bool.{Bool, true, false, false≢true}
+use mathlib.Core.List.{List}
 use mathlib.Core.Logic.{⊎_elim}
 use Prim.Native.Nat.{ℕ, ◌+◌, ◌*◌, ◌%◌, ◌≤◌, ◌<◌}
 use native.Mathlib.Omega.{arith}
 use borrow.Author.Rules.{rules}
 use borrow.Author.Tests.{eqb-true, eqb-false}
 use lib.Dec.{eqb}
-use lib.ListN.{length, get_or, take, set, replicate, length-take, length-set, length-replicate}
+use lib.ListN.{length, get_or, take, set, length-take, length-set}
 use lib.Seq.{take_all, get_or-take, get_or-set_same, get_or-set_other}
 use Rattle.text.specs.Range.{part}
 use Rattle.characters.proofs.Tests.{le_or_lt}
 use Rattle.characters.proofs.Walks.{first_over, first_none}
 use Rattle.area.specs.declared.Rule.{Rule}
-use Rattle.area.specs.Records.{rule_at, nth_rule}
+use Rattle.area.specs.Records.{nth_rule}
 use Rattle.area.specs.Contents.{rule_format}
 use Rattle.names.specs.Names.{name_of, has_name, find_rule}
 use Rattle.names.specs.Marks.{mark_count, from_end, mark_of, Mark, Marked}
@@ -30,9 +30,9 @@ module _ (name : List ℕ) where
 
 pub ruleset marking = (rules, mark_made)
 
--- ---- a name whose mark is 0
+-- ---- a name whose mark is not set
 
-module _ (s : List ℕ) (xs : List Rule) (marks : List ℕ) (M : Marked s xs marks) (a e r : ℕ) (name : List ℕ) (cut : name ≡ part s a e) (q : Mark name r) (z : get_or marks r 0 ≡ 0) where
+module _ (s : List ℕ) (xs : List Rule) (marks : List Bool) (M : Marked s xs marks) (a e r : ℕ) (name : List ℕ) (cut : name ≡ part s a e) (q : Mark name r) (z : get_or marks r false ≡ false) where
   abbrev test : ℕ → Bool
   test j = has_name s a e (nth_rule xs j)
 
@@ -42,7 +42,7 @@ module _ (s : List ℕ) (xs : List Rule) (marks : List ℕ) (M : Marked s xs mar
       by : (t : Bool) → test j ≡ t → t ≡ false
       by true t =
           let (named, same) = named_same s a e (nth_rule xs j) t in
-          absurd (omega (arith, M.each j g named, z, ap (λ (k : ℕ). get_or marks k 0) (q.is ∙ ap mark_of (cut ∙ same))))
+          absurd (false≢true (sym z ∙ ap (λ (k : ℕ). get_or marks k false) (q.is ∙ ap mark_of (cut ∙ same)) ∙ M.each j g named))
       by false t = refl
 
   pub unmarked_missing : length xs ≡ find_rule s a e xs
@@ -54,24 +54,20 @@ module _ (s : List ℕ) (xs : List Rule) (marks : List ℕ) (M : Marked s xs mar
 
 -- ---- marks of the first k rules
 
--- marks that are all 0 are those of no rule
-pub marked_none : (s marks : List ℕ) → marks ≡ replicate mark_count 0 → Marked s [] marks
-marked_none s marks q = record { long = ap length q ∙ length-replicate {A = ℕ} mark_count 0; each = λ j h. absurd (omega (arith, h)) }
-
-module _ (s : List ℕ) (xs : List Rule) (marks : List ℕ) (k : ℕ) (M : Marked s (take k xs) marks) where
+module _ (s : List ℕ) (xs : List Rule) (marks : List Bool) (k : ℕ) (M : Marked s (take k xs) marks) where
   pub marked_all : length xs ≤ k → Marked s xs marks
   marked_all g = subst (λ (ys : List Rule). Marked s ys marks) (take_all k xs (omega arith)) M
 
   module _ (g : k < length xs) (x : Rule) (is : x ≡ nth_rule xs k) where
-    -- the mark of a rule's name is not 0 in other marks
-    abbrev MarkedIn : List ℕ → Rule → Type 0
-    MarkedIn others y = y.named ≡ 1 → 0 < get_or others (mark_of (name_of s y)) 0
+    -- the mark of a rule's name is set in other marks
+    abbrev MarkedIn : List Bool → Rule → Type 0
+    MarkedIn others y = y.named ≡ 1 → get_or others (mark_of (name_of s y)) false ≡ true
 
     among : (n j : ℕ) → j < n → nth_rule (take n xs) j ≡ nth_rule xs j
     among n j u = get_or-take n xs j rule_format.blank u
 
     -- marks that keep those before and have the mark of rule k
-    marked_next : (others : List ℕ) → length others ≡ mark_count → ((i : ℕ) → 0 < get_or marks i 0 → 0 < get_or others i 0) → MarkedIn others x
+    marked_next : (others : List Bool) → length others ≡ mark_count → ((i : ℕ) → get_or marks i false ≡ true → get_or others i false ≡ true) → MarkedIn others x
         → Marked s (take (k + 1) xs) others
     marked_next others long keeps new = record {
       long = long;
@@ -89,20 +85,20 @@ module _ (s : List ℕ) (xs : List Rule) (marks : List ℕ) (k : ℕ) (M : Marke
     marked_passed t is f = marked_next marks M.long (λ i u. u) (λ named. absurd (eqb-false x.named 1 (sym is ∙ f) named))
 
     module _ (r z : ℕ) (end : z ≡ x.name_from + x.name_length) (q : Mark (part s x.name_from z) r) where
-      at_mark : get_or (set marks r 1) r 0 ≡ 1
-      at_mark = get_or-set_same marks r 1 0 (omega (arith, q.small, M.long))
+      at_mark : get_or (set marks r true) r false ≡ true
+      at_mark = get_or-set_same marks r true false (omega (arith, q.small, M.long))
 
-      keeps_marks : (i : ℕ) → 0 < get_or marks i 0 → 0 < get_or (set marks r 1) i 0
+      keeps_marks : (i : ℕ) → get_or marks i false ≡ true → get_or (set marks r true) i false ≡ true
       keeps_marks i u = by (eqb i r) refl
         where
-          by : (t : Bool) → eqb i r ≡ t → 0 < get_or (set marks r 1) i 0
-          by true t = omega (arith, ap (λ (j : ℕ). get_or (set marks r 1) j 0) (eqb-true i r t), at_mark)
-          by false t = omega (arith, u, get_or-set_other marks r i 1 0 (eqb-false i r t))
+          by : (t : Bool) → eqb i r ≡ t → get_or (set marks r true) i false ≡ true
+          by true t = ap (λ (j : ℕ). get_or (set marks r true) j false) (eqb-true i r t) ∙ at_mark
+          by false t = get_or-set_other marks r i true false (eqb-false i r t) ∙ u
 
-      pub marked-set : Marked s (take (k + 1) xs) (set marks r 1)
+      pub marked-set : Marked s (take (k + 1) xs) (set marks r true)
       unfolding name_of
       marked-set =
-          marked_next (set marks r 1) (length-set marks r 1 ∙ M.long) keeps_marks
-          (λ t. omega (arith, at_mark, ap (λ (j : ℕ). get_or (set marks r 1) j 0) (q.is ∙ ap (λ (e : ℕ). mark_of (part s x.name_from e)) end)))
+          marked_next (set marks r true) (length-set marks r true ∙ M.long) keeps_marks
+          (λ t. ap (λ (j : ℕ). get_or (set marks r true) j false) (sym (q.is ∙ ap (λ (e : ℕ). mark_of (part s x.name_from e)) end)) ∙ at_mark)
 
 pub ruleset marking_rules = (rules, marked_all, marked_passed, marked-set)

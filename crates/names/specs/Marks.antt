@@ -1,6 +1,6 @@
 -- Marks of names; 01 has none. A name is compared with the names of the rules only where its mark is set, so the answer of a search never
 -- depends on the marks.
-use Rattle.std.specs.Prelude.{ℕ, ◌+◌, ◌*◌, ◌-◌, ◌%◌, ◌<◌, ◌≡◌, List, length, get_or}
+use Rattle.std.specs.Prelude.{ℕ, ◌+◌, ◌*◌, ◌-◌, ◌%◌, ◌<◌, ◌≡◌, Bool, true, false, List, length, get_or}
 use Rattle.area.specs.declared.Rule.{Rule}
 use Rattle.area.specs.Records.{nth_rule}
 use Rattle.names.specs.Names.{name_of, DistinctNames}
@@ -23,12 +23,12 @@ pub record Mark (name : List ℕ) (r : ℕ) : Type 0 where
   pub is : r ≡ mark_of name
   pub small : r < mark_count
 
--- the marks of the names of the rules xs are not 0
-pub record Marked (s : List ℕ) (xs : List Rule) (marks : List ℕ) : Type 0 where
+-- the marks of the names of the rules xs are set
+pub record Marked (s : List ℕ) (xs : List Rule) (marks : List Bool) : Type 0 where
   pub long : length marks ≡ mark_count
-  pub each : (j : ℕ) → j < length xs → (nth_rule xs j).named ≡ 1 → 0 < get_or marks (mark_of (name_of s (nth_rule xs j))) 0
+  pub each : (j : ℕ) → j < length xs → (nth_rule xs j).named ≡ 1 → get_or marks (mark_of (name_of s (nth_rule xs j))) false ≡ true
 
 -- what a search may use of the rules xs: the marks of their names, and that no two of them have the same name
-pub record NamesHeld (s : List ℕ) (xs : List Rule) (marks : List ℕ) : Type 0 where
+pub record NamesHeld (s : List ℕ) (xs : List Rule) (marks : List Bool) : Type 0 where
   pub marked : Marked s xs marks
   pub distinct : DistinctNames s xs

@@ -3,7 +3,7 @@ use Rattle.std.specs.Prelude.{ℕ, ◌+◌, ◌<◌, ◌≡◌, Bool, cond, not,
 use Rattle.characters.specs.Class.{among, is_letter, is_digit}
 use Rattle.characters.specs.Walk.{first}
 use Rattle.characters.specs.Whitespace.{byte}
-use Rattle.text.specs.Range.{part, same_range}
+use Rattle.text.specs.Range.{part, same_bytes, same_range}
 use Rattle.area.specs.declared.State.{State}
 use Rattle.area.specs.declared.Rule.{Rule}
 use Rattle.area.specs.Records.{nth_state, nth_rule}
@@ -26,7 +26,7 @@ initial = 0x49 ∷ 0x4e ∷ 0x49 ∷ 0x54 ∷ 0x49 ∷ 0x41 ∷ 0x4c ∷ []
 
 -- the state j has the name from a to e: state 0 is INITIAL, the others' names stand at their spans (01, Areas, 1)
 unfoldable pub is_state : List ℕ → ℕ → ℕ → List State → ℕ → Bool
-is_state s a e xs j = cond (eqb j 0) (same_range s a e initial 0 7) (same_range s a e s (nth_state xs j).start (nth_state xs j).end)
+is_state s a e xs j = cond (eqb j 0) (same_bytes (part s a e) initial) (same_range s a e s (nth_state xs j).start (nth_state xs j).end)
 
 -- the state of that name; the number of states where there is none (01, Declarations and Rules)
 unfoldable pub find_state : List ℕ → ℕ → ℕ → List State → ℕ

@@ -5,18 +5,21 @@
 pub mod marks; // marks of the names of rules
 
 ghost use Rattle.std.specs.Prelude.{List, ◌≡◌, ◌≤◌, ◌<◌, length};
+ghost use Rattle.std.specs.List.{list_all};
 ghost use Rattle.characters.specs.Walk.{Below};
 ghost use Rattle.area.specs.declared.State.{State};
 ghost use Rattle.area.specs.Records.{nth_state, nth_rule};
-ghost use Rattle.names.specs.Names.{all_bytes, is_name_byte, is_state_name, is_state, find_state, has_name, find_rule};
+ghost use Rattle.names.specs.Names.{is_name_byte, is_state_name, is_state, find_state, has_name, find_rule};
 ghost use Rattle.names.specs.Marks.{NamesHeld};
 
 use crate::marks::{MARKS, mark_of};
 use area::list::Records;
 use area::{Rule, State};
 use characters::class::{is_digit, is_letter};
-use characters::walk::find;
 use text::range::{part, same_range};
+
+// The name of state 0.
+const INITIAL: &[u8] = b"INITIAL";
 
 #[tactic(auto, using(crate::proofs::Forms::name_byte))]
 fn is_name_byte(b: u8) -> bool
@@ -25,12 +28,10 @@ fn is_name_byte(b: u8) -> bool
     is_letter(b) | (is_digit(b) | ((b == b'_') | (b == b'.')))
 }
 
-// Whether the bytes from a to before e are all bytes of names.
-fn all_name_bytes(src: &[u8], a: usize, e: usize) -> bool
-    requires { (a ≤ e) × (e ≤ length src.now) }
-    ensures { result ≡ all_bytes is_name_byte src.now a e }
+fn all_name_bytes(bytes: &[u8]) -> bool
+    ensures { result ≡ list_all is_name_byte bytes.now }
 {
-    find(a, e, |k| !is_name_byte(src[k])) == e
+    bytes.iter().all(|&b| is_name_byte(b))
 }
 
 // Whether the bytes from a to e have the form of a state's name.
@@ -39,13 +40,7 @@ pub fn validate_start_state_name(src: &[u8], a: usize, e: usize) -> bool
     requires { e ≤ length src.now }
     ensures { result ≡ is_state_name src.now a e }
 {
-    if e <= a {
-        return false;
-    }
-    if is_letter(src[a]) {
-        return all_name_bytes(src, a + 1, e);
-    }
-    false
+    a < e && is_letter(src[a]) && all_name_bytes(&src[a + 1..e])
 }
 
 // Whether the state j, whose record is x, has the name from a to e: `position` gives it j and x. The span of state 0 is empty, so its name is no part
@@ -55,7 +50,7 @@ fn is_state(src: &[u8], a: usize, e: usize, j: usize, x: State) -> bool
     ensures { (xs : List State) → nth_state xs j ≡ x → result ≡ is_state src.now a e xs j }
 {
     if j == 0 {
-        return same_range(src, a, e, b"INITIAL", 0, 7);
+        return part(src, a, e) == INITIAL;
     }
     same_range(src, a, e, src, x.start as usize, x.end as usize)
 }
@@ -85,12 +80,16 @@ fn has_name(src: &[u8], a: usize, e: usize, x: Rule) -> bool
 pub struct NamedRules<'a> {
     source: &'a [u8],
     rules: Records<'a, Rule>,
-    marks: &'a [u8; MARKS],
+    marks: &'a [bool; MARKS],
     ghost names: { NamesHeld source.now rules marks.now },
 }
 
 impl<'a> NamedRules<'a> {
-    pub fn new(source: &'a [u8], rules: Records<'a, Rule>, marks: &'a [u8; MARKS]) -> NamedRules<'a>
+    pub fn new(
+        source: &'a [u8],
+        rules: Records<'a, Rule>,
+        marks: &'a [bool; MARKS],
+    ) -> NamedRules<'a>
         requires { NamesHeld source.now rules marks.now }
         ensures source { result.source.now ≡ source.now }
         ensures rules { result.rules ≡ rules.entry }
@@ -117,12 +116,13 @@ impl<'a> NamedRules<'a> {
         self.rules.position(|_, x| has_name(source, a, e, x))
     }
 
-    // The rule whose name stands from a to e. Where the mark of the name is 0 no rule has it, and none is looked at.
+    // The rule whose name stands from a to e. Where the name's mark is not set no rule has it, and none is looked at.
+    #[tactic(auto, using(crate::proofs::Marking::unmarked_missing))]
     pub fn find(&self, a: usize, e: usize) -> Option<usize>
         ensures { Below (length self.now.rules) (find_rule self.now.source.now a e self.now.rules) result }
     {
         let at = mark_of(part(self.source, a, e));
-        if self.marks[at] == 0 {
+        if !self.marks[at] {
             return None;
         }
         self.search(a, e)

@@ -33,7 +33,7 @@ pub fn mark_of(name: &[u8]) -> usize
 
 // The marks of the names of the rules from k on.
 #[tactic(auto, using(crate::proofs::Marking::marking_rules))]
-pub fn mark_rules(src: &[u8], rules: &Records<Rule>, k: usize, marks: &mut [u8; MARKS])
+pub fn mark_rules(src: &[u8], rules: &Records<Rule>, k: usize, marks: &mut [bool; MARKS])
     requires { Marked src.now (take k rules.now) marks.old }
     ensures { Marked src.now rules.now marks.new }
 {
@@ -43,6 +43,6 @@ pub fn mark_rules(src: &[u8], rules: &Records<Rule>, k: usize, marks: &mut [u8; 
             continue;
         }
         let at = mark_of(part(src, x.name_from as usize, x.name_end()));
-        marks[at] = 1;
+        marks[at] = true;
     }
 }

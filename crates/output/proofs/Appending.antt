@@ -1,16 +1,16 @@
 -- Appending to a text of limited length: nothing, one text behind another, and the texts of a list. Once it is full it stays as it is, so that
 -- none of these laws asks for room.
-use mathlib.Core.Path.{◌≡◌, sym, ap, ap₂, ◌∙◌}
+use mathlib.Core.Path.{◌≡◌, refl, sym, ap, ◌∙◌}
 use mathlib.Core.List.{List, [], ◌++◌, append_assoc, append-nil}
 use Prim.Native.Nat.{ℕ, ◌+◌, ◌-◌, ◌≤◌, ◌<◌, min}
 use native.Mathlib.Omega.{arith}
 use native.Mathlib.Numerals.{add-one}
-use lib.ListN.{length, take, drop, length-append, length-take, length-drop}
-use lib.Seq.{length-take-le, take_all, take-append-le, take-append-add}
-use Rattle.std.proofs.Common.{inl, inr}
+use lib.ListN.{length, take, length-append, length-take}
+use lib.Seq.{take_all, take-append-le, take-append-add}
+use Rattle.std.specs.Prelude.{Result, Ok, Some}
+use Rattle.std.specs.Io.KnownBytes.{WriteAppends}
+use Rattle.std.proofs.Common.{inl, inr, subst}
 use Rattle.std.proofs.lemmas.Bool.{cases_lt}
-use Rattle.std.proofs.lemmas.Slice.{take-put_mid}
-use borrow.Rule.Slice.PartMut.{put_mid}
 use Rattle.output.specs.Output.{appended, joined}
 
 -- what is taken of two texts is taken of the first, and then of the second
@@ -48,23 +48,21 @@ module _ (n : ℕ) (t : List ℕ) where
   pub appended_next : (v w : List ℕ) {a e : List ℕ} → e ≡ appended n a w → a ≡ appended n t v → e ≡ appended n t (v ++ w)
   appended_next v w p q = p ∙ ap (λ (u : List ℕ). appended n u w) q ∙ appended_then v w
 
--- ---- bytes that are written behind the first of a buffer
+-- ---- bytes that a write appends, as many as there is room for
 
-take_most : (r m : ℕ) (s : List ℕ) → r ≡ min (length s) m → take r s ≡ take m s
+take_most : (r m : ℕ) (s : List ℕ) → r ≡ min m (length s) → take r s ≡ take m s
 take_most r m s z = elim (cases_lt m (length s)) [
   | inl h ↦ let y : r ≡ m = omega arith in ap (λ (k : ℕ). take k s) y
   | inr h ↦ take_all r s (omega arith) ∙ sym (take_all m s h)
 ]
 
-pub written_behind : (n a k r : ℕ) (l t s v : List ℕ) → length l ≡ n → a ≤ n → take a l ≡ t → v ≡ take r s → r ≡ min (length s) (n - a)
-    → take (a + r) (put_mid a k l v) ≡ appended n t s
+pub written_appended : {E : Type 0} (n : ℕ) (t u s : List ℕ) (r : Result ℕ E)
+    → WriteAppends (Some t) (Some u) r s → r ≡ Ok (min (n - length t) (length s)) → u ≡ appended n t s
 unfolding appended
-written_behind n a k r l t s v long few is part fits =
-    let w : length v ≡ r = ap length part ∙ length-take-le r s (omega arith) in
-    let z : length t ≡ a = ap length (sym is) ∙ length-take-le a l (omega arith) in
-    let y : n - a ≡ n - length t = omega arith in
-    take-put_mid a k l v (a + r) (omega arith) (omega arith)
-    ∙ ap₂ (λ (x u : List ℕ). x ++ u) is (part ∙ take_most r (n - a) s fits ∙ ap (λ (m : ℕ). take m s) y)
+written_appended {E} n t u s r written count =
+    let m = min (n - length t) (length s) in
+    subst (λ (x : Result ℕ E). WriteAppends (Some t) (Some u) x s) count written
+    ∙ ap (λ (v : List ℕ). t ++ v) (take_most m (n - length t) s refl)
 
 -- the texts of a list, one behind the other
 module _ (n : ℕ) (t : List ℕ) (f : ℕ → List ℕ) where

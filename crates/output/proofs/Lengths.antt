@@ -4,8 +4,8 @@ use mathlib.Core.List.{List, [], ◌∷◌, ◌++◌}
 use native.Mathlib.Omega.{arith}
 use lib.Dec.{ltb}
 use lib.ListN.{length, drop, length-append, length-take}
+use Rattle.std.proofs.lemmas.Bool.{cond_both}
 use Rattle.text.specs.Range.{part}
-use Rattle.characters.proofs.Tests.{by_test}
 use Rattle.area.specs.Bytes.{bytes}
 use Rattle.output.specs.Output.{joined, digit_at, tens, decimal, printed_field, printed_fields}
 
@@ -25,7 +25,7 @@ append_most {a} {b} h g = record { most = omega (arith, length-append a b, h.mos
 digit_most : (x power : ℕ) → Most (digit_at x power) 1
 unfolding digit_at
 digit_most x power =
-    by_test (λ t. Most t 1) (ltb x power) [] ((48 + x / power % 10) ∷ [])
+    cond_both (ltb x power) [] ((48 + x / power % 10) ∷ []) (λ t. Most t 1)
     (λ _. record { most = omega arith })
     (λ _. record { most = omega arith })
 

@@ -20,12 +20,12 @@ pub fn field_at(area: &[u8], at: usize) -> u16
 impl<const N: usize> Text<N> {
     // The m fields from a place on. Every record that a count of 16 bits tells starts below 65,536 × 28.
     #[tactic(auto, using(crate::proofs::AreaFields::field_printing))]
-    pub fn push_fields(&mut self, area: &[u8], at: usize, m: u16)
+    pub fn push_fields(&mut self, area: &[u8], at: usize, m: usize)
         requires { (at ≤ 1835008) × (m ≤ 14) }
         ensures { self.new ≡ appended N self.old (printed_fields_at area.now at m) }
     {
         for j in 0..m {
-            self.push_field(field_at(area, at + 2 * j as usize));
+            self.push_field(field_at(area, at + 2 * j));
         }
     }
 }

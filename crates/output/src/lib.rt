@@ -7,25 +7,24 @@ ghost use Rattle.std.specs.Prelude.{◌≡◌, ◌∷◌, [], ◌≤◌};
 ghost use Rattle.text.specs.Range.{part};
 ghost use Rattle.output.specs.Output.{appended, newline, printed_field};
 
+use arrayvec::ArrayVec;
 use itoa::Buffer;
+use std::io::Write;
 use std::marker::Model;
 use text::range::part;
 
 // At most N bytes of text.
 #[derive(Drop)]
 pub struct Text<const N: usize> {
-    bytes: [u8; N],
-    length: usize,
+    bytes: ArrayVec<u8, N>,
 }
 
 impl<const N: usize> Model for Text<N> {
-    ghost use Rattle.std.specs.Prelude.{ℕ, ◌≤◌, List, take};
+    ghost use Rattle.std.specs.Prelude.{ℕ, List};
 
     ghost Value = { List ℕ };
 
-    ghost view = { λ t. take t.length t.bytes };
-
-    ghost invariant = { λ t. t.length ≤ N };
+    ghost view = { λ t. t.bytes.items };
 }
 
 impl<const N: usize> Text<N> {
@@ -33,31 +32,26 @@ impl<const N: usize> Text<N> {
         ensures { result ≡ [] }
     {
         Text {
-            bytes: [0; N],
-            length: 0,
+            bytes: ArrayVec::new(),
         }
     }
 
     pub fn as_slice(&self) -> &[u8]
         ensures { result.now ≡ self.now }
     {
-        &self.bytes[..self.length]
+        self.bytes.as_slice()
     }
 
     pub fn clear(&mut self)
         ensures { self.new ≡ [] }
     {
-        self.length = 0;
+        self.bytes.clear();
     }
 
     pub fn push_text(&mut self, s: &[u8])
         ensures { self.new ≡ appended N self.old s.now }
     {
-        let start = self.length;
-        let length = s.len().min(N - start);
-        let bytes = &mut self.bytes[..];
-        bytes[start..start + length].copy_from_slice(&s[..length]);
-        self.length = start + length;
+        let _count = self.bytes.write(s);
     }
 
     // The bytes of s from a place up to another, as far as s has them.

@@ -22,7 +22,6 @@ use Rattle.area.specs.declared.Fault.{Fault as FaultSpan}
 use Rattle.area.specs.declared.AreaFull.{AreaFull}
 use Rattle.area.specs.declared.AreaName.{AreaName}
 use Rattle.area.specs.declared.AreaName.TheVariants as N
-use Rattle.area.specs.Names.{area_number}
 use Rattle.area.specs.Bytes.{zeros}
 use Rattle.area.specs.Areas.{Pushed}
 use Rattle.area.specs.Records.{state_width, most_states, state_bytes}
@@ -30,14 +29,15 @@ use Rattle.area.specs.Contents.{list_of, contents, state_format, rule_format, en
 use Rattle.area.proofs.Contents.{state_sound, rule_sound, entry_sound, text_sound, expected_sound, fault_sound, held_empty, held_push, contents-length}
 use Rattle.fault.specs.declared.Stop.{Stop}
 use Rattle.fault.specs.declared.Stop.TheVariants.{Fault, Full}
-use Rattle.fault.specs.declared.kinds.LexErrorKind.{LexErrorKind}
+use Rattle.fault.specs.declared.kinds.LexError.{LexError}
 use Rattle.fault.specs.Kinds.{kind_number}
 use Rattle.fault.specs.Step.{Out, go, bad, full, next, onto, written, loop, outcome, Does}
 use Rattle.fault.specs.Faults.{PrematureEnd, add_fault, HeldFaults, GrowsFaults}
 use Rattle.fault.proofs.Steps.{IsFault, does_full, bad_goes, full_goes, onto_err, was_ok, holds_ok, holds_err}
 use Rattle.names.specs.Names.{DistinctNames}
 use Rattle.names.proofs.Distinct.{distinct_none}
-use Rattle.section.specs.Request.{Options, Request}
+use Rattle.section.specs.declared.options.Options.{Options}
+use Rattle.section.specs.Request.{Request}
 use Rattle.section.specs.Section.{percents, in_section, to_declaration}
 use Rattle.section.proofs.Lines.{ahead_within}
 use Rattle.declarations.specs.declared.DeclarationCounts.{DeclarationCounts}
@@ -50,7 +50,7 @@ use Rattle.rules_section.specs.Answers.{ruled_in, HeldRuled, rule_caps_of}
 use Rattle.parse.specs.declared.FileCounts.{FileCounts}
 use Rattle.parse.specs.declared.ParseError.{ParseError}
 use Rattle.parse.specs.declared.ParseError.TheVariants.{LongFile, UnknownFlag, InvalidUtf8, AreaFull as NoRoom, FaultyFile}
-use Rattle.parse.specs.Parse.{Caps, Outcome, accepted, faulty, area_full, caps, closed, ending, judge, contents_of, rules_from, undeclared}
+use Rattle.parse.specs.Parse.{Caps, Outcome, accepted, faulty, area_full, caps, closed, ending, judge, contents_of, rules_from}
 use Rattle.parse.specs.Parse.{with_states, opening, file}
 use Rattle.parse.specs.Answers.{stopped, Refuses, nothing_ruled, judged_by, contents_in, HeldFile, Parses, Zeroed}
 
@@ -66,7 +66,7 @@ module _ (s : List ℕ) (options : Options) (l1 l5 l6 : List ℕ) (q : Declarati
       Does (HeldDeclared v1 v5 v6) (opening s options (caps_of (length l1) (length l5) (length l6))) (declared_in l1 l5 l6 q) (declared_in v1 v5 v6) o
 
   abbrev on : Math.Option (List State) → Out Declared
-  on a = next (onto (with_states (declared_in l1 l5 l6 q)) (written 1 0 a)) (declarations s options (caps_of (length l1) (length l5) (length l6)))
+  on a = next (onto (with_states (declared_in l1 l5 l6 q)) (written N.States 0 a)) (declarations s options (caps_of (length l1) (length l5) (length l6)))
 
   is_opening : (a : Result ℕ AreaFull) → p ≡ a
       → opening s options (caps_of (length l1) (length l5) (length l6)) (declared_in l1 l5 l6 q) ≡ on (left_by state_format e1 a)
@@ -100,15 +100,24 @@ pub ruleset opening_up = (rules, opening_held)
 abbrev pub nothing_declared : DeclarationCounts
 nothing_declared = record { names = record { states = 0; faults = 0 }; expected = 0 }
 
+-- that the counts are all zero, as those of `default`
+abbrev pub AllZero : DeclarationCounts → Type 0
+AllZero q = ((q.names.states ≡ 0) × (q.names.faults ≡ 0)) × (q.expected ≡ 0)
+
+nothing_is : {q : DeclarationCounts} → AllZero q → q ≡ nothing_declared
+nothing_is z = λ i. record { names = record { states = z.0.0 i; faults = z.0.1 i }; expected = z.1 i }
+
 zero_faults : (l : List ℕ) → l ≡ zeros (length l) → HeldFaults l 0
 unfolding contents list_of
 zero_faults l z = record { held = held_empty fault_sound l z; numbered = record { low = λ j h. absurd (omega (arith, h)) } }
 
-pub nothing_held : {l1 l2 l3 l4 l5 l6 : List ℕ} → Zeroed l1 l2 l3 l4 l5 l6 → HeldDeclared l1 l5 l6 nothing_declared
-nothing_held {l1} {l5 = l5} {l6 = l6} z = record {
-  names = record { states = held_empty state_sound l1 z.is1; faults = zero_faults l6 z.is6 };
-  expected = held_empty expected_sound l5 z.is5;
-}
+pub nothing_held : {l1 l2 l3 l4 l5 l6 : List ℕ} → Zeroed l1 l2 l3 l4 l5 l6 → {q : DeclarationCounts} → AllZero q → HeldDeclared l1 l5 l6 q
+nothing_held {l1} {l5 = l5} {l6 = l6} z nothing =
+    rw (nothing_is nothing)
+    (record {
+      names = record { states = held_empty state_sound l1 z.is1; faults = zero_faults l6 z.is6 };
+      expected = held_empty expected_sound l5 z.is5;
+    })
 
 -- no rules yet, so no two with the same name
 pub no_names : (s l : List ℕ) → DistinctNames s (contents rule_format l 0)
@@ -132,17 +141,17 @@ module _ (s : List ℕ) (j : ℕ) (x : Declared) where
   next_inside : (o : Out Declared) → next o (end_declarations s) ≡ go j x → j ≤ length s
   next_inside (go i d) e = end_inside i d e
   next_inside (bad kind at d) e = absurd (bad_goes e)
-  next_inside (full n) e = absurd (full_goes e)
+  next_inside (full name) e = absurd (full_goes e)
 
   declarations_inside : (options : Options) (k : D.Caps) (i : ℕ) (d : Declared) → declarations s options k i d ≡ go j x → j ≤ length s
   unfolding declarations
-  declarations_inside options k i d e = next_inside (loop (length s) (in_section s) (next_declaration s options k) (to_declaration s options.flags i) d) e
+  declarations_inside options k i d e = next_inside (loop (length s) (in_section s) (next_declaration s options k) (to_declaration s options i) d) e
 
   opening_inside : (options : Options) (k : D.Caps) (d : Declared) → opening s options k d ≡ go j x → j ≤ length s
   unfolding opening
   opening_inside options k d e = by (append state_format k.c1 (state 0 0 0 ∷ []) d.states) e
     where
-      by : (a : Math.Option (List State)) → next (onto (with_states d) (written 1 0 a)) (declarations s options k) ≡ go j x → j ≤ length s
+      by : (a : Math.Option (List State)) → next (onto (with_states d) (written N.States 0 a)) (declarations s options k) ≡ go j x → j ≤ length s
       by none z = absurd (full_goes z)
       by (some xs) z = declarations_inside options k 0 (with_states d xs) z
 
@@ -165,10 +174,10 @@ tag : ParseError → ℕ
 tag LongFile = 0
 tag UnknownFlag = 1
 tag InvalidUtf8 = 2
-tag (NoRoom n) = 3
+tag (NoRoom name) = 3
 tag (FaultyFile n) = 4
 
-refuses_full : {o : Outcome} {l6 : List ℕ} {n : ℕ} → o ≡ area_full n → Refuses o l6 (NoRoom n)
+refuses_full : {o : Outcome} {l6 : List ℕ} {name : AreaName} → o ≡ area_full name → Refuses o l6 (NoRoom name)
 unfolding tag
 refuses_full e = record { says = e; faults = λ m z. absurd (omega (arith, ap tag z)) }
 
@@ -179,11 +188,11 @@ refuses_faulty {l6 = l6} {n} e h = record { says = e; faults = λ m z. subst (He
     spans z = cc
 
 module _ (cap : ℕ) (fs : List FaultSpan) (l6 : List ℕ) (stop : Stop) where
-  pub close_full : (name : AreaName) → stop ≡ Full name → (n : ℕ) → n ≡ area_number name → Refuses (stopped cap fs stop) l6 (NoRoom n)
-  close_full name z n e = refuses_full (ap (stopped cap fs) z ∙ ap area_full (sym e))
+  pub close_full : (name : AreaName) → stop ≡ Full name → Refuses (stopped cap fs stop) l6 (NoRoom name)
+  close_full name z = refuses_full (ap (stopped cap fs) z)
 
-module _ (w6 : List ℕ) (faults : ℕ) (stop : Stop) (kind : LexErrorKind) (at : ℕ) (z : stop ≡ Fault kind at) (p : Result ℕ AreaFull) {v6 : List ℕ}
-    (g : GrowsFaults (add_fault (length w6) (kind_number kind) at at) w6 faults p v6) where
+module _ (w6 : List ℕ) (faults : ℕ) (stop : Stop) (error : LexError) (z : stop ≡ Fault error) (p : Result ℕ AreaFull) {v6 : List ℕ}
+    (g : GrowsFaults (add_fault (length w6) (kind_number error.kind) error.at error.at) w6 faults p v6) where
   abbrev ends : Outcome
   ends = stopped (length w6) (contents fault_format w6 faults) stop
 
@@ -194,10 +203,9 @@ module _ (w6 : List ℕ) (faults : ℕ) (stop : Stop) (kind : LexErrorKind) (at 
   unfolding closed
   close_fault n y = refuses_faulty (is (Ok n) y) (g.held n y).held
 
-  pub close_no_room : (no_room : AreaFull) → p ≡ Err no_room → (n : ℕ) → n ≡ area_number no_room.0 → Refuses ends v6 (NoRoom n)
+  pub close_no_room : (no_room : AreaFull) → p ≡ Err no_room → Refuses ends v6 (NoRoom no_room.0)
   unfolding closed
-  close_no_room no_room y n e =
-      refuses_full (is (Err no_room) y ∙ ap area_full (sym (e ∙ ap (λ (x : AreaFull). area_number x.0) (g.names no_room y))))
+  close_no_room no_room y = refuses_full (is (Err no_room) y ∙ ap (λ (x : AreaFull). area_full x.0) (sym (g.names no_room y)))
 
 pub ruleset closing = (rules, close_full, close_fault, close_no_room)
 
@@ -229,15 +237,24 @@ module _ {o : Outcome} {l1 l2 l3 l4 l5 l6 : List ℕ} where
 -- a section that stops ends the file
 ending_err : {S : Type 0} (faults : S → List FaultSpan) (cap : ℕ) (s : S) (g : ℕ → S → Outcome) (y : Stop)
     → ending faults cap (outcome (Err y) s) g ≡ stopped cap (faults s) y
-ending_err faults cap s g (Fault kind at) = refl
+ending_err faults cap s g (Fault error) = refl
 ending_err faults cap s g (Full name) = refl
 
-is_fault : (y : Stop) (kind : LexErrorKind) (at : ℕ) → y ≡ Fault kind at → IsFault y
-is_fault y kind at e = subst IsFault (sym e) tt
+is_fault : (y : Stop) (error : LexError) → y ≡ Fault error → IsFault y
+is_fault y error e = subst IsFault (sym e) tt
 
-module _ (asked : Request) (l1 l2 l3 l4 l5 l6 : List ℕ) (zero : Zeroed l1 l2 l3 l4 l5 l6) (v1 v5 w6 : List ℕ) (r : Result ℕ Stop) (c : DeclarationCounts)
-    (d : Does (HeldDeclared v1 v5 w6) (opening asked.source asked.options (caps_of (length l1) (length l5) (length l6))) (declared_in l1 l5 l6 nothing_declared)
-    (declared_in v1 v5 w6) (outcome r c)) where
+module _ (asked : Request) (l1 l2 l3 l4 l5 l6 : List ℕ) (zero : Zeroed l1 l2 l3 l4 l5 l6) {start : DeclarationCounts} (nothing : AllZero start)
+    (u1 u5 u6 : List ℕ) (r : Result ℕ Stop) (c : DeclarationCounts)
+    (left : Does (HeldDeclared u1 u5 u6) (opening asked.source asked.options (caps_of (length l1) (length l5) (length l6))) (declared_in l1 l5 l6 start)
+    (declared_in u1 u5 u6) (outcome r c)) {v1 v5 w6 : List ℕ} (is1 : v1 ≡ u1) (is5 : v5 ≡ u5) (is6 : w6 ≡ u6) where
+  -- the declarations leave u1, u5 and u6; what is lent to them ends as just those bytes
+  d : Does (HeldDeclared v1 v5 w6) (opening asked.source asked.options (caps_of (length l1) (length l5) (length l6))) (declared_in l1 l5 l6 start)
+      (declared_in v1 v5 w6) (outcome r c)
+  d = rw (is1, is5, is6) left
+
+  ends_long : length u6 ≡ length l6 → length w6 ≡ length l6
+  ends_long long = ap length is6 ∙ long
+
   abbrev sizes : Caps
   sizes = caps (length l1) (length l2) (length l3) (length l4) (length l5) (length l6)
 
@@ -249,17 +266,19 @@ module _ (asked : Request) (l1 l2 l3 l4 l5 l6 : List ℕ) (zero : Zeroed l1 l2 l
 
   opened : whole ≡ next_section (onto (declared_in v1 v5 w6) (outcome r c))
   unfolding file contents list_of
-  opened = ap next_section d.says
+  opened =
+      ap (λ (q : DeclarationCounts). next_section (opening asked.source asked.options (caps_of (length l1) (length l5) (length l6)) (declared_in l1 l5 l6 q)))
+      (sym (nothing_is nothing)) ∙ ap next_section d.says
 
   module _ (y : Stop) (z : r ≡ Err y) where
-    pub opening_faults : (kind : LexErrorKind) (at : ℕ) → y ≡ Fault kind at → HeldFaults w6 c.names.faults
-    opening_faults kind at e = (holds_err r c d y z (is_fault y kind at e)).names.faults
+    pub opening_faults : (error : LexError) → y ≡ Fault error → HeldFaults w6 c.names.faults
+    opening_faults error e = (holds_err r c d y z (is_fault y error e)).names.faults
 
-    pub file_stops : length w6 ≡ length l6 → {v6 : List ℕ} {x : ParseError}
+    pub file_stops : length u6 ≡ length l6 → {v6 : List ℕ} {x : ParseError}
         → Refuses (stopped (length w6) (contents fault_format w6 c.names.faults) y) v6 x → Parses whole v1 l2 l3 l4 v5 v6 (Err x)
     file_stops long {v6} {x} h =
         parses_refused (subst (λ (o : Outcome). Refuses o v6 x)
-        (ap (λ (k : ℕ). stopped k (contents fault_format w6 c.names.faults) y) long
+        (ap (λ (k : ℕ). stopped k (contents fault_format w6 c.names.faults) y) (ends_long long)
         ∙ sym (opened ∙ ap (λ (k : Result ℕ Stop). next_section (onto (declared_in v1 v5 w6) (outcome k c))) z
         ∙ ap next_section (onto_err (declared_in v1 v5 w6) y c) ∙ ending_err (λ d. d.faults) (length l6) (declared_in v1 v5 w6 c) (rules_from asked sizes) y)) h)
 
@@ -270,7 +289,8 @@ module _ (asked : Request) (l1 l2 l3 l4 l5 l6 : List ℕ) (zero : Zeroed l1 l2 l
     pub rules_inside : i ≤ length asked.source
     unfolding contents list_of
     rules_inside =
-        opening_inside asked.source i (declared_in v1 v5 w6 c) asked.options (caps_of (length l1) (length l5) (length l6)) undeclared (was_ok r c d went)
+        opening_inside asked.source i (declared_in v1 v5 w6 c) asked.options (caps_of (length l1) (length l5) (length l6)) (declared_in l1 l5 l6 start)
+        (was_ok r c d went)
 
     pub states_fit : c.names.states * state_width ≤ length v1
     states_fit = kept.names.states.area.fits
@@ -282,10 +302,19 @@ module _ (asked : Request) (l1 l2 l3 l4 l5 l6 : List ℕ) (zero : Zeroed l1 l2 l
           faults = kept.names.faults;
         }
 
-    module _ (v2 v3 v4 x6 : List ℕ) (q : Result ℕ Stop) (m : RuleCounts)
-        (g : Does (HeldRuled v2 v3 v4 x6) (rules_section asked (contents state_format v1 c.names.states) (rule_caps_of (length l2) (length l3) (length l4))
-        (length w6) i) (ruled_in l2 l3 l4 w6 (nothing_ruled c.names.faults)) (ruled_in v2 v3 v4 x6) (outcome q m))
-        (long : length w6 ≡ length l6) where
+    -- the rules section has the states of area 1, as they were lent, and begins with no rules; areas 2, 3, 4 and 6 end as the bytes k2, k3, k4 and k6 that it leaves
+    module _ (k2 k3 k4 k6 : List ℕ) (q : Result ℕ Stop) (m : RuleCounts) (xs : List State) (lent : xs ≡ contents state_format v1 c.names.states)
+        (before : RuleCounts) (none_yet : before ≡ nothing_ruled c.names.faults)
+        (rules_left : Does (HeldRuled k2 k3 k4 k6) (rules_section asked xs (rule_caps_of (length l2) (length l3) (length l4)) (length w6) i)
+        (ruled_in l2 l3 l4 w6 before) (ruled_in k2 k3 k4 k6) (outcome q m))
+        (long_left : length u6 ≡ length l6) {v2 v3 v4 x6 : List ℕ} (is2 : v2 ≡ k2) (is3 : v3 ≡ k3) (is4 : v4 ≡ k4) (rules_is6 : x6 ≡ k6) where
+      g : Does (HeldRuled v2 v3 v4 x6) (rules_section asked xs (rule_caps_of (length l2) (length l3) (length l4)) (length w6) i)
+          (ruled_in l2 l3 l4 w6 before) (ruled_in v2 v3 v4 x6) (outcome q m)
+      g = rw (is2, is3, is4, rules_is6) rules_left
+
+      long : length w6 ≡ length l6
+      long = ends_long long_left
+
       abbrev last : ℕ → Ruled → Outcome
       last j x = judge (contents_of (declared_in v1 v5 w6 c) x)
 
@@ -297,19 +326,18 @@ module _ (asked : Request) (l1 l2 l3 l4 l5 l6 : List ℕ) (zero : Zeroed l1 l2 l
       ruled =
           opened
           ∙ ap (λ (k : Result ℕ Stop). next_section (onto (declared_in v1 v5 w6) (outcome k c))) went
-          ∙ ap (λ (k : ℕ). end_with (rules_section asked (contents state_format v1 c.names.states) (rule_caps_of (length l2) (length l3) (length l4)) k i
-          (ruled_in l2 l3 l4 w6 (nothing_ruled c.names.faults)))) (sym long)
+          ∙ (λ j. end_with (rules_section asked (sym lent j) (rule_caps_of (length l2) (length l3) (length l4)) (sym long j) i (ruled_in l2 l3 l4 w6 (sym none_yet j))))
           ∙ ap end_with g.says
 
       module _ (y : Stop) (z : q ≡ Err y) where
-        pub rules_faults : (kind : LexErrorKind) (at : ℕ) → y ≡ Fault kind at → HeldFaults x6 m.faults
-        rules_faults kind at e = (holds_err q m g y z (is_fault y kind at e)).faults
+        pub rules_faults : (error : LexError) → y ≡ Fault error → HeldFaults x6 m.faults
+        rules_faults error e = (holds_err q m g y z (is_fault y error e)).faults
 
-        pub rules_stop : length x6 ≡ length w6 → {y6 : List ℕ} {x : ParseError}
+        pub rules_stop : length k6 ≡ length w6 → {y6 : List ℕ} {x : ParseError}
             → Refuses (stopped (length x6) (contents fault_format x6 m.faults) y) y6 x → Parses whole v1 v2 v3 v4 v5 y6 (Err x)
         rules_stop grew {y6} {x} h =
             parses_refused (subst (λ (o : Outcome). Refuses o y6 x)
-            (ap (λ (k : ℕ). stopped k (contents fault_format x6 m.faults) y) (grew ∙ long)
+            (ap (λ (k : ℕ). stopped k (contents fault_format x6 m.faults) y) (ap length rules_is6 ∙ grew ∙ long)
             ∙ sym (ruled ∙ ap (λ (k : Result ℕ Stop). end_with (onto (ruled_in v2 v3 v4 x6) (outcome k m))) z
             ∙ ap end_with (onto_err (ruled_in v2 v3 v4 x6) y m) ∙ ending_err (λ x. x.faults) (length l6) (ruled_in v2 v3 v4 x6 m) last y)) h)
 

@@ -1,7 +1,6 @@
 -- What a file comes to, with counts of records in place of the records, and what the areas hold then (01, Areas).
-use Rattle.std.specs.Prelude.{Result, Ok, Err, ℕ, ◌≡◌, Bool, true, false, cond, List, [], eqb, length}
+use Rattle.std.specs.Prelude.{Result, Ok, Err, ℕ, ◌≡◌, Bool, true, false, cond, List, [], ◌∷◌, eqb, length}
 use Rattle.area.specs.Bytes.{zeros}
-use Rattle.area.specs.Names.{area_number}
 use Rattle.area.specs.declared.Fault.{Fault as FaultSpan}
 use Rattle.area.specs.Contents.{contents, state_format, rule_format, entry_format, text_format, expected_format, fault_format, Held}
 use Rattle.fault.specs.declared.Stop.{Stop}
@@ -10,30 +9,40 @@ use Rattle.fault.specs.Kinds.{kind_number}
 use Rattle.fault.specs.Faults.{add_fault}
 use Rattle.declarations.specs.declared.DeclarationCounts.{DeclarationCounts}
 use Rattle.rules_section.specs.declared.RuleCounts.{RuleCounts}
-use Rattle.parse.specs.Parse.{Contents, Outcome, long_file, unknown_flag, invalid_utf8, area_full, faulty, accepted, closed}
+use Rattle.parse.specs.Parse.{ParseAnswer, parse_accepted, Contents, Outcome, long_file, unknown_flag, invalid_utf8, area_full, faulty, accepted, closed}
 use Rattle.parse.specs.declared.FileCounts.{FileCounts}
 use Rattle.parse.specs.declared.ParseError.{ParseError}
 use Rattle.parse.specs.declared.ParseError.TheVariants.{LongFile, UnknownFlag, InvalidUtf8, AreaFull, FaultyFile}
 
 -- what a parse that stops comes to, with these faults so far: the fault that ends it, or an area that is full
 abbrev pub stopped : ℕ → List FaultSpan → Stop → Outcome
-stopped cap fs (Fault kind at) = closed (add_fault cap (kind_number kind) at at fs)
-stopped cap fs (Full name) = area_full (area_number name)
+stopped cap fs (Fault error) = closed (add_fault cap (kind_number error.kind) error.at error.at fs)
+stopped cap fs (Full name) = area_full name
 
 -- the outcome that an error stands for
 abbrev pub refused : List ℕ → ParseError → Outcome
 refused l6 LongFile = long_file
 refused l6 UnknownFlag = unknown_flag
 refused l6 InvalidUtf8 = invalid_utf8
-refused l6 (AreaFull n) = area_full n
+refused l6 (AreaFull name) = area_full name
 refused l6 (FaultyFile n) = faulty (contents fault_format l6 n)
+
+-- an answer that leaves the counts out: accepted, or refused
+abbrev pub answered : Result FileCounts ParseError → ParseAnswer
+answered (Ok q) = parse_accepted
+answered (Err x) = Err x
+
+-- the six counts that are left: zeros where the file is refused
+abbrev pub counts_left : Result FileCounts ParseError → List ℕ
+counts_left (Ok q) = q.states ∷ q.rules ∷ q.entries ∷ q.text ∷ q.expected ∷ 0 ∷ []
+counts_left (Err x) = zeros 6
 
 -- its faults are kept in area 6
 abbrev pub has_faults : ParseError → Bool
 has_faults LongFile = false
 has_faults UnknownFlag = false
 has_faults InvalidUtf8 = false
-has_faults (AreaFull n) = false
+has_faults (AreaFull name) = false
 has_faults (FaultyFile n) = true
 
 -- the error x stands for the outcome o, and area 6 holds the faults that it counts

@@ -2,6 +2,9 @@
 use Rattle.std.specs.Prelude.{Result, Ok, Err, ℕ, cond, List, [], ◌∷◌, eqb, ltb, length}
 use Rattle.std.proofs.Math.Option.{Option, none, some}
 use Rattle.characters.specs.Utf8.{utf8}
+use Rattle.area.specs.declared.AreaName.{AreaName}
+use Rattle.area.specs.declared.AreaName.TheVariants as Areas
+use Rattle.area.specs.Names.{area_number}
 use Rattle.area.specs.declared.State.{State}
 use Rattle.area.specs.declared.Rule.{Rule}
 use Rattle.area.specs.declared.Expected.{Expected}
@@ -12,7 +15,8 @@ use Rattle.answers.specs.Words.{Fields, fields, word}
 use Rattle.area.specs.Contents.{append, laid, state_format, rule_format, entry_format, text_format, expected_format, fault_format}
 use Rattle.fault.specs.Step.{Out, go, bad, full, next, onto, written}
 use Rattle.fault.specs.Faults.{add_fault}
-use Rattle.section.specs.Request.{Options, Request}
+use Rattle.section.specs.declared.options.Options.{Options}
+use Rattle.section.specs.Request.{Request}
 use Rattle.declarations.specs.Declarations.{Declared, declarations, state}
 use Rattle.rules_section.specs.RulesSection.{Ruled, rules_section}
 use Rattle.declarations.specs.Declarations as D
@@ -47,25 +51,25 @@ declaration_caps k = record { c1 = k.c1; c5 = k.c5; c6 = k.c6 }
 abbrev pub rule_caps : Caps → R.Caps
 rule_caps k = record { c2 = k.c2; c3 = k.c3; c4 = k.c4 }
 
--- what becomes of a file: refused by the number 1, 2 or 3; the area of a number was full (4); these faults (5); or accepted
+-- what becomes of a file: refused by the number 1, 2 or 3; an area was full (4); these faults (5); or accepted
 pub data Outcome : Type 0 where
   long_file : Outcome
   unknown_flag : Outcome
   invalid_utf8 : Outcome
-  area_full : ℕ → Outcome
+  area_full : AreaName → Outcome
   faulty : List Fault → Outcome
   accepted : Contents → Outcome
 
 -- the fault list with the fault that ends parsing as the last, or none where area 6 has no room for it
 unfoldable pub closed : Option (List Fault) → Outcome
-closed none = area_full 6
+closed none = area_full Areas.Faults
 closed (some fs) = faulty fs
 
 -- what a section comes to: on with g, or the end; area 6 has cap bytes
 abbrev pub ending : {S : Type 0} → (S → List Fault) → ℕ → Out S → (ℕ → S → Outcome) → Outcome
 ending faults cap (go i s) g = g i s
 ending faults cap (bad kind at s) g = closed (add_fault cap kind at at (faults s))
-ending faults cap (full n) g = area_full n
+ending faults cap (full name) g = area_full name
 
 -- number 5 where the fault list is not empty at the end
 unfoldable pub judge : Contents → Outcome
@@ -89,7 +93,7 @@ with_states d xs = record { states = xs; expected = d.expected; faults = d.fault
 -- state 0 is written first of all: INITIAL with the span (0,0), not exclusive; then the declarations
 unfoldable pub opening : List ℕ → Options → D.Caps → Declared → Out Declared
 opening s options k d =
-    next (onto (with_states d) (written 1 0 (append state_format k.c1 (state 0 0 0 ∷ []) d.states))) (declarations s options k)
+    next (onto (with_states d) (written Areas.States 0 (append state_format k.c1 (state 0 0 0 ∷ []) d.states))) (declarations s options k)
 
 module _ (q : Request) (k : Caps) where
   -- the rules from i on, and what follows them
@@ -105,7 +109,7 @@ module _ (q : Request) (k : Caps) where
   unfoldable pub outcome : Outcome
   outcome =
       cond (ltb most_source (length q.source)) long_file
-      (cond (ltb 3 q.options.flags) unknown_flag
+      (cond q.unknown_flags unknown_flag
       (cond (utf8 q.source) file invalid_utf8))
 
 -- ---- the call
@@ -160,7 +164,7 @@ unfoldable pub leaves : Caps → Outcome → Left
 leaves k long_file = cleared (Err LongFile) k
 leaves k unknown_flag = cleared (Err UnknownFlag) k
 leaves k invalid_utf8 = cleared (Err InvalidUtf8) k
-leaves k (area_full n) = cleared (Err (AreaFull n)) k
+leaves k (area_full name) = cleared (Err (AreaFull name)) k
 leaves k (faulty fs) = faults_left fs k
 leaves k (accepted b) = sheet_left b k
 
@@ -176,7 +180,7 @@ parse_fields (Ok x) = fields accepted_number 0 0 0
 parse_fields (Err LongFile) = fields long_file_number 0 0 0
 parse_fields (Err UnknownFlag) = fields unknown_flag_number 0 0 0
 parse_fields (Err InvalidUtf8) = fields invalid_utf8_number 0 0 0
-parse_fields (Err (AreaFull n)) = fields area_full_number n 0 0
+parse_fields (Err (AreaFull name)) = fields area_full_number (area_number name) 0 0
 parse_fields (Err (FaultyFile n)) = fields faulty_file_number n 0 0
 
 abbrev pub parse_word : ParseAnswer → ℕ

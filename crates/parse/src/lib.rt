@@ -6,10 +6,11 @@ pub mod call; // the parse call
 
 ghost use Rattle.std.specs.Prelude.{◌≡◌, Err};
 ghost use Rattle.answers.specs.Numbers.{number_of};
-ghost use Rattle.parse.specs.Answers.{has_faults};
+ghost use Rattle.parse.specs.Answers.{counts_left, has_faults};
 ghost use Rattle.parse.specs.Parse.{parse_fields};
 
 use answers::Number;
+use area::AreaName;
 
 // How many records each area has where there are no faults.
 #[derive(Clone, Copy)]
@@ -21,15 +22,24 @@ pub struct FileCounts {
     pub expected: u16,
 }
 
-// Why a file is refused: the area of a number was full, or there are so many fault spans. An area has its number here, and no name: so the definition
-// of what a file comes to speaks of it, and the host.
+// Why a file is refused: an area was full, or there are so many fault spans.
 #[derive(Clone, Copy, PartialEq, Eq, Debug)]
 pub enum ParseError {
     LongFile,
     UnknownFlag,
     InvalidUtf8,
-    AreaFull(u16),
+    AreaFull(AreaName),
     FaultyFile(u16),
+}
+
+// The six counts as C has them, zeros where the file is refused.
+pub fn counts_left(answer: Result<FileCounts, ParseError>) -> [u16; 6]
+    ensures { result ≡ counts_left answer }
+{
+    match answer {
+        Ok(q) => [q.states, q.rules, q.entries, q.text, q.expected, 0],
+        Err(_) => [0; 6],
+    }
 }
 
 impl ParseError {

@@ -1,13 +1,13 @@
 // The file from its start: state 0, the declarations, the rules, and whether there are faults (01, Numbers given at the counter).
-// The areas that are lent for writing stay parameters beside their counts: a struct of them, lent again, has no proof (tried).
-ghost use Rattle.std.specs.Prelude.{ℕ, ◌≡◌, ◌≤◌, length};
+// Each section is lent its areas as one value, and promises that they stay the areas that were lent: each holds what the section left in it.
+ghost use Rattle.std.specs.Prelude.{◌≡◌, ◌≤◌, length};
 ghost use Rattle.area.specs.Contents.{fault_format, contents};
 ghost use Rattle.area.specs.Phrases.{before, after};
 ghost use Rattle.fault.specs.declared.Stop.TheVariants.{Fault};
-ghost use Rattle.fault.specs.declared.kinds.LexErrorKind.{LexErrorKind};
+ghost use Rattle.fault.specs.declared.kinds.LexError.{LexError};
 ghost use Rattle.fault.specs.Faults.{HeldFaults};
-ghost use Rattle.section.specs.Request.{options, asked_by};
-ghost use Rattle.declarations.specs.Answers.{HeldDeclared};
+ghost use Rattle.section.specs.Request.{asked_by};
+ghost use Rattle.declarations.specs.Areas.{SameAreas, DeclaredHeld};
 ghost use Rattle.declarations.specs.Phrases.{DoesDeclared};
 ghost use Rattle.parse.specs.Parse.{opening, file};
 ghost use Rattle.parse.specs.Answers.{stopped, nothing_ruled, judged_by, Parses, Refuses, Zeroed};
@@ -16,45 +16,48 @@ ghost use Rattle.parse.specs.Phrases.{room_in};
 use crate::{FileCounts, ParseError};
 use area::list::Records;
 use area::{State, push};
-use declarations::{DeclarationCounts, NameCounts, parse_declarations};
+use declarations::areas::DeclarationAreas;
+use declarations::{DeclarationCounts, parse_declarations};
 use fault::{Span, Stop, add_fault};
 use rules_section::RuleCounts;
+use rules_section::areas::RuleAreas;
 use rules_section::lines::parse_rules;
 use section::LexFile;
 
 // State 0, then the declarations.
 #[tactic(auto, using(crate::proofs::Files::opening_up))]
-fn parse_opening(
-    lex_file: LexFile,
-    counts: &mut DeclarationCounts,
-    area1: &mut [u8],
-    area5: &mut [u8],
-    area6: &mut [u8],
-) -> Result<usize, Stop>
-    requires held_declared { HeldDeclared area1.old area5.old area6.old counts.old }
-    ensures { DoesDeclared (λ k. opening lex_file.entry.source.now (options lex_file.entry.flags) k) area1 area5 area6 counts result }
+fn parse_opening(lex_file: LexFile, areas: &mut DeclarationAreas) -> Result<usize, Stop>
+    requires held_declared { DeclaredHeld areas.old }
+    ensures same { SameAreas areas.old areas.new }
+    ensures does { DoesDeclared (λ k. opening lex_file.entry.source.now lex_file.entry.options k) areas result }
 {
     let initial = State {
         start: 0,
         end: 0,
         exclusive: 0,
     };
-    counts.names.states = push(area1, counts.names.states, initial)?;
-    parse_declarations(lex_file, 0, counts, area1, area5, area6)
+    areas.counts.names.states = push(areas.states, areas.counts.names.states, initial)?;
+    parse_declarations(lex_file, 0, areas)
 }
 
 // The fault that ends parsing is the last; or an area is full.
 #[tactic(auto, using(crate::proofs::Files::closing))]
 fn close(stop: Stop, faults: u16, area6: &mut [u8]) -> ParseError
-    requires { (kind : LexErrorKind) (at : ℕ) → stop ≡ Fault kind at → HeldFaults area6.old faults }
+    requires { (error : LexError) → stop ≡ Fault error → HeldFaults area6.old faults }
     ensures { Refuses (stopped (length area6.old) (contents fault_format area6.old faults) stop) area6.new result }
 {
     match stop {
-        Stop::Full(name) => ParseError::AreaFull(u16::from(name)),
-        Stop::Fault(kind, at) => match add_fault(area6, faults, kind, Span { start: at, end: at }) {
-            Ok(n) => ParseError::FaultyFile(n),
-            Err(full) => ParseError::AreaFull(u16::from(full.0)),
-        },
+        Stop::Full(name) => ParseError::AreaFull(name),
+        Stop::Fault(error) => {
+            let span = Span {
+                start: error.at,
+                end: error.at,
+            };
+            match add_fault(area6, faults, error.kind, span) {
+                Ok(n) => ParseError::FaultyFile(n),
+                Err(full) => ParseError::AreaFull(full.0),
+            }
+        }
     }
 }
 
@@ -99,22 +102,27 @@ pub fn parse_sections(
     ensures { Parses (file (asked_by lex_file.entry) (room_in area1 area2 area3 area4 area5 area6))
         area1.new area2.new area3.new area4.new area5.new area6.new result }
 {
-    // The zeros are written out: those of `default` are facts that nine answers would rewrite by (tried).
-    let mut declared = DeclarationCounts {
-        names: NameCounts {
-            states: 0,
-            faults: 0,
-        },
-        expected: 0,
+    let mut declaration_areas = DeclarationAreas {
+        states: area1,
+        expected: area5,
+        faults: area6,
+        counts: DeclarationCounts::default(),
     };
-    match parse_opening(lex_file, &mut declared, area1, area5, area6) {
-        Err(stop) => Err(close(stop, declared.names.faults, area6)),
+    match parse_opening(lex_file, &mut declaration_areas) {
+        Err(stop) => Err(close(stop, declaration_areas.counts.names.faults, area6)),
         Ok(i) => {
+            let declared = declaration_areas.counts;
             let states = Records::new(area1, declared.names.states);
-            let mut ruled = no_rules(declared.names.faults);
-            match parse_rules(lex_file, i, &mut ruled, &states, area2, area3, area4, area6) {
-                Err(stop) => Err(close(stop, ruled.faults, area6)),
-                Ok(_) => judge(declared, ruled),
+            let mut areas = RuleAreas {
+                rules: area2,
+                entries: area3,
+                text: area4,
+                faults: area6,
+                counts: no_rules(declared.names.faults),
+            };
+            match parse_rules(lex_file, i, &states, &mut areas) {
+                Err(stop) => Err(close(stop, areas.counts.faults, area6)),
+                Ok(_) => judge(declared, areas.counts),
             }
         }
     }

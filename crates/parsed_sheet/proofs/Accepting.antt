@@ -9,8 +9,9 @@ use native.Mathlib.Omega.{arith}
 use borrow.Author.Tests.{eqb-true}
 use lib.Dec.{eqb}
 use lib.ListN.{length}
+use Rattle.std.proofs.lemmas.Bool.{cond_both}
 use Rattle.characters.specs.Utf8.{utf8}
-use Rattle.characters.proofs.Tests.{by_test}
+use Rattle.area.specs.declared.AreaName.TheVariants as Areas
 use Rattle.area.specs.declared.State.{State}
 use Rattle.area.specs.declared.Fault.{Fault}
 use Rattle.area.specs.Records.{state_of, expected_of, rule_of}
@@ -39,7 +40,7 @@ abbrev Accepts : (Contents → Type 0) → Outcome → Type 0
 Accepts P long_file = Unit {0}
 Accepts P unknown_flag = Unit {0}
 Accepts P invalid_utf8 = Unit {0}
-Accepts P (area_full n) = Unit {0}
+Accepts P (area_full name) = Unit {0}
 Accepts P (faulty fs) = Unit {0}
 Accepts P (accepted c) = P c
 
@@ -52,7 +53,7 @@ ending_accepts : {S : Type 0} (P : Contents → Type 0) (Q : ℕ → S → Type 
     → Yields Q o → ((i : ℕ) (s : S) → Q i s → Accepts P (g i s)) → Accepts P (ending faults cap o g)
 ending_accepts P Q faults cap (go i s) g h f = f i s h
 ending_accepts P Q faults cap (bad kind at s) g h f = closed_accepts P (add_fault cap kind at at (faults s))
-ending_accepts P Q faults cap (full n) g h f = tt
+ending_accepts P Q faults cap (full name) g h f = tt
 
 no_elements : {A : Type 0} (xs : List A) → length xs ≡ 0 → xs ≡ []
 no_elements [] e = refl
@@ -61,7 +62,7 @@ no_elements (x ∷ xs) e = absurd (omega arith)
 judge_accepts : (P : Contents → Type 0) (c : Contents) → (c.faults ≡ [] → P c) → Accepts P (judge c)
 unfolding judge
 judge_accepts P c f =
-    by_test (Accepts P) (eqb (length c.faults) 0) (accepted c) (faulty c.faults)
+    cond_both (eqb (length c.faults) 0) (accepted c) (faulty c.faults) (Accepts P)
     (λ e. f (no_elements c.faults (eqb-true (length c.faults) 0 e))) (λ _. tt)
 
 -- ---- a file
@@ -122,10 +123,10 @@ module _ (asked : Request) (k : Caps) where
   opening_holds : Yields DeclaredKept (opening asked.source asked.options (declaration_caps k) undeclared)
   unfolding opening
   opening_holds =
-      let o = written 1 0 (append state_format k.c1 (state 0 0 0 ∷ []) []) in
+      let o = written Areas.States 0 (append state_format k.c1 (state 0 0 0 ∷ []) []) in
       yields_next DeclaredKept DeclaredKept (onto (with_states undeclared) o) (declarations asked.source asked.options (declaration_caps k))
       (yields_onto Opened DeclaredKept (with_states undeclared) o
-      (yields_append Opened state_format k.c1 1 0 (state 0 0 0 ∷ []) [] (λ f. (omega arith, initial_holds f)))
+      (yields_append Opened state_format k.c1 Areas.States 0 (state 0 0 0 ∷ []) [] (λ f. (omega arith, initial_holds f)))
       (λ i xs h. record { place = h.0; states = h.1; expected = none_expected }))
       (λ i d h. declarations_hold asked.source asked.options (declaration_caps k) i d h)
 
@@ -146,7 +147,7 @@ module _ (asked : Request) (k : Caps) where
   passed l t long_file h = tt
   passed l t unknown_flag h = tt
   passed l t invalid_utf8 h = tt
-  passed l t (area_full n) h = tt
+  passed l t (area_full name) h = tt
   passed l t (faulty fs) h = tt
 
   outcome_accepts : Accepts Passed (outcome asked k)

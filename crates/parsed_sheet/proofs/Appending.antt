@@ -5,7 +5,8 @@ use mathlib.Core.Bool.{true}
 use mathlib.Core.List.{List, ◌++◌}
 use mathlib.Core.Option.{none, some}
 use lib.ListN.{length, length-append}
-use Rattle.characters.proofs.Tests.{by_test}
+use Rattle.std.proofs.lemmas.Bool.{cond_both}
+use Rattle.area.specs.declared.AreaName.{AreaName}
 use Rattle.area.specs.Areas.{room}
 use Rattle.area.specs.Contents.{Format, append}
 use Rattle.fault.specs.Step.{written}
@@ -20,9 +21,9 @@ room_holds F cap xs ys e = record {
   fits = rw (length-append xs ys) (room_fits F.width F.most cap (length xs) (length ys) e);
 }
 
-pub yields_append : {A : Type 0} (P : ℕ → List A → Type 0) (F : Format A) (cap n i : ℕ) (ys xs : List A)
-    → (Fits F cap (xs ++ ys) → P i (xs ++ ys)) → Yields P (written n i (append F cap ys xs))
+pub yields_append : {A : Type 0} (P : ℕ → List A → Type 0) (F : Format A) (cap : ℕ) (name : AreaName) (i : ℕ) (ys xs : List A)
+    → (Fits F cap (xs ++ ys) → P i (xs ++ ys)) → Yields P (written name i (append F cap ys xs))
 unfolding append
-yields_append P F cap n i ys xs f =
-    by_test (λ o. Yields P (written n i o)) (room F.width F.most cap (length xs) (length ys)) (some (xs ++ ys)) none
+yields_append P F cap name i ys xs f =
+    cond_both (room F.width F.most cap (length xs) (length ys)) (some (xs ++ ys)) none (λ o. Yields P (written name i o))
     (λ e. f (room_holds F cap xs ys e)) (λ _. tt)

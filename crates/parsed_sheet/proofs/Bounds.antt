@@ -1,6 +1,7 @@
 -- What bounds the outcome of a file, whatever it is. State names are declared left to right, so where the declarations go on, all names together
 -- have no more bytes than stand before that place; and whatever adds to the fault list asks for room in area 6. The rest is what an accepted
 -- parse yields.
+use Rattle.std.proofs.lemmas.Bool.{cond_both}
 use Rattle.std.specs.Prelude.{Result, Ok, Err, is_some}
 use Prim.Native.Nat.{ℕ, ◌+◌, ◌-◌, ◌≤◌}
 use mathlib.Core.Path.{◌≡◌, refl, subst}
@@ -15,9 +16,9 @@ use lib.ListN.{length, take, drop, length-append, length-take, length-drop}
 use Rattle.characters.specs.Whitespace.{whitespace_len, at_whitespace, at_line_end}
 use Rattle.text.specs.Range.{lookahead_is}
 use Rattle.text.specs.Scan.{line_end, skip_whitespace, skip_blanks, find_whitespace, trim_end, trim_start, trim_end_unescaped}
-use Rattle.characters.proofs.Tests.{by_test}
 use Rattle.characters.proofs.Walks.{first_from, first_to, repeat_keeps, skip_from}
 use Rattle.characters.proofs.Spaces.{white_inside}
+use Rattle.area.specs.declared.AreaName.TheVariants as Areas
 use Rattle.area.specs.declared.State.{State}
 use Rattle.area.specs.declared.Fault.{Fault}
 use Rattle.area.specs.Areas.{room, insert_at}
@@ -27,7 +28,8 @@ use Rattle.area.proofs.Rooms.{room_few, room_fits}
 use Rattle.fault.specs.Step.{Out, go, bad, full, onto, written, loop}
 use Rattle.fault.specs.Faults.{fault, next_number, fault_end, find_fault, add_fault, add_span, add_pair, repeat_at, add_repeat, DuplicateStartState, DuplicateName, PrematureEnd, RoutinesNotSupported, VerbatimNotSupported}
 use Rattle.fault.proofs.Yielding.{Yields, yields_next, yields_onto, yields_loop}
-use Rattle.section.specs.Request.{Options, Request}
+use Rattle.section.specs.declared.options.Options.{Options}
+use Rattle.section.specs.Request.{Request}
 use Rattle.section.specs.Section.{percents, is_comment, past_comment, past_line, to_declaration, to_rule, in_section, has_routines}
 use Rattle.declarations.specs.declared.Declaration.{Declaration}
 use Rattle.declarations.specs.declared.Declaration.TheVariants.{States, Expecting, Unknown}
@@ -35,7 +37,7 @@ use Rattle.names.specs.Names.{is_state_name}
 use Rattle.declarations.specs.Declarations.{range, Names, names, NameCaps, name_caps, Declared, Caps, state, trimmed, word_end, first_word, rest_of, is_inclusive, is_exclusive, is_expecting, states_of}
 use Rattle.declarations.specs.Declarations.{declaration_of, behind_name, add_state, repeat_state, state_named, declare_state, state_names, expected_names, with_names, with_expected, then_at, declare_as, declaration, next_declaration, end_declarations, declarations}
 use Rattle.declarations.proofs.Lines.{names_within}
-use Rattle.rules.specs.declared.LexError.{LexError}
+use Rattle.fault.specs.declared.kinds.LexError.{LexError}
 use Rattle.rules.specs.declared.Heading.{Heading}
 use Rattle.rules.specs.declared.Heading.TheVariants.{Repeated, Fresh}
 use Rattle.rules.specs.Heading.{heading_of}
@@ -61,29 +63,29 @@ unfolding insert_at
 insert_length p x fs = omega (arith, length-append (take p fs) (x ∷ drop p fs), length-take p fs, length-drop p fs)
 
 module _ (P : ℕ → List Fault → Type 0) (c6 i : ℕ) (fs : List Fault) (fits : (gs : List Fault) → FaultsFit c6 gs → P i gs) where
-  span_fits : (j a e : ℕ) → Yields P (written 6 i (add_span c6 j a e fs))
+  span_fits : (j a e : ℕ) → Yields P (written Areas.Faults i (add_span c6 j a e fs))
   unfolding add_span
   span_fits j a e =
       let n = (nth_fault fs j).number in
       let x = fault n (nth_fault fs j).kind a e in
       let gs = insert_at (fault_end fs n) x fs in
       let l : length gs ≡ length fs + 1 = insert_length (fault_end fs n) x fs in
-      by_test (λ o. Yields P (written 6 i o)) (room fault_width most_others c6 (length fs) 1) (some gs) none
+      cond_both (room fault_width most_others c6 (length fs) 1) (some gs) none (λ o. Yields P (written Areas.Faults i o))
       (λ q. fits gs (record {
         few = rw l (room_few fault_width most_others c6 (length fs) 1 q);
         fits = rw l (room_fits fault_width most_others c6 (length fs) 1 q);
       })) (λ _. tt)
 
-  fault_fits : (kind a e : ℕ) → Yields P (written 6 i (add_fault c6 kind a e fs))
+  fault_fits : (kind a e : ℕ) → Yields P (written Areas.Faults i (add_fault c6 kind a e fs))
   unfolding add_fault
-  fault_fits kind a e = yields_append P fault_format c6 6 i (fault (next_number fs) kind a e ∷ []) fs (fits _)
+  fault_fits kind a e = yields_append P fault_format c6 Areas.Faults i (fault (next_number fs) kind a e ∷ []) fs (fits _)
 
-  repeat_fits : (kind c d a e : ℕ) → Yields P (written 6 i (add_repeat c6 kind c d a e fs))
+  repeat_fits : (kind c d a e : ℕ) → Yields P (written Areas.Faults i (add_repeat c6 kind c d a e fs))
   unfolding add_repeat repeat_at add_pair
   repeat_fits kind c d a e =
-      by_test (λ o. Yields P (written 6 i o)) (ltb (find_fault fs kind c d) (length fs)) (add_span c6 (find_fault fs kind c d) a e fs) (add_pair c6 kind c d a e fs)
+      cond_both (ltb (find_fault fs kind c d) (length fs)) (add_span c6 (find_fault fs kind c d) a e fs) (add_pair c6 kind c d a e fs) (λ o. Yields P (written Areas.Faults i o))
       (λ _. span_fits (find_fault fs kind c d) a e)
-      (λ _. yields_append P fault_format c6 6 i (fault (next_number fs) kind c d ∷ fault (next_number fs) kind a e ∷ []) fs (fits _))
+      (λ _. yields_append P fault_format c6 Areas.Faults i (fault (next_number fs) kind c d ∷ fault (next_number fs) kind a e ∷ []) fs (fits _))
 
 -- ---- the names of states in a line
 
@@ -102,7 +104,7 @@ module _ (s : List ℕ) (k : NameCaps) (t : ℕ) where
   repeat_read x y n l h =
       let WithFaults : ℕ → List Fault → Type 0 = λ j fs. Reads j (names n.states fs) in
       let faults = add_repeat k.c6 DuplicateStartState y.start y.end x.start x.end n.faults in
-      yields_onto WithFaults Reads (names n.states) (written 6 (behind_name s x) faults)
+      yields_onto WithFaults Reads (names n.states) (written Areas.Faults (behind_name s x) faults)
       (repeat_fits WithFaults k.c6 (behind_name s x) n.faults
       (λ fs f. record { before = omega (arith, h.before); within = h.within; faults = f })
       DuplicateStartState y.start y.end x.start x.end) (λ _ _ g. g)
@@ -113,15 +115,15 @@ module _ (s : List ℕ) (k : NameCaps) (t : ℕ) where
       let z : name_bytes (n.states ++ (x ∷ [])) ≡ name_bytes n.states + (x.end - x.start) = names_more n.states x in
       let WithStates : ℕ → List State → Type 0 = λ j xs. Reads j (names xs n.faults) in
       let states = append state_format k.c1 (x ∷ []) n.states in
-      yields_onto WithStates Reads (λ xs. names xs n.faults) (written 1 (behind_name s x) states)
-      (yields_append WithStates state_format k.c1 1 (behind_name s x) (x ∷ []) n.states
+      yields_onto WithStates Reads (λ xs. names xs n.faults) (written Areas.States (behind_name s x) states)
+      (yields_append WithStates state_format k.c1 Areas.States (behind_name s x) (x ∷ []) n.states
       (λ _. record { before = omega (arith, z, h.before); within = omega (arith, z, h.before); faults = h.faults })) (λ _ _ g. g)
 
   state_read : (x : State) (n : Names) → x.start ≤ x.end → x.end ≤ t → Reads x.start n → Yields Reads (declare_state s k x n)
   unfolding declare_state
   state_read x n l m h =
-      by_test (Yields Reads) (not (is_state_name s x.start x.end)) _ _ (λ _. tt)
-      (λ _. by_test (Yields Reads) (ltb (state_named s x n.states) (length n.states)) _ _ (λ _. repeat_read x _ n l h) (λ _. add_read x n l m h))
+      cond_both (not (is_state_name s x.start x.end)) _ _ (Yields Reads) (λ _. tt)
+      (λ _. cond_both (ltb (state_named s x n.states) (length n.states)) _ _ (Yields Reads) (λ _. repeat_read x _ n l h) (λ _. add_read x n l m h))
 
   names_read : (exclusive a : ℕ) (n : Names) → Reads a n → Yields Reads (state_names s k exclusive (range a t) n)
   unfolding state_names
@@ -135,7 +137,7 @@ module _ (s : List ℕ) (k : NameCaps) (t : ℕ) where
 
 -- the names that a line declares stand behind i
 abbrev Behind : ℕ → Declaration → Type 0
-Behind i (States exclusive a t) = (i ≤ a) × (a ≤ t)
+Behind i (States exclusive r) = (i ≤ r.start) × (r.start ≤ r.end)
 Behind i (Expecting w) = Unit {0}
 Behind i Unknown = Unit {0}
 
@@ -143,30 +145,30 @@ module _ (s : List ℕ) (i e : ℕ) (h : i ≤ e) where
   states_behind : (exclusive r : ℕ) → i ≤ r → Behind i (states_of exclusive (trimmed s (range r e)))
   unfolding states_of trimmed trim_start trim_end
   states_behind exclusive r g =
-      by_test (Behind i) (eqb (trim_start s r e) (trim_end s (trim_start s r e) e)) Unknown _ (λ _. tt)
+      cond_both (eqb (trim_start s r e) (trim_end s (trim_start s r e) e)) Unknown _ (Behind i) (λ _. tt)
       (λ _. (omega (arith, skip_from (whitespace_len s) (length s) (white_inside s) r), first_from _ (trim_start s r e) e))
 
-  rest_behind : i ≤ (rest_of s (range i e)).from
+  rest_behind : i ≤ (rest_of s (range i e)).start
   unfolding rest_of word_end
-  rest_behind = by_test (λ r. i ≤ r) (eqb (word_end s (range i e)) (trim_end s i e)) e (word_end s (range i e)) (λ _. h) (λ _. first_from (at_whitespace s) i e)
+  rest_behind = cond_both (eqb (word_end s (range i e)) (trim_end s i e)) e (word_end s (range i e)) (λ r. i ≤ r) (λ _. h) (λ _. first_from (at_whitespace s) i e)
 
   line_behind : Behind i (declaration_of s (range i e))
   unfolding declaration_of rest_of
   line_behind =
-      by_test (Behind i) (is_inclusive s (first_word s (range i e))) _ _ (λ _. states_behind 0 (rest_of s (range i e)).from rest_behind)
-      (λ _. by_test (Behind i) (is_exclusive s (first_word s (range i e))) _ _ (λ _. states_behind 1 (rest_of s (range i e)).from rest_behind)
-      (λ _. by_test (Behind i) (is_expecting s (first_word s (range i e))) _ _ (λ _. tt) (λ _. tt)))
+      cond_both (is_inclusive s (first_word s (range i e))) _ _ (Behind i) (λ _. states_behind 0 (rest_of s (range i e)).start rest_behind)
+      (λ _. cond_both (is_exclusive s (first_word s (range i e))) _ _ (Behind i) (λ _. states_behind 1 (rest_of s (range i e)).start rest_behind)
+      (λ _. cond_both (is_expecting s (first_word s (range i e))) _ _ (Behind i) (λ _. tt) (λ _. tt)))
 
 -- lines are skipped forward
-declaration_from : (s : List ℕ) (flags i : ℕ) → i ≤ to_declaration s flags i
+declaration_from : (s : List ℕ) (options : Options) (i : ℕ) → i ≤ to_declaration s options i
 unfolding to_declaration past_line past_comment
-declaration_from s flags i =
-    repeat_keeps (λ k. i ≤ k) (past_line s flags)
+declaration_from s options i =
+    repeat_keeps (λ k. i ≤ k) (past_line s options)
     (λ k l.
     let m = skip_whitespace s k in
     let f : k ≤ m = skip_from (whitespace_len s) (length s) (white_inside s) k in
     let ends_behind : m ≤ line_end s m = first_from (at_line_end s) m (length s) in
-    by_test (λ j. i ≤ j) (is_comment s flags m) (line_end s m) m (λ _. omega (arith, ends_behind)) (λ _. omega arith)) (length s) i (le_refl i)
+    cond_both (is_comment s options.comments m) (line_end s m) m (λ j. i ≤ j) (λ _. omega (arith, ends_behind)) (λ _. omega arith)) (length s) i (le_refl i)
 
 -- ---- the declarations
 
@@ -182,32 +184,32 @@ module _ (s : List ℕ) (options : Options) (k : Caps) where
   as_read : (i e : ℕ) → i ≤ e → e ≤ length s → (x : Declaration) → declaration_of s (range i e) ≡ x → (d : Declared) → Read i d
       → Yields Read (declare_as s k (range i e) x d)
   unfolding declare_as
-  as_read i e a l (States exclusive b t) q d h =
-      let f : (i ≤ b) × (b ≤ t) = subst (Behind i) q (line_behind s i e a) in
-      let g : t ≤ e = names_within s i e (declaration_of s (range i e)) refl a exclusive b t q in
+  as_read i e a l (States exclusive r) q d h =
+      let f : (i ≤ r.start) × (r.start ≤ r.end) = subst (Behind i) q (line_behind s i e a) in
+      let g : r.end ≤ e = (names_within s i e (declaration_of s (range i e)) refl a exclusive r q).1 in
       let caps = name_caps k.c1 k.c6 in
       let before = names d.states d.faults in
-      let start : NamesRead k.c6 t b before = record {
+      let start : NamesRead k.c6 r.end r.start before = record {
         before = omega (arith, f.0, h.names);
         within = omega (arith, f.0, f.1, h.names);
         faults = h.faults;
       } in
-      yields_then (NamesRead k.c6 t) Read e (with_names d) (state_names s caps exclusive (range b t) before)
-      (names_read s caps t exclusive b before start)
-      (λ _ n r. record { place = l; names = omega (arith, r.within); faults = r.faults })
+      yields_then (NamesRead k.c6 r.end) Read e (with_names d) (state_names s caps exclusive r before)
+      (names_read s caps r.end exclusive r.start before start)
+      (λ _ n w. record { place = l; names = omega (arith, w.within); faults = w.faults })
   as_read i e a l (Expecting w) q d h = any_read (expected_names s k.c5 (range i e) w d.expected)
     where
       any_read : (o : Out _) → Yields Read (then_at e (onto (with_expected d) o))
       any_read (go j xs) = record { place = l; names = omega (arith, h.names); faults = h.faults }
       any_read (bad kind at xs) = tt
-      any_read (full n) = tt
+      any_read (full name) = tt
   as_read i e a l Unknown q d h = tt
 
   -- lines that are skipped keep it
-  skip_read : (i : ℕ) (d : Declared) → Read i d → Read (to_declaration s options.flags i) d
+  skip_read : (i : ℕ) (d : Declared) → Read i d → Read (to_declaration s options i) d
   skip_read i d h = record {
-    place = declaration_to s options.flags i h.place;
-    names = omega (arith, declaration_from s options.flags i, h.names);
+    place = declaration_to s options i h.place;
+    names = omega (arith, declaration_from s options i, h.names);
     faults = h.faults;
   }
 
@@ -215,14 +217,14 @@ module _ (s : List ℕ) (options : Options) (k : Caps) where
   unfolding next_declaration declaration
   declaration_read i d h =
       let e = line_end s i in
-      yields_next Read Read (declaration s k i e d) (λ j t. go (to_declaration s options.flags j) t)
+      yields_next Read Read (declaration s k i e d) (λ j t. go (to_declaration s options j) t)
       (as_read i e (first_from (at_line_end s) i (length s)) (first_to (at_line_end s) i (length s) h.place) (declaration_of s (range i e)) refl d h)
       skip_read
 
   end_read : (i : ℕ) (d : Declared) → Read i d → Yields Read (end_declarations s i d)
   unfolding end_declarations
   end_read i d h =
-      by_test (Yields Read) (is_some (lookahead_is s percents i)) (go (skip_blanks s (i + 2)) d) (bad PrematureEnd i d)
+      cond_both (is_some (lookahead_is s percents i)) (go (skip_blanks s (i + 2)) d) (bad PrematureEnd i d) (Yields Read)
       (λ q.
       let f : i + 2 ≤ skip_blanks s (i + 2) = first_from _ (i + 2) (length s) in
       record { place = first_to _ (i + 2) (length s) (word_to s percents i h.place q); names = omega (arith, f, h.names); faults = h.faults }) (λ _. tt)
@@ -230,7 +232,7 @@ module _ (s : List ℕ) (options : Options) (k : Caps) where
   declarations_read : (i : ℕ) (d : Declared) → Read i d → Yields Read (declarations s options k i d)
   unfolding declarations
   declarations_read i d h =
-      let start = to_declaration s options.flags i in
+      let start = to_declaration s options i in
       yields_next Read Read (loop (length s) (in_section s) (next_declaration s options k) start d) (end_declarations s)
       (yields_loop Read (in_section s) (next_declaration s options k) (λ j t _ g. declaration_read j t g) (length s) start d (skip_read i d h)) end_read
 
@@ -244,22 +246,22 @@ module _ (asked : Request) (xs : List State) (k : R.Caps) (c6 : ℕ) where
   sheet_fits : (r : Ruled) (o : Out Sheet) → FaultsFit c6 r.faults → Yields Ruling (onto (with_sheet r) o)
   sheet_fits r (go j w) h = h
   sheet_fits r (bad kind at w) h = tt
-  sheet_fits r (full n) h = tt
+  sheet_fits r (full name) h = tt
 
   heading_fits : (i e : ℕ) (x : Result Heading LexError) (r : Ruled) → FaultsFit c6 r.faults → Yields Ruling (rule_as asked xs k c6 i e x r)
   unfolding rule_as
   heading_fits i e (Err error) r h = tt
   heading_fits i e (Ok (Repeated first again)) r h =
       yields_onto (λ _ fs. FaultsFit c6 fs) Ruling (with_faults r)
-      (written 6 e (add_repeat c6 DuplicateName first.start first.end again.start again.end r.faults))
+      (written Areas.Faults e (add_repeat c6 DuplicateName first.start first.end again.start again.end r.faults))
       (repeat_fits (λ _ fs. FaultsFit c6 fs) c6 e r.faults (λ _ f. f) DuplicateName first.start first.end again.start again.end) (λ _ _ f. f)
   heading_fits i e (Ok (Fresh b hd)) r h = sheet_fits r (pattern asked k i e hd (trim_end_unescaped asked.source i b) xs (sheet_of r)) h
 
   line_fits : (i e : ℕ) (r : Ruled) → FaultsFit c6 r.faults → Yields Ruling (line asked xs k c6 i e r)
   unfolding line rule
   line_fits i e r h =
-      let o = written 6 e (add_fault c6 VerbatimNotSupported i e r.faults) in
-      by_test (Yields Ruling) (at_whitespace asked.source i) (onto (with_faults r) o) (rule asked xs k c6 i e r)
+      let o = written Areas.Faults e (add_fault c6 VerbatimNotSupported i e r.faults) in
+      cond_both (at_whitespace asked.source i) (onto (with_faults r) o) (rule asked xs k c6 i e r) (Yields Ruling)
       (λ _. yields_onto (λ _ fs. FaultsFit c6 fs) Ruling (with_faults r) o
       (fault_fits (λ _ fs. FaultsFit c6 fs) c6 e r.faults (λ _ f. f) VerbatimNotSupported i e) (λ _ _ f. f))
       (λ _. heading_fits i e (heading_of asked.source i (trim_end asked.source i e) xs r.rules) r h)
@@ -268,19 +270,19 @@ module _ (asked : Request) (xs : List State) (k : R.Caps) (c6 : ℕ) where
   unfolding next_rule
   rule_fits i r h =
       let e = line_end asked.source i in
-      yields_next Ruling Ruling (line asked xs k c6 i e r) (λ _ t. go (to_rule asked.source asked.options.flags e) t)
+      yields_next Ruling Ruling (line asked xs k c6 i e r) (λ _ t. go (to_rule asked.source asked.options e) t)
       (line_fits i e r h) (λ _ _ f. f)
 
   routines_fit : (i : ℕ) (r : Ruled) → FaultsFit c6 r.faults → Yields Ruling (routines asked.source i r)
   unfolding routines
-  routines_fit i r h = by_test (Yields Ruling) (has_routines asked.source i) (bad RoutinesNotSupported i r) (go i r) (λ _. tt) (λ _. h)
+  routines_fit i r h = cond_both (has_routines asked.source i) (bad RoutinesNotSupported i r) (go i r) (Yields Ruling) (λ _. tt) (λ _. h)
 
   rules_fit : (i : ℕ) (r : Ruled) → FaultsFit c6 r.faults → Yields Ruling (rules_section asked xs k c6 i r)
   unfolding rules_section rules
   rules_fit i r h =
       yields_next Ruling Ruling (rules asked xs k c6 i r) (routines asked.source)
       (yields_loop Ruling (in_section asked.source) (next_rule asked xs k c6) (λ j t _ f. rule_fits j t f)
-      (length asked.source) (to_rule asked.source asked.options.flags i) r h) routines_fit
+      (length asked.source) (to_rule asked.source asked.options i) r h) routines_fit
 
 -- ---- a file
 
@@ -289,7 +291,7 @@ abbrev pub Bounded : List ℕ → ℕ → Outcome → Type 0
 Bounded s c6 long_file = Unit {0}
 Bounded s c6 unknown_flag = Unit {0}
 Bounded s c6 invalid_utf8 = Unit {0}
-Bounded s c6 (area_full n) = Unit {0}
+Bounded s c6 (area_full name) = Unit {0}
 Bounded s c6 (faulty fs) = FaultsFit c6 fs
 Bounded s c6 (accepted c) = name_bytes c.states ≤ length s
 
@@ -299,18 +301,18 @@ module _ (s : List ℕ) (c6 : ℕ) where
   unfolding closed add_fault append
   closed_bounded kind at fs =
       let ys = fault (next_number fs) kind at at ∷ [] in
-      by_test (λ o. Bounded s c6 (closed o)) (room fault_width most_others c6 (length fs) 1) (some (fs ++ ys)) none
+      cond_both (room fault_width most_others c6 (length fs) 1) (some (fs ++ ys)) none (λ o. Bounded s c6 (closed o))
       (λ q. room_holds fault_format c6 fs ys q) (λ _. tt)
 
   ending_bounded : {S : Type 0} (Q : ℕ → S → Type 0) (faults : S → List Fault) (o : Out S) (g : ℕ → S → Outcome) → Yields Q o
       → ((i : ℕ) (t : S) → Q i t → Bounded s c6 (g i t)) → Bounded s c6 (ending faults c6 o g)
   ending_bounded Q faults (go i t) g h f = f i t h
   ending_bounded Q faults (bad kind at t) g h f = closed_bounded kind at (faults t)
-  ending_bounded Q faults (full n) g h f = tt
+  ending_bounded Q faults (full name) g h f = tt
 
   judge_bounded : (c : Contents) → FaultsFit c6 c.faults → name_bytes c.states ≤ length s → Bounded s c6 (judge c)
   unfolding judge
-  judge_bounded c f h = by_test (Bounded s c6) (eqb (length c.faults) 0) (accepted c) (faulty c.faults) (λ _. h) (λ _. f)
+  judge_bounded c f h = cond_both (eqb (length c.faults) 0) (accepted c) (faulty c.faults) (Bounded s c6) (λ _. h) (λ _. f)
 
 module _ (asked : Request) (k : P.Caps) where
   abbrev AllRead : ℕ → Declared → Type 0
@@ -329,10 +331,10 @@ module _ (asked : Request) (k : P.Caps) where
   opening_read =
       let Opened : ℕ → List State → Type 0 = λ i xs. AllRead i (with_states undeclared xs) in
       let no-faults-fit : FaultsFit k.c6 [] = record { few = omega arith; fits = omega arith } in
-      let o = written 1 0 (append state_format k.c1 (state 0 0 0 ∷ []) []) in
+      let o = written Areas.States 0 (append state_format k.c1 (state 0 0 0 ∷ []) []) in
       yields_next AllRead AllRead (onto (with_states undeclared) o) (declarations asked.source asked.options (declaration_caps k))
       (yields_onto Opened AllRead (with_states undeclared) o
-      (yields_append Opened state_format k.c1 1 0 (state 0 0 0 ∷ []) []
+      (yields_append Opened state_format k.c1 Areas.States 0 (state 0 0 0 ∷ []) []
       (λ _. record { place = omega arith; names = omega (arith, names_none, names_more [] (state 0 0 0)); faults = no-faults-fit }))
       (λ i xs h. h))
       (λ i d h. declarations_read asked.source asked.options (declaration_caps k) i d h)

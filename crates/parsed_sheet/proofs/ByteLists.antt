@@ -2,21 +2,22 @@
 -- source and of the texts for `\b`.
 use Prim.Native.Nat.{ℕ, ◌+◌, ◌-◌, ◌/◌, ◌%◌, ◌<◌}
 use mathlib.Core.Path.{◌≡◌, refl, subst}
-use mathlib.Core.Bool.{true}
+use mathlib.Core.Bool.{Bool, true}
 use mathlib.Core.List.{List, [], ◌∷◌, ◌++◌}
 use native.Mathlib.Omega.{arith}
 use borrow.Author.Tests.{lt-ltb, ltb-true}
 use lib.Dec.{eqb, ltb}
 use lib.ListN.{drop}
+use Rattle.std.proofs.lemmas.Bool.{cond_both}
 use Rattle.characters.specs.Class.{within}
 use Rattle.characters.specs.Whitespace.{byte}
 use Rattle.text.specs.Range.{part}
 use Rattle.characters.specs.Unicode.{is_scalar, encode, encode_all, Scalars}
 use Rattle.characters.specs.Utf8.{utf8}
-use Rattle.characters.proofs.Tests.{by_test, or_cases, range_of}
+use Rattle.characters.proofs.Tests.{or_cases, range_of}
 use Rattle.characters.proofs.Decoding.{utf8_judges}
 use Rattle.escape.specs.declared.Escape.{Escape}
-use Rattle.escape.specs.Escape.{escapes, posix_escapes, backspace, escape_from, escaped, rewritten_end, replaced, unescaped}
+use Rattle.escape.specs.Escape.{escapes, backspace, escape_from, escaped, rewritten_end, replaced, unescaped}
 use Rattle.area.specs.Lists.{all}
 use Rattle.area.proofs.All.{all_append, all_take, all_drop}
 use Rattle.parsed_sheet.specs.Accepted.{is_byte}
@@ -59,9 +60,9 @@ encode_bytes c e =
     let two : List ℕ = (0x80 + c / 0x40 % 0x40) ∷ one in
     let three : List ℕ = (0x80 + c / 0x1000 % 0x40) ∷ two in
     let three_bytes_lem : P three = byte_more (0x80 + c / 0x1000 % 0x40) two (inner_byte (c / 0x1000)) (inner_two (c / 0x40) c) in
-    by_test P (ltb c 0x80) (c ∷ []) _ (λ h. byte_more c [] (omega (arith, ltb-true c 0x80 h)) no_bytes)
-    (λ _. by_test P (ltb c 0x800) ((0xc0 + c / 0x40) ∷ one) _ (λ h. byte_more (0xc0 + c / 0x40) one (omega (arith, ltb-true c 0x800 h)) (inner_one c))
-    (λ _. by_test P (ltb c 0x10000) ((0xe0 + c / 0x1000) ∷ two) ((0xf0 + c / 0x40000) ∷ three)
+    cond_both (ltb c 0x80) (c ∷ []) _ P (λ h. byte_more c [] (omega (arith, ltb-true c 0x80 h)) no_bytes)
+    (λ _. cond_both (ltb c 0x800) ((0xc0 + c / 0x40) ∷ one) _ P (λ h. byte_more (0xc0 + c / 0x40) one (omega (arith, ltb-true c 0x800 h)) (inner_one c))
+    (λ _. cond_both (ltb c 0x10000) ((0xe0 + c / 0x1000) ∷ two) ((0xf0 + c / 0x40000) ∷ three) P
     (λ h. byte_more (0xe0 + c / 0x1000) two (omega (arith, ltb-true c 0x10000 h)) (inner_two (c / 0x40) c))
     (λ _. byte_more (0xf0 + c / 0x40000) three (omega (arith, scalar_small c e)) three_bytes_lem)))
 
@@ -77,25 +78,25 @@ utf8_bytes s e =
 
 -- ---- rewritten text
 
-module _ (s : List ℕ) (flags c : ℕ) (h : all is_byte s ≡ true) where
+module _ (s : List ℕ) (posix_escapes : Bool) (c : ℕ) (h : all is_byte s ≡ true) where
   abbrev AllBytes : List ℕ → Type 0
   AllBytes l = all is_byte l ≡ true
 
-  escaped_bytes : (e : Escape) → AllBytes (escaped s flags c e)
+  escaped_bytes : (e : Escape) → AllBytes (escaped s posix_escapes c e)
   unfolding escaped backspace all
   escaped_bytes e =
-      by_test AllBytes (eqb (byte s e.start) 0x62) (backspace flags) (part s (escape_from s c e) e.end)
-      (λ _. by_test AllBytes (posix_escapes flags) (0x5c ∷ 0x78 ∷ 0x30 ∷ 0x38 ∷ []) (0x5c ∷ 0x62 ∷ []) (λ _. refl) (λ _. refl))
+      cond_both (eqb (byte s e.start) 0x62) (backspace posix_escapes) (part s (escape_from s c e) e.end) AllBytes
+      (λ _. cond_both posix_escapes (0x5c ∷ 0x78 ∷ 0x30 ∷ 0x38 ∷ []) (0x5c ∷ 0x62 ∷ []) AllBytes (λ _. refl) (λ _. refl))
       (λ _. part_bytes s (escape_from s c e) e.end h)
 
-  replaced_bytes : (p z : ℕ) (es : List Escape) → AllBytes (replaced (escaped s flags c) s p z es)
+  replaced_bytes : (p z : ℕ) (es : List Escape) → AllBytes (replaced (escaped s posix_escapes c) s p z es)
   unfolding replaced
   replaced_bytes p z [] = part_bytes s p z h
   replaced_bytes p z (e ∷ es) =
-      let rest = replaced (escaped s flags c) s e.end z es in
-      all_append is_byte (part s p e.backslash) (escaped s flags c e ++ rest) (part_bytes s p e.backslash h)
-      (all_append is_byte (escaped s flags c e) rest (escaped_bytes e) (replaced_bytes e.end z es))
+      let rest = replaced (escaped s posix_escapes c) s e.end z es in
+      all_append is_byte (part s p e.backslash) (escaped s posix_escapes c e ++ rest) (part_bytes s p e.backslash h)
+      (all_append is_byte (escaped s posix_escapes c e) rest (escaped_bytes e) (replaced_bytes e.end z es))
 
-  pub unescaped_bytes : (i : ℕ) → all is_byte (unescaped s flags i c) ≡ true
+  pub unescaped_bytes : (i : ℕ) → all is_byte (unescaped s posix_escapes i c) ≡ true
   unfolding unescaped
   unescaped_bytes i = replaced_bytes i (rewritten_end s i c) (escapes s i c)

@@ -118,5 +118,5 @@ module _ (asked : Request) (k : Caps) where
       by long_file q z = absurd (false≢true (ap is_accepted z))
       by unknown_flag q z = absurd (false≢true (ap is_accepted z))
       by invalid_utf8 q z = absurd (false≢true (ap is_accepted z))
-      by (area_full n) q z = absurd (false≢true (ap is_accepted z))
+      by (area_full name) q z = absurd (false≢true (ap is_accepted z))
       by (faulty fs) q z = absurd (false≢true (ap is_accepted z))

@@ -1,5 +1,6 @@
 -- Larger areas change nothing but where an area was full, and that is one of the six: one law for each way to join steps, one line for each
 -- definition. So an accepted outcome is the file's meaning, whatever the areas had.
+use Rattle.std.proofs.lemmas.Bool.{and_parts}
 use Rattle.std.specs.Prelude.{Result, Ok, Err, is_some}
 use Prim.Native.Nat.{ℕ, zero, suc, ◌+◌, ◌*◌, ◌-◌, ◌≤◌}
 use mathlib.Core.Path.{◌≡◌, refl, ap, subst, subst⁻¹}
@@ -7,12 +8,12 @@ use mathlib.Core.Bool.{Bool, true, false, cond, not, ◌&&◌}
 use mathlib.Core.List.{List, [], ◌∷◌, ◌++◌}
 use mathlib.Core.Option.{Option, none, some}
 use native.Mathlib.Nat.{mul-le-mul_right}
-use native.Mathlib.Omega.{arith}
 use borrow.Author.Tests.{le-leb, leb-true}
 use lib.Dec.{eqb, leb, ltb}
 use lib.ListN.{length}
-use Rattle.characters.proofs.Tests.{and_left}
 use Rattle.characters.specs.Utf8.{utf8}
+use Rattle.area.specs.declared.AreaName.{AreaName}
+use Rattle.area.specs.declared.AreaName.TheVariants as Areas
 use Rattle.area.specs.declared.State.{State}
 use Rattle.area.specs.declared.Rule.{Rule}
 use Rattle.area.specs.declared.Expected.{Expected}
@@ -23,7 +24,8 @@ use Rattle.text.specs.Scan.{line_end}
 use Rattle.characters.specs.Whitespace.{at_whitespace}
 use Rattle.escape.specs.Escape.{unescaped}
 use Rattle.text.specs.Range.{lookahead_is}
-use Rattle.section.specs.Request.{Options, Request}
+use Rattle.section.specs.declared.options.Options.{Options}
+use Rattle.section.specs.Request.{Request}
 use Rattle.section.specs.Section.{percents, to_declaration, to_rule, has_routines}
 use Rattle.area.specs.Contents.{Format, append, state_format, rule_format, entry_format, text_format, expected_format, fault_format}
 use Rattle.fault.specs.Step.{Out, go, bad, full, next, onto, written, loop}
@@ -32,10 +34,10 @@ use Rattle.fault.specs.Faults.{find_fault, UnknownDeclaration, InvalidName, Unkn
 use Rattle.declarations.specs.declared.Declaration.{Declaration}
 use Rattle.declarations.specs.declared.Declaration.TheVariants.{States, Expecting, Unknown}
 use Rattle.names.specs.Names.{is_state_name}
-use Rattle.declarations.specs.Declarations.{Range, range, Names, names, name_caps, state, Declared, with_names, with_expected, expected, is_quoted, behind_name}
+use Rattle.declarations.specs.Declarations.{Range, Names, names, name_caps, state, Declared, with_names, with_expected, expected, is_quoted, behind_name}
 use Rattle.declarations.specs.Declarations.{add_state, repeat_state, state_named, declare_state, state_names, declare_expected, expected_names, declare_as, declaration, next_declaration, end_declarations, declarations}
 use Rattle.rules.specs.declared.Head.{Head}
-use Rattle.rules.specs.declared.LexError.{LexError}
+use Rattle.fault.specs.declared.kinds.LexError.{LexError}
 use Rattle.rules.specs.declared.Heading.{Heading}
 use Rattle.rules.specs.declared.Heading.TheVariants.{Repeated, Fresh}
 use Rattle.rules.specs.declared.Body.{Body}
@@ -43,7 +45,7 @@ use Rattle.rules.specs.declared.Body.TheVariants.{Unclosed, Listed, Rewritten, P
 use Rattle.rules.specs.Heading.{body_of}
 use Rattle.rules.specs.Rules.{refuses, entry_end, entry_id, next_entry, entries, record_rule}
 use Rattle.rules_section.specs.RulesSection.{Sheet, sheet, Ruled, sheet_of, with_sheet, with_faults, with_rule, listed_rule, rewritten_rule, pattern, rule_as, rule, line, next_rule, rules, routines, rules_section}
-use Rattle.rules_section.specs.declared.pattern.Text.{Text}
+use Rattle.area.specs.declared.RuleText.{RuleText}
 use Rattle.rules_section.specs.declared.pattern.StateList.{StateList}
 use Rattle.rules_section.proofs.Patterns.{pattern_is_unclosed, pattern_is_listed, pattern_is_rewritten, pattern_is_plain}
 use Rattle.parse.specs.Parse.{Contents, Caps, Outcome, long_file, unknown_flag, invalid_utf8, area_full, faulty, accepted, closed, ending, judge, contents_of, rules_from, opening, file, outcome, declaration_caps, rule_caps, undeclared, with_states, no_rules}
@@ -58,7 +60,7 @@ pub record Roomier {A : Type 0} (F : Format A) (c d : ℕ) : Type 0 where
 -- an area as long as its limit allows is long enough
 at_limit : {A : Type 0} (F : Format A) (c : ℕ) → Roomier F c (whole F)
 unfolding room
-at_limit F c = record { room = λ n m e. by n m (and_left (leb (n + m) F.most) _ e) }
+at_limit F c = record { room = λ n m e. by n m (and_parts (leb (n + m) F.most) _ e).0 }
   where
     by : (n m : ℕ) → leb (n + m) F.most ≡ true → leb (n + m) F.most && leb ((n + m) * F.width) (whole F) ≡ true
     by n m e = rw (e, le-leb ((n + m) * F.width) (whole F) (mul-le-mul_right F.width (leb-true (n + m) F.most e))) refl
@@ -95,9 +97,9 @@ record Grown {A : Type 0} (a b : Option A) : Type 0 where
 abbrev StaysAs : {S : Type 0} → Out S → Out S → Type 0
 StaysAs (go i s) p = p ≡ go i s
 StaysAs (bad kind at s) p = p ≡ bad kind at s
-StaysAs (full n) p = n ≤ 6
+StaysAs (full name) p = Unit {0}
 
--- the outcome o is p, unless an area was full, one of the six
+-- the outcome o is p, unless an area was full
 record Stays {S : Type 0} (o p : Out S) : Type 0 where
   kept : StaysAs o p
 
@@ -126,16 +128,16 @@ stays_if false p q = q
 stays_next : {S : Type 0} {o p : Out S} {f g : ℕ → S → Out S} → Stays o p → ((i : ℕ) (s : S) → Stays (f i s) (g i s)) → Stays (next o f) (next p g)
 stays_next {o = go i s} {f = f} h k = rw h.kept (k i s)
 stays_next {o = bad kind at s} {g = g} h k = record { kept = ap (λ x. next x g) h.kept }
-stays_next {o = full n} h k = record { kept = h.kept }
+stays_next {o = full name} h k = record { kept = tt }
 
 stays_onto : {S T : Type 0} (f : S → T) {o p : Out S} → Stays o p → Stays (onto f o) (onto f p)
 stays_onto f {o = go i s} h = record { kept = ap (onto f) h.kept }
 stays_onto f {o = bad kind at s} h = record { kept = ap (onto f) h.kept }
-stays_onto f {o = full n} h = record { kept = h.kept }
+stays_onto f {o = full name} h = record { kept = tt }
 
-stays_written : {S : Type 0} (n i : ℕ) → n ≤ 6 → {a b : Option S} → Grown a b → Stays (written n i a) (written n i b)
-stays_written n i l {a = none} h = record { kept = l }
-stays_written n i l {a = some s} h = record { kept = ap (written n i) h.kept }
+stays_written : {S : Type 0} (name : AreaName) (i : ℕ) {a b : Option S} → Grown a b → Stays (written name i a) (written name i b)
+stays_written name i {a = none} h = record { kept = tt }
+stays_written name i {a = some s} h = record { kept = ap (written name i) h.kept }
 
 stays_loop : {S : Type 0} (test : ℕ → Bool) (f g : ℕ → S → Out S) → ((i : ℕ) (s : S) → Stays (f i s) (g i s))
     → (n i : ℕ) (s : S) → Stays (loop n test f i s) (loop n test g i s)
@@ -170,22 +172,22 @@ module _ (k l : Caps) (w : Wider k l) (s : List ℕ) where
   grow_state x n =
       stays_if (not (is_state_name s x.start x.end)) (stays_bad InvalidStartStateName x.start n)
       (stays_if (ltb (state_named s x n.states) (length n.states))
-      (stays_onto (names n.states) (stays_written 6 (behind_name s x) (omega arith)
+      (stays_onto (names n.states) (stays_written Areas.Faults (behind_name s x)
       (grown_repeat k.c6 l.c6 w.w6 DuplicateStartState _ _ x.start x.end n.faults)))
-      (stays_onto (λ xs. names xs n.faults) (stays_written 1 (behind_name s x) (omega arith)
+      (stays_onto (λ xs. names xs n.faults) (stays_written Areas.States (behind_name s x)
       (grown_append state_format k.c1 l.c1 w.w1 (x ∷ []) n.states))))
 
   grow_names : (exclusive : ℕ) (r : Range) (n : Names)
       → Stays (state_names s (name_caps k.c1 k.c6) exclusive r n) (state_names s (name_caps l.c1 l.c6) exclusive r n)
   unfolding state_names
-  grow_names exclusive r n = stays_loop _ _ _ (λ j m. grow_state _ m) (length s) r.from n
+  grow_names exclusive r n = stays_loop _ _ _ (λ j m. grow_state _ m) (length s) r.start n
 
   grow_quoted : (line word : Range) (xs : List Expected) → Stays (declare_expected s k.c5 line word xs) (declare_expected s l.c5 line word xs)
   unfolding declare_expected
   grow_quoted line word xs =
-      let x = expected (word.from + 1) (word.to - 1) in
-      stays_if (is_quoted s word) (stays_written 5 _ (omega arith) (grown_append expected_format k.c5 l.c5 w.w5 (x ∷ []) xs))
-      (stays_bad InvalidName line.from xs)
+      let x = expected (word.start + 1) (word.end - 1) in
+      stays_if (is_quoted s word) (stays_written Areas.Expected _ (grown_append expected_format k.c5 l.c5 w.w5 (x ∷ []) xs))
+      (stays_bad InvalidName line.start xs)
 
   grow_expected : (line : Range) (a : ℕ) (xs : List Expected) → Stays (expected_names s k.c5 line a xs) (expected_names s l.c5 line a xs)
   unfolding expected_names
@@ -193,17 +195,17 @@ module _ (k l : Caps) (w : Wider k l) (s : List ℕ) where
 
   grow_declare : (line : Range) (x : Declaration) (d : Declared) → Stays (declare_as s (declaration_caps k) line x d) (declare_as s (declaration_caps l) line x d)
   unfolding declare_as
-  grow_declare line (States exclusive a e) d =
-      stays_next (stays_onto (with_names d) (grow_names exclusive (range a e) (names d.states d.faults))) (λ j m. stays_go line.to m)
-  grow_declare line (Expecting a) d = stays_next (stays_onto (with_expected d) (grow_expected line a d.expected)) (λ j m. stays_go line.to m)
-  grow_declare line Unknown d = stays_bad UnknownDeclaration line.from d
+  grow_declare line (States exclusive r) d =
+      stays_next (stays_onto (with_names d) (grow_names exclusive r (names d.states d.faults))) (λ j m. stays_go line.end m)
+  grow_declare line (Expecting a) d = stays_next (stays_onto (with_expected d) (grow_expected line a d.expected)) (λ j m. stays_go line.end m)
+  grow_declare line Unknown d = stays_bad UnknownDeclaration line.start d
 
   grow_declarations : (options : Options) (i : ℕ) (d : Declared)
       → Stays (declarations s options (declaration_caps k) i d) (declarations s options (declaration_caps l) i d)
   unfolding declarations next_declaration declaration end_declarations
   grow_declarations options i d =
       stays_next
-      (stays_loop _ _ _ (λ j m. stays_next (grow_declare _ _ m) (λ p t. stays_go (to_declaration s options.flags p) t)) (length s) _ d)
+      (stays_loop _ _ _ (λ j m. stays_next (grow_declare _ _ m) (λ p t. stays_go (to_declaration s options p) t)) (length s) _ d)
       (λ j m. stays_if (is_some (lookahead_is s percents j)) (stays_go _ m) (stays_bad _ _ m))
 
   -- ---- a list of states
@@ -213,7 +215,7 @@ module _ (k l : Caps) (w : Wider k l) (s : List ℕ) where
     unfolding next_entry
     grow_entry i g a ids =
         stays_if (leb (length xs) (entry_id s xs a (entry_end s g a))) (stays_bad UnknownStartState i ids)
-        (stays_written 3 (entry_end s g a + 1) (omega arith) (grown_append entry_format k.c3 l.c3 w.w3 (entry_id s xs a (entry_end s g a) ∷ []) ids))
+        (stays_written Areas.Entries (entry_end s g a + 1) (grown_append entry_format k.c3 l.c3 w.w3 (entry_id s xs a (entry_end s g a) ∷ []) ids))
 
     grow_entries : (i g : ℕ) (ids : List ℕ) → Stays (entries s k.c3 xs i g ids) (entries s l.c3 xs i g ids)
     unfolding entries
@@ -227,10 +229,10 @@ module _ (k l : Caps) (w : Wider k l) (asked : Request) (xs : List State) where
   unfolding record_rule
   grow_record i e x rs =
       stays_if (refuses asked.verdicts (length rs)) (stays_bad RegexError i rs)
-      (stays_written 2 e (omega arith) (grown_append rule_format k.c2 l.c2 w.w2 (x ∷ []) rs))
+      (stays_written Areas.Rules e (grown_append rule_format k.c2 l.c2 w.w2 (x ∷ []) rs))
 
   module _ (i e : ℕ) (h : Head) (c : ℕ) where
-    grow_with : (t : Text) (list : StateList) (v : Sheet)
+    grow_with : (t : RuleText) (list : StateList) (v : Sheet)
         → Stays (with_rule asked (rule_caps k) i e h t list v) (with_rule asked (rule_caps l) i e h t list v)
     unfolding with_rule
     grow_with t list v = stays_onto (λ rs. sheet rs v.lists v.text) (grow_record i e _ v.rules)
@@ -244,10 +246,10 @@ module _ (k l : Caps) (w : Wider k l) (asked : Request) (xs : List State) where
     grow_rewritten : (v : Sheet) → Stays (rewritten_rule asked (rule_caps k) i e h c v) (rewritten_rule asked (rule_caps l) i e h c v)
     unfolding rewritten_rule
     grow_rewritten v =
-        let text = unescaped asked.source asked.options.flags i c in
+        let text = unescaped asked.source asked.options.posix_escapes i c in
         stays_next
         (stays_onto (λ t. sheet v.rules v.lists t)
-        (stays_written 4 e (omega arith) (grown_append text_format k.c4 l.c4 w.w4 text v.text)))
+        (stays_written Areas.Text e (grown_append text_format k.c4 l.c4 w.w4 text v.text)))
         (λ _ u. grow_with _ _ u)
 
     grow_pattern : (v : Sheet) → Stays (pattern asked (rule_caps k) i e h c xs v) (pattern asked (rule_caps l) i e h c xs v)
@@ -275,14 +277,14 @@ module _ (k l : Caps) (w : Wider k l) (asked : Request) (xs : List State) where
   unfolding rule_as
   grow_rule i e (Err error) r = stays_bad (kind_number error.kind) error.at r
   grow_rule i e (Ok (Repeated first again)) r =
-      stays_onto (with_faults r) (stays_written 6 e (omega arith) (grown_repeat k.c6 l.c6 w.w6 DuplicateName first.start first.end again.start again.end r.faults))
+      stays_onto (with_faults r) (stays_written Areas.Faults e (grown_repeat k.c6 l.c6 w.w6 DuplicateName first.start first.end again.start again.end r.faults))
   grow_rule i e (Ok (Fresh b h)) r = stays_onto (with_sheet r) (grow_pattern i e h _ (sheet_of r))
 
   grow_line : (i e : ℕ) (r : Ruled) → Stays (line asked xs (rule_caps k) k.c6 i e r) (line asked xs (rule_caps l) l.c6 i e r)
   unfolding line rule
   grow_line i e r =
       stays_if (at_whitespace asked.source i)
-      (stays_onto (with_faults r) (stays_written 6 e (omega arith) (grown_fault k.c6 l.c6 w.w6 VerbatimNotSupported i e r.faults)))
+      (stays_onto (with_faults r) (stays_written Areas.Faults e (grown_fault k.c6 l.c6 w.w6 VerbatimNotSupported i e r.faults)))
       (grow_rule i e _ r)
 
   grow_rules : (i : ℕ) (r : Ruled) → Stays (rules_section asked xs (rule_caps k) k.c6 i r) (rules_section asked xs (rule_caps l) l.c6 i r)
@@ -292,7 +294,7 @@ module _ (k l : Caps) (w : Wider k l) (asked : Request) (xs : List State) where
       (stays_loop _ _ _
       (λ j t.
       let e = line_end asked.source j in
-      stays_next (grow_line j e t) (λ p q. stays_go (to_rule asked.source asked.options.flags e) q)) (length asked.source) _ r)
+      stays_next (grow_line j e t) (λ p q. stays_go (to_rule asked.source asked.options e) q)) (length asked.source) _ r)
       (λ j t. stays_if (has_routines asked.source j) (stays_bad _ _ t) (stays_go _ t))
 
 -- ---- the file
@@ -301,11 +303,11 @@ abbrev SettledAs : Outcome → Outcome → Type 0
 SettledAs long_file p = p ≡ long_file
 SettledAs unknown_flag p = p ≡ unknown_flag
 SettledAs invalid_utf8 p = p ≡ invalid_utf8
-SettledAs (area_full n) p = n ≤ 6
+SettledAs (area_full name) p = Unit {0}
 SettledAs (faulty fs) p = p ≡ faulty fs
 SettledAs (accepted c) p = p ≡ accepted c
 
--- the outcome o is p, unless an area was full, one of the six
+-- the outcome o is p, unless an area was full
 pub record Settled (o p : Outcome) : Type 0 where
   pub kept : SettledAs o p
 
@@ -319,14 +321,14 @@ settled_judge c = settled_if (eqb (length c.faults) 0) (record { kept = refl }) 
 
 settled_closed : (a b : Option (List Fault)) → Grown a b → Settled (closed a) (closed b)
 unfolding closed
-settled_closed none b h = record { kept = omega arith }
+settled_closed none b h = record { kept = tt }
 settled_closed (some fs) b h = record { kept = ap closed h.kept }
 
 settled_ending : {S : Type 0} (faults : S → List Fault) (c d : ℕ) → Roomier fault_format c d → {o p : Out S} {f g : ℕ → S → Outcome} → Stays o p
     → ((i : ℕ) (s : S) → Settled (f i s) (g i s)) → Settled (ending faults c o f) (ending faults d p g)
 settled_ending faults c d w {o = go i s} h k = rw h.kept (k i s)
 settled_ending faults c d w {o = bad kind at s} h k = rw h.kept (settled_closed _ _ (grown_fault c d w kind at at (faults s)))
-settled_ending faults c d w {o = full n} h k = record { kept = h.kept }
+settled_ending faults c d w {o = full name} h k = record { kept = tt }
 
 module _ (k l : Caps) (w : Wider k l) (asked : Request) where
   abbrev opened : Caps → Out Declared
@@ -337,7 +339,7 @@ module _ (k l : Caps) (w : Wider k l) (asked : Request) where
   grow_opening =
       stays_next
       (stays_onto (with_states undeclared)
-      (stays_written 1 0 (omega arith) (grown_append state_format k.c1 l.c1 w.w1 (state 0 0 0 ∷ []) undeclared.states)))
+      (stays_written Areas.States 0 (grown_append state_format k.c1 l.c1 w.w1 (state 0 0 0 ∷ []) undeclared.states)))
       (λ i d. grow_declarations k l w asked.source asked.options i d)
 
   grow_file : Settled (file asked k) (file asked l)
@@ -352,7 +354,7 @@ module _ (k l : Caps) (w : Wider k l) (asked : Request) where
   unfolding outcome
   larger =
       settled_if (ltb 65535 (length asked.source)) (record { kept = refl })
-      (settled_if (ltb 3 asked.options.flags) (record { kept = refl }) (settled_if (utf8 asked.source) grow_file (record { kept = refl })))
+      (settled_if asked.unknown_flags (record { kept = refl }) (settled_if (utf8 asked.source) grow_file (record { kept = refl })))
 
 -- whatever the areas had, an accepted outcome is the file's meaning
 pub accepted_meaning : (asked : Request) (k : Caps) (c : Contents) → outcome asked k ≡ accepted c → meaning asked ≡ accepted c

@@ -10,7 +10,7 @@ use Rattle.text.specs.Scan.{last_blank}
 use Rattle.std.specs.Prelude.{Option, Some, Result, Ok, Err}
 use Rattle.area.specs.declared.State.{State}
 use Rattle.area.specs.declared.Rule.{Rule}
-use Rattle.rules.specs.declared.LexError.{LexError}
+use Rattle.fault.specs.declared.kinds.LexError.{LexError}
 use Rattle.area.specs.declared.StartStateOperation.{StartStateOperation}
 use Rattle.area.specs.declared.StartStateOperation.TheVariants.{ReplaceStack, Push, Pop}
 use Rattle.rules.specs.declared.TargetState.{TargetState}

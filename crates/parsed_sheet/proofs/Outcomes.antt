@@ -5,8 +5,8 @@ use mathlib.Core.Bool.{true, cond}
 use borrow.Author.Tests.{ltb-false}
 use lib.Dec.{ltb}
 use lib.ListN.{length}
+use Rattle.std.proofs.lemmas.Bool.{cond_both}
 use Rattle.characters.specs.Utf8.{utf8}
-use Rattle.characters.proofs.Tests.{by_test}
 use Rattle.section.specs.Request.{Request}
 use Rattle.parse.specs.Parse.{Caps, Outcome, long_file, unknown_flag, invalid_utf8, file, outcome}
 
@@ -16,6 +16,6 @@ pub outcome_cases : (asked : Request) (k : Caps) (P : Outcome → Type 0) → P 
 unfolding outcome
 outcome_cases asked k P long flag invalid read =
     let text : Outcome = cond (utf8 asked.source) (file asked k) invalid_utf8 in
-    by_test P (ltb 65535 (length asked.source)) long_file (cond (ltb 3 asked.options.flags) unknown_flag text) (λ _. long)
-    (λ l. by_test P (ltb 3 asked.options.flags) unknown_flag text (λ _. flag)
-    (λ _. by_test P (utf8 asked.source) (file asked k) invalid_utf8 (read (ltb-false 65535 (length asked.source) l)) (λ _. invalid)))
+    cond_both (ltb 65535 (length asked.source)) long_file (cond asked.unknown_flags unknown_flag text) P (λ _. long)
+    (λ l. cond_both asked.unknown_flags unknown_flag text P (λ _. flag)
+    (λ _. cond_both (utf8 asked.source) (file asked k) invalid_utf8 P (read (ltb-false 65535 (length asked.source) l)) (λ _. invalid)))

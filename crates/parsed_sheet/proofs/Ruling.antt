@@ -2,6 +2,7 @@
 -- its position; each entry and each target is a declared state; and no two rules have the same name.
 use Prim.Native.Nat.{ℕ, ◌+◌, ◌≤◌, ◌<◌}
 use mathlib.Core.Path.{◌≡◌, refl}
+use Rattle.std.proofs.lemmas.Bool.{cond_both}
 use Rattle.std.specs.Prelude.{Result, Ok, Err}
 use mathlib.Core.Bool.{Bool, true, false, cond}
 use mathlib.Core.List.{List, [], ◌∷◌, ◌++◌}
@@ -13,8 +14,8 @@ use lib.Dec.{eqb, leb}
 use lib.ListN.{length, length-append}
 use Rattle.characters.specs.Whitespace.{at_whitespace, at_line_end}
 use Rattle.text.specs.Scan.{line_end, trim_end, trim_end_unescaped}
-use Rattle.characters.proofs.Tests.{by_test}
 use Rattle.characters.proofs.Walks.{first_from, first_to}
+use Rattle.area.specs.declared.AreaName.TheVariants as Areas
 use Rattle.area.specs.declared.State.{State}
 use Rattle.area.specs.declared.Rule.{Rule}
 use Rattle.area.specs.declared.Fault.{Fault}
@@ -26,7 +27,7 @@ use Rattle.escape.specs.Escape.{unescaped}
 use Rattle.names.proofs.Distinct.{Unused, distinct_more}
 use Rattle.section.specs.Request.{Request}
 use Rattle.section.specs.Section.{to_rule, in_section, has_routines}
-use Rattle.rules.specs.declared.LexError.{LexError}
+use Rattle.fault.specs.declared.kinds.LexError.{LexError}
 use Rattle.rules.specs.declared.Head.{Head}
 use Rattle.rules.specs.declared.Heading.{Heading}
 use Rattle.rules.specs.declared.Heading.TheVariants.{Repeated, Fresh}
@@ -34,7 +35,7 @@ use Rattle.rules.specs.Heading.{heading_of, named_field, name_fields}
 use Rattle.rules.specs.Rules.{entry_end, entry_id, next_entry, entries, refuses, record_rule}
 use Rattle.rules_section.specs.RulesSection.{Sheet, Caps, sheet, source_text, text_since, no_list, list_since, with_rule, listed_rule, rewritten_rule, pattern, Ruled, sheet_of, with_sheet, with_faults, rule_as, rule, line, next_rule, rules, routines, rules_section}
 use Rattle.rules_section.specs.RulesSection as R
-use Rattle.rules_section.specs.declared.pattern.Text.{Text}
+use Rattle.area.specs.declared.RuleText.{RuleText}
 use Rattle.rules_section.specs.declared.pattern.StateList.{StateList}
 use Rattle.rules.proofs.Heads.{fresh_from, fresh_to, fresh_unused}
 use Rattle.rules_section.proofs.Patterns.{pattern_cases}
@@ -101,8 +102,8 @@ module _ (s : List ℕ) (c3 n : ℕ) (xs : List State) where
   entry_kept i g a ids h =
       let e = entry_end s g a in
       let j = entry_id s xs a e in
-      by_test (Yields Listing) (leb (length xs) j) (bad UnknownStartState i ids) (written 3 (e + 1) (append entry_format c3 (j ∷ []) ids)) (λ _. tt)
-      (λ q. yields_append Listing entry_format c3 3 (e + 1) (j ∷ []) ids
+      cond_both (leb (length xs) j) (bad UnknownStartState i ids) (written Areas.Entries (e + 1) (append entry_format c3 (j ∷ []) ids)) (Yields Listing) (λ _. tt)
+      (λ q. yields_append Listing entry_format c3 Areas.Entries (e + 1) (j ∷ []) ids
       (λ f. record {
         longer = omega (arith, h.longer, length-append ids (j ∷ []));
         hold = record { each = each_snoc (EntryHolds (length xs)) 0 ids j h.hold.each (leb-false (length xs) j q); fits = f };
@@ -127,11 +128,11 @@ module _ (s : List ℕ) (m a b : ℕ) where
   unfolding record_rule
   record_kept verdicts c2 i e x rs h g u =
       let AllRules : ℕ → List Rule → Type 0 = λ _ ys. RulesHold s m a b c2 ys in
-      by_test (Yields AllRules) (refuses verdicts (length rs)) (bad RegexError i rs) (written 2 e (append rule_format c2 (x ∷ []) rs)) (λ _. tt)
-      (λ _. yields_append AllRules rule_format c2 2 e (x ∷ []) rs (rules_more s m a b c2 rs x h g u))
+      cond_both (refuses verdicts (length rs)) (bad RegexError i rs) (written Areas.Rules e (append rule_format c2 (x ∷ []) rs)) (Yields AllRules) (λ _. tt)
+      (λ _. yields_append AllRules rule_format c2 Areas.Rules e (x ∷ []) rs (rules_more s m a b c2 rs x h g u))
 
   -- the record of a heading, with its text and its list
-  rule_of_lem : (rs : List Rule) (h : Head) → HeadHolds s m h → (x : Text) (y : StateList) → x.place ≤ 1
+  rule_of_lem : (rs : List Rule) (h : Head) → HeadHolds s m h → (x : RuleText) (y : StateList) → x.place ≤ 1
       → x.from + x.length ≤ cond (eqb x.place 1) b (length s) → y.from + y.count ≤ a
       → RuleHolds (length s) m a b (length rs) (R.rule_of h (length rs) x y)
   rule_of_lem rs h g x y p t l = record {
@@ -162,7 +163,7 @@ module _ (asked : Request) (xs : List State) (k : Caps) (i e : ℕ) where
     MoreText j t = (length w.text ≤ length t) × TextHolds k.c4 t
 
     -- the rule of a text and a list, behind such entries and text
-    with_kept : (x : Text) (y : StateList) (ids t : List ℕ) → x.place ≤ 1
+    with_kept : (x : RuleText) (y : StateList) (ids t : List ℕ) → x.place ≤ 1
         → x.from + x.length ≤ cond (eqb x.place 1) (length t) (length asked.source) → y.from + y.count ≤ length ids
         → MoreEntries e ids → MoreText e t → Yields Sheets (with_rule asked k i e h x y (sheet w.rules ids t))
     unfolding with_rule
@@ -201,13 +202,13 @@ module _ (asked : Request) (xs : List State) (k : Caps) (i e : ℕ) where
     rewritten_kept : all is_byte asked.source ≡ true → Yields Sheets (rewritten_rule asked k i e h c w)
     unfolding rewritten_rule
     rewritten_kept source =
-        let u = unescaped asked.source asked.options.flags i c in
+        let u = unescaped asked.source asked.options.posix_escapes i c in
         let rewritten : List ℕ → Sheet = λ t. sheet w.rules w.lists t in
-        let its-bytes : all is_byte u ≡ true = unescaped_bytes asked.source asked.options.flags c source i in
+        let its-bytes : all is_byte u ≡ true = unescaped_bytes asked.source asked.options.posix_escapes c source i in
         let all-bytes : all is_byte (w.text ++ u) ≡ true = all_append is_byte w.text u holds.text.bytes its-bytes in
-        then_kept MoreText rewritten (written 4 e (append text_format k.c4 u w.text))
+        then_kept MoreText rewritten (written Areas.Text e (append text_format k.c4 u w.text))
         (λ _ v. with_rule asked k i e h (text_since w v) (no_list w) v)
-        (yields_append MoreText text_format k.c4 4 e u w.text
+        (yields_append MoreText text_format k.c4 Areas.Text e u w.text
         (λ f. (omega (arith, length-append w.text u), record { bytes = all-bytes; fits = f })))
         (λ _ t f. with_kept (text_since w (rewritten t)) (no_list w) w.lists t (omega arith) (omega (arith, f.0)) (omega arith) same_entries f)
 
@@ -223,7 +224,7 @@ module _ (asked : Request) (xs : List State) (stated : 0 < length xs) (source : 
   Lined i r = SheetHolds asked.source (length xs) k (sheet_of r)
 
   -- a step that writes faults only
-  faults_kept : (e : ℕ) (r : Ruled) (o : Option (List Fault)) → Lined e r → Yields Lined (onto (with_faults r) (written 6 e o))
+  faults_kept : (e : ℕ) (r : Ruled) (o : Option (List Fault)) → Lined e r → Yields Lined (onto (with_faults r) (written Areas.Faults e o))
   faults_kept e r none h = tt
   faults_kept e r (some fs) h = h
 
@@ -248,7 +249,7 @@ module _ (asked : Request) (xs : List State) (stated : 0 < length xs) (source : 
   unfolding line rule
   line_kept i e a l r h =
       let faults = add_fault c6 VerbatimNotSupported i e r.faults in
-      by_test (Yields Lined) (at_whitespace asked.source i) (onto (with_faults r) (written 6 e faults)) (rule asked xs k c6 i e r)
+      cond_both (at_whitespace asked.source i) (onto (with_faults r) (written Areas.Faults e faults)) (rule asked xs k c6 i e r) (Yields Lined)
       (λ _. faults_kept e r faults h)
       (λ _. as_kept i e a l r h (heading_of asked.source i (trim_end asked.source i e) xs r.rules) refl)
 
@@ -262,21 +263,21 @@ module _ (asked : Request) (xs : List State) (stated : 0 < length xs) (source : 
       let e = line_end asked.source i in
       let l : e ≤ length asked.source = first_to (at_line_end asked.source) i (length asked.source) h.0 in
       let forward : i ≤ e = first_from (at_line_end asked.source) i (length asked.source) in
-      yields_next Lined Placed (line asked xs k c6 i e r) (λ _ t. go (to_rule asked.source asked.options.flags e) t)
+      yields_next Lined Placed (line asked xs k c6 i e r) (λ _ t. go (to_rule asked.source asked.options e) t)
       (line_kept i e forward l r h.1)
-      (λ _ t g. (rule_to asked.source asked.options.flags e l, g))
+      (λ _ t g. (rule_to asked.source asked.options e l, g))
 
   routines_kept : (i : ℕ) (r : Ruled) → Placed i r → Yields Lined (routines asked.source i r)
   unfolding routines
-  routines_kept i r h = by_test (Yields Lined) (has_routines asked.source i) (bad RoutinesNotSupported i r) (go i r) (λ _. tt) (λ _. h.1)
+  routines_kept i r h = cond_both (has_routines asked.source i) (bad RoutinesNotSupported i r) (go i r) (Yields Lined) (λ _. tt) (λ _. h.1)
 
   -- the section keeps what holds at its start
   pub rules_hold : (i : ℕ) (r : Ruled) → i ≤ length asked.source → SheetHolds asked.source (length xs) k (sheet_of r)
       → Yields (λ _ t. SheetHolds asked.source (length xs) k (sheet_of t)) (rules_section asked xs k c6 i r)
   unfolding rules_section rules
   rules_hold i r l h =
-      let start = to_rule asked.source asked.options.flags i in
+      let start = to_rule asked.source asked.options i in
       yields_next Placed Lined (rules asked xs k c6 i r) (routines asked.source)
       (yields_loop Placed (in_section asked.source) (next_rule asked xs k c6) (λ j t _ g. rule_kept j t g) (length asked.source) start r
-      (rule_to asked.source asked.options.flags i l, h))
+      (rule_to asked.source asked.options i l, h))
       routines_kept

@@ -3,13 +3,14 @@
 #![tactic(auto)]
 
 use parse::call::parse;
+use parse::counts_left;
 use sheet_check::Sheet;
 use sheet_check::pattern::{pattern, pattern_test};
 use streams::{read_full, say};
 
 // What is written is the part that the call borrowed from the source or from area 4; its bytes are those of a file, which `Display` has not.
 fn say_rule(rt: &impl Print, sheet: Sheet, rule: u64) {
-    let test = pattern_test(sheet, rule);
+    let test = u16::from(pattern_test(sheet, rule));
     let part = pattern(sheet, rule);
     let _ = print!(rt; "rule {rule}: {test} [");
     say(rt, part);
@@ -18,7 +19,7 @@ fn say_rule(rt: &impl Print, sheet: Sheet, rule: u64) {
 
 // The rules, a rule past the last, and two sheets that are broken.
 fn say_cases(rt: &impl Print, sheet: Sheet, misplaced: &[u8]) {
-    let count = sheet.counts[1] as u64;
+    let count = u64::from(sheet.sizes().rules);
     for rule in 0..count {
         say_rule(rt, sheet, rule);
     }
@@ -36,7 +37,6 @@ fn say_cases(rt: &impl Print, sheet: Sheet, misplaced: &[u8]) {
 }
 
 fn show(rt: &impl Print, source: &[u8]) {
-    let mut counts = [0; 6];
     let mut area1 = [0; 12];
     let mut area2 = [0; 280];
     let mut area3 = [0; 4];
@@ -44,16 +44,7 @@ fn show(rt: &impl Print, source: &[u8]) {
     let mut area5 = [0; 4];
     let mut area6 = [0; 8];
     let answer = parse(
-        source,
-        0,
-        b"",
-        &mut counts,
-        &mut area1,
-        &mut area2,
-        &mut area3,
-        &mut area4,
-        &mut area5,
-        &mut area6,
+        source, 0, b"", &mut area1, &mut area2, &mut area3, &mut area4, &mut area5, &mut area6,
     );
     if answer.is_err() {
         say(rt, b"not accepted\n");
@@ -69,13 +60,12 @@ fn show(rt: &impl Print, source: &[u8]) {
         entries: &area3,
         text: &area4,
         expected: &area5,
-        counts: &counts,
+        counts: &counts_left(answer),
     };
     say_cases(rt, sheet, &misplaced);
 }
 
 fn main(rt: HostRuntime) {
-    let mut source = [0u8; 4096];
-    let n = read_full(&mut rt.stdin(), &mut source);
-    show(&rt, &source[..n]);
+    let mut buffer = [0u8; 4096];
+    show(&rt, read_full(&mut rt.stdin(), &mut buffer));
 }

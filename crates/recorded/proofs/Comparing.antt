@@ -1,38 +1,37 @@
 -- A comparison that ends with true has seen every byte.
 use mathlib.Core.Path.{◌≡◌, refl, sym, ap, ap₂, subst, ◌∙◌}
 use mathlib.Core.Bool.{Bool, true, false, ◌&&◌, false≢true}
-use mathlib.Core.List.{List, [], ◌∷◌, ◌++◌}
-use Prim.Native.Nat.{ℕ, min, ◌+◌, ◌*◌, ◌-◌}
+use mathlib.Core.List.{List, [], ◌∷◌, ◌++◌, map}
+use Prim.Native.Nat.{ℕ, min, ◌+◌, ◌*◌, ◌-◌, ◌≤◌}
 use native.Mathlib.Omega.{arith}
-use lib.ListN.{length, get_or, get_or-map, take, drop, length-drop, take-append-drop}
+use lib.ListN.{length, length-append, get_or, get_or-map, take, drop, length-drop, take-append-drop}
 use lib.Seq.{length-take-le}
 use lib.Dec.{eqb}
 use denote.Ref.{Bor}
 use borrow.Author.Tests.{eqb-true}
 use Rattle.std.proofs.Common.{Option, Some, None, inl, inr}
 use Rattle.std.proofs.lemmas.Slice.Eq.{bytes_eq-Decides}
+use Rattle.std.specs.Iterator.{YieldsThen}
+use Rattle.std.proofs.lemmas.Iterator.{YieldsList, items_from_drains}
 use Rattle.std.specs.Option.{MatchOption}
 use Rattle.std.specs.Cmp.Lexicographic.{pointwise}
-use Rattle.std.proofs.lemmas.Bool.{cases_lt}
+use Rattle.std.proofs.Math.Seq.{get_or-append_seam}
+use Rattle.std.proofs.lemmas.List.{get_or_append_left, map-append}
+use Rattle.std.proofs.lemmas.Bool.{cases_lt, and_parts}
 use Rattle.std.specs.List.{list_all}
 use Rattle.area.specs.Bytes.{pad, zeros, field_at}
 use Rattle.recorded.specs.Records.{number_at, skip_to, bytes_at, lent_at, word_at, counts_from, areas_at, area_start}
+use Rattle.recorded.specs.declared.reader.Cursor.{Cursor}
+use Rattle.recorded.specs.Cursor.{Reads, behind}
+use Rattle.recorded.proofs.Reading.{skip_none, skip_step}
 use Rattle.recorded.specs.Comparison.{WhenTrue, IsZero, AreaHolds, CountsAre, AreaIs, AreasAre, LeftIs, lent_lists}
-
-both_left : (a b : Bool) → (a && b) ≡ true → a ≡ true
-both_left true b e = refl
-both_left false b e = absurd (false≢true e)
-
-both_right : (a b : Bool) → (a && b) ≡ true → b ≡ true
-both_right true b e = e
-both_right false b e = absurd (false≢true e)
 
 -- ---- zeros
 
 all_zero : (xs : List ℕ) → list_all (λ x. eqb x 0) xs ≡ true → xs ≡ zeros (length xs)
 all_zero [] e = refl
 all_zero (x ∷ xs) e =
-    ap₂ (λ (y : ℕ) (ys : List ℕ). y ∷ ys) (eqb-true x 0 (both_left (eqb x 0) _ e)) (all_zero xs (both_right (eqb x 0) _ e))
+    ap₂ (λ (y : ℕ) (ys : List ℕ). y ∷ ys) (eqb-true x 0 (and_parts (eqb x 0) _ e).0) (all_zero xs (and_parts (eqb x 0) _ e).1)
 
 pub zero_compared : (xs : List ℕ) (r : Bool) → r ≡ list_all (λ x. eqb x 0) xs → WhenTrue (IsZero xs) r
 zero_compared xs r e = record { holds = λ t. record { is = all_zero xs (sym e ∙ t) } }
@@ -64,20 +63,60 @@ module _ (area bytes : List ℕ) where
 
 -- ---- the counts
 
-module _ (counts l : List ℕ) (at : ℕ) where
-  pub counts_start : CountsAre counts l at 0
-  counts_start = record { are = λ k h. absurd (omega arith) }
+-- the numbers that are lent
+abbrev numbers : List (Bor ℕ) → List ℕ
+numbers counts = map (λ count. count.now) counts
 
-  pub counts_next : (i x p : ℕ) → x ≡ field_at l p → p ≡ skip_to l at (2 * i) → get_or counts i 0 ≡ x
-      → CountsAre counts l at i → CountsAre counts l at (i + 1)
-  counts_next i x p e q f r = record {
-    are = λ k h. elim (cases_lt k i) [
-      | inl g ↦ r.are k g
+module _ (l : List ℕ) (at : ℕ) where
+  -- these counts are those recorded, and the cursor stands behind them
+  pub record Compared (counts : List (Bor ℕ)) (recorded : Cursor) : Type 0 where
+    pub same : recorded.answers.now ≡ l
+    pub at_is : recorded.at ≡ skip_to l at (2 * length (numbers counts))
+    pub are : CountsAre (numbers counts) l at (length (numbers counts))
+
+  counts_next : (ys : List ℕ) (y : ℕ) → y ≡ field_at l (skip_to l at (2 * length ys)) → CountsAre ys l at (length ys)
+      → CountsAre (ys ++ (y ∷ [])) l at (length (ys ++ (y ∷ [])))
+  counts_next ys y here so_far = record {
+    are = λ k h. elim (cases_lt k (length ys)) [
+      | inl g ↦ get_or_append_left ys (y ∷ []) 0 k g ∙ so_far.are k g
       | inr g ↦
-          let z : i ≡ k = omega arith in
-          subst (λ (j : ℕ). get_or counts j 0 ≡ field_at l (skip_to l at (2 * j))) z (f ∙ e ∙ ap (field_at l) q)
+          let last : length ys ≡ k = omega (arith, length-append {A = ℕ}) in
+          subst (λ (j : ℕ). get_or (ys ++ (y ∷ [])) j 0 ≡ field_at l (skip_to l at (2 * j))) last (get_or-append_seam ys y [] 0 ∙ here)
     ];
   }
+
+  pub compared_none : (recorded : Cursor) → recorded.answers.now ≡ l → recorded.at ≡ at → at ≤ length l → Compared [] recorded
+  compared_none recorded same is h = record {
+    same = same;
+    at_is = is ∙ skip_none l at h;
+    are = record { are = λ k h. absurd (omega arith) };
+  }
+
+  -- one more that is equal to the number that is read
+  pub compared_next : (xs : List (Bor ℕ)) (x : Bor ℕ) (old new left : Cursor) (r : ℕ) (same : Bool) → Compared xs old
+      → Reads field_at (behind 2) old new r → same ≡ eqb x.now r → true ≡ same → left ≡ new → Compared (xs ++ (x ∷ [])) left
+  compared_next xs x old new left r same so_far read asked told goes =
+      let longer : numbers (xs ++ (x ∷ [])) ≡ numbers xs ++ (x.now ∷ []) = map-append (λ (count : Bor ℕ). count.now) xs (x ∷ []) in
+      record {
+        same = ap (λ (recorded : Cursor). recorded.answers.now) goes ∙ read.goes.same ∙ so_far.same;
+        at_is =
+            ap (λ (recorded : Cursor). recorded.at) goes
+            ∙ skip_step l _ at _ _ _ _ so_far.same so_far.at_is read.goes.at_is _ (omega (arith, ap length longer, length-append {A = ℕ}));
+        are =
+            subst (λ (ys : List ℕ). CountsAre ys l at (length ys)) (sym longer)
+            (counts_next (numbers xs) x.now
+            (eqb-true x.now r (sym asked ∙ sym told) ∙ read.is ∙ (λ i. field_at (so_far.same i) (so_far.at_is i))) so_far.are);
+      }
+
+  -- where `all` answers true, it has seen all counts
+  pub all_compared : {S : Type 0} {steps : S → Option (Bor ℕ) → S → Type 0} (s u : S) (counts : List ℕ) (xs : List (Bor ℕ)) (o : Option (Bor ℕ))
+      (recorded : Cursor) (r : Bool) (Stops : Bor ℕ → Type 0) → YieldsThen steps s xs o u → YieldsList steps (λ count. count.now) s counts
+      → MatchOption o (r ≡ true) (λ x. (r ≡ false) × Stops x) → Compared xs recorded → WhenTrue (CountsAre counts l at (length counts)) r
+  all_compared s u counts xs None recorded r Stops ran gives ended so_far = record {
+    holds = λ t.
+        subst (λ (ys : List ℕ). CountsAre ys l at (length ys)) (items_from_drains xs (ran.0, ran.1, λ w. (u, ran.2)) gives) so_far.are;
+  }
+  all_compared s u counts xs (Some x) recorded r Stops ran gives ended so_far = record { holds = λ t. absurd (false≢true (sym ended.0 ∙ t)) }
 
 -- ---- the areas
 
@@ -107,7 +146,7 @@ module _ (areas : List (Bor (List ℕ))) (l : List ℕ) (lengths start : ℕ) wh
   areas_next i d m o bytes p at n same r empty em eo ep ea en eb holds so_far = record {
     holds = λ t. record {
       are = λ k h. elim (cases_lt k i) [
-        | inl g ↦ (so_far.holds (both_left same r t)).are k g
+        | inl g ↦ (so_far.holds (and_parts same r t).0).are k g
         | inr g ↦
             let z : i ≡ k = omega arith in
             subst (λ (j : ℕ). AreaIs (get_or (lent_lists areas) j []) l lengths j (area_start l start j)) z
@@ -115,7 +154,7 @@ module _ (areas : List (Bor (List ℕ))) (l : List ℕ) (lengths start : ℕ) wh
             ((area_compared (get_or areas i d).now l lengths i (area_start l start i) n r
             (en ∙ (λ j. min (number_at (em j) (ep j)) (length (get_or areas i d).now)))
             (subst (λ (u : List ℕ). WhenTrue (AreaHolds (take n (get_or areas i d).now) u) r) (eb ∙ (λ j. bytes_at (eo j) (ea j))) holds)).holds
-            (both_right same r t)))
+            (and_parts same r t).1))
       ];
     };
   }
@@ -128,12 +167,12 @@ module _ (l : List ℕ) (lengths word n : ℕ) (counts : List ℕ) (areas : List
       → WhenTrue (LeftIs l lengths word counts areas) (same && eqb word n && q)
   left_compared en counted compared = record {
     holds = λ t.
-        let first : (same && eqb word n) ≡ true = both_left (same && eqb word n) q t in
+        let first : (same && eqb word n) ≡ true = (and_parts (same && eqb word n) q t).0 in
         record {
           numbers = record {
-            word_is = eqb-true word n (both_right same (eqb word n) first) ∙ en;
-            counts_are = counted.holds (both_right (same && eqb word n) q t);
+            word_is = eqb-true word n (and_parts same (eqb word n) first).1 ∙ en;
+            counts_are = counted.holds (and_parts (same && eqb word n) q t).1;
           };
-          areas_are = compared.holds (both_left same (eqb word n) first);
+          areas_are = compared.holds (and_parts same (eqb word n) first).0;
         };
   }

@@ -32,16 +32,12 @@ impl Cursor<'_> {
         ensures { WhenTrue (CountsAre counts.now self.now.answers.now self.now.at (length counts.now)) result }
     {
         let mut recorded = *self;
-        for count in counts {
-            if *count != recorded.field() {
-                return false;
-            }
-        }
-        true
+        counts.iter().all(|count| *count == recorded.field())
     }
 
     // Whether the areas, of the lengths that stand at a place, are those recorded one behind the other. An area may have zeros behind what was
-    // recorded of it, so `==` does not say it.
+    // recorded of it, so `==` does not say it. Both cursors pass each area, equal or not, so it is no `all`, and what a `fold` changes beside its
+    // value is not known behind it.
     fn same_areas(&mut self, lengths: &Cursor, areas: [&[u8]; 6]) -> bool
         requires { lengths.now.answers.now ≡ self.old.answers.now }
         ensures { Compares (AreasAre (lent_lists areas.entry) self.old.answers.now lengths.now.at self.old.at 6)

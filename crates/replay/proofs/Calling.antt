@@ -21,7 +21,7 @@ unfolding leaves
 leaves_six k long_file = refl
 leaves_six k unknown_flag = refl
 leaves_six k invalid_utf8 = refl
-leaves_six k (area_full n) = refl
+leaves_six k (area_full name) = refl
 leaves_six k (faulty fs) = refl
 leaves_six k (accepted b) = refl
 

@@ -6,7 +6,7 @@ use mathlib.Core.List.{List, [], ◌∷◌}
 use native.Mathlib.Omega.{arith}
 use lib.ListN.{length, take}
 use Rattle.area.proofs.Contents.{list_of_is}
-use Rattle.section.specs.Request.{Request, request, options}
+use Rattle.section.specs.Request.{Request, asked}
 use Rattle.parse.specs.Parse.{parse_call}
 use Rattle.troymantle.specs.Words.{left_in_words, in_words}
 use Rattle.recorded.specs.declared.reader.Cursor.{Cursor}
@@ -39,7 +39,7 @@ module _ (asked : Request) (l : List ℕ) (lengths word : ℕ) (counts e1 e2 e3 
 
 module _ (src : List ℕ) (p p1 p2 p3 : Cursor) (flags word : ℕ) (verdicts counts e1 e2 e3 e4 e5 e6 : List ℕ) (r : Bool) where
   pub record_compared : Reads long_at (behind 8) p p1 flags → Reads bytes_at bytes_end p1 p2 verdicts
-      → Called (request src (options flags) verdicts) p2.answers.now p2.at word counts e1 e2 e3 e4 e5 e6
+      → Called (asked src flags verdicts) p2.answers.now p2.at word counts e1 e2 e3 e4 e5 e6
       → sizes e1 e2 e3 e4 e5 e6 ≡ buffers
       → Compares (LeftIs p2.answers.now p2.at word counts (e1 ∷ e2 ∷ e3 ∷ e4 ∷ e5 ∷ e6 ∷ [])) areas_end p2 p3 r
       → Compares (Agrees src p.answers.now p.at buffers) record_end p p3 r
@@ -49,15 +49,15 @@ module _ (src : List ℕ) (p p1 p2 p3 : Cursor) (flags word : ℕ) (verdicts cou
       let same2 : p2.answers.now ≡ l = qv.goes.same ∙ same1 in
       let at1 : p1.at ≡ skip_to l p.at 8 = qf.goes.at_is in
       let at2 : p2.at ≡ lengths_at l p.at = qv.goes.at_is ∙ (λ i. bytes_end (same1 i) (at1 i)) in
-      let asked : request src (options flags) verdicts ≡ recorded_request src l p.at =
-      λ i. request src (options (qf.is i)) ((qv.is ∙ (λ j. bytes_at (same1 j) (at1 j))) i) in
-      let left = left_agrees (request src (options flags) verdicts) p2.answers.now p2.at word counts e1 e2 e3 e4 e5 e6 d in
+      let same_asked : asked src flags verdicts ≡ recorded_request src l p.at =
+      λ i. asked src (qf.is i) ((qv.is ∙ (λ j. bytes_at (same1 j) (at1 j))) i) in
+      let left = left_agrees (asked src flags verdicts) p2.answers.now p2.at word counts e1 e2 e3 e4 e5 e6 d in
       record {
         equal = record {
           holds = λ t. record {
             is = sym (λ i. recorded (same2 i) (at2 i) (long i))
                 ∙ left (x.equal.holds t)
-                ∙ (λ i. in_words (parse_call (asked i) (recorded_caps (same2 i) (at2 i) (long i))));
+                ∙ (λ i. in_words (parse_call (same_asked i) (recorded_caps (same2 i) (at2 i) (long i))));
           };
         };
         goes = record {

@@ -2,7 +2,7 @@
 use Rattle.std.specs.Prelude.{ℕ, ◌*◌, ◌≡◌, List, length, take}
 use Rattle.area.specs.Bytes.{field_at, pad}
 use Rattle.area.specs.Contents.{list_of}
-use Rattle.section.specs.Request.{Request, request, options}
+use Rattle.section.specs.Request.{Request, asked}
 use Rattle.parse.specs.Parse.{Caps, caps, parse_call}
 use Rattle.troymantle.specs.Words.{LeftInWords, left_in_words, in_words}
 use Rattle.recorded.specs.Records.{number_at, long_at, skip_to, bytes_end, bytes_at, lent_at, word_at, counts_from, areas_at, fourth_at, areas_end}
@@ -42,7 +42,7 @@ lengths_at l at = bytes_end l (skip_to l at 8)
 
 -- what is asked of the source src: the flags and the verdicts that stand behind it
 abbrev pub recorded_request : List ℕ → List ℕ → ℕ → Request
-recorded_request src l at = request src (options (long_at l at)) (bytes_at l (skip_to l at 8))
+recorded_request src l at = asked src (long_at l at) (bytes_at l (skip_to l at 8))
 
 -- the six counts
 abbrev pub counts_at : List ℕ → ℕ → List ℕ

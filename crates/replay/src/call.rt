@@ -1,6 +1,6 @@
 // The parse call, in buffers of its own.
 ghost use Rattle.std.specs.Prelude.{◌≡◌, length};
-ghost use Rattle.section.specs.Request.{request, options};
+ghost use Rattle.section.specs.Request.{asked};
 ghost use Rattle.replay.specs.Records.{Called};
 
 use recorded::reader::Cursor;
@@ -28,7 +28,7 @@ pub struct Left {
 
 // The call is lent as much of each buffer as the record has for the area.
 pub fn parse(src: &[u8], flags: u64, verdicts: &[u8], lengths: &Cursor) -> Left
-    ensures { Called (request src.now (options flags) verdicts.now) lengths.now.answers.now lengths.now.at result.word result.counts
+    ensures { Called (asked src.now flags verdicts.now) lengths.now.answers.now lengths.now.at result.word result.counts
         result.area1 result.area2 result.area3 result.area4 result.area5 result.area6 }
 {
     let mut lengths = *lengths;

@@ -7,23 +7,19 @@ mod record;
 
 use call::zeros;
 use record::replay_all;
-use std::fs::File;
-use streams::{fail, read_full, say};
+use streams::{read_file, say};
+
+// More than the file has: what fills it may have been cut off.
+const ROOM: usize = 655360;
 
 fn main(rt: HostRuntime) {
-    let mut file = match File::open(&rt, "answers") {
-        Ok(file) => file,
-        Err(error) => {
-            fail(&rt, "answers", error);
-            return;
-        }
+    let mut buffer = zeros::<ROOM>();
+    let Some(answers) = read_file(&rt, "answers", &mut buffer) else {
+        return;
     };
-    let mut answers = zeros::<655360>();
-    let n = read_full(&mut file, &mut answers);
-    drop(file);
-    if n == 655360 {
+    if answers.len() == ROOM {
         say(&rt, b"answers is too long\n");
         return;
     }
-    replay_all(&rt, &answers[..n]);
+    replay_all(&rt, answers);
 }

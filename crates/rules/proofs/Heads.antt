@@ -1,23 +1,25 @@
 -- A rule's name and its heading: a law for each way through the code, and one over all outcomes of a heading. The last blank stands within the line, so
 -- all that is counted from it fits a field.
 use mathlib.Core.Path.{◌≡◌, refl, subst, sym, ap, ◌∙◌}
-use mathlib.Core.Bool.{Bool, cond}
+use mathlib.Core.Bool.{Bool, true, false, cond}
 use mathlib.Core.List.{List}
 use mathlib.Core.Logic.{◌⊎◌, inl, inr}
 use Prim.Native.Nat.{ℕ, ◌+◌, ◌-◌, ◌≤◌, ◌<◌}
 use native.Mathlib.Omega.{arith}
 use borrow.Author.Rules.{rules}
-use borrow.Author.Tests.{ltb-true, ltb-false}
+use borrow.Author.Tests.{ltb-true, ltb-false, lt-ltb, ne_eqb}
 use lib.Dec.{ltb}
 use lib.ListN.{length}
+use Rattle.std.proofs.lemmas.Bool.{cond_both, and_parts}
 use Rattle.std.specs.Prelude.{Option, Some, None, Result, Ok, Err}
 use Rattle.characters.specs.Class.{is_blank}
 use Rattle.characters.specs.Walk.{last}
 use Rattle.characters.specs.Whitespace.{byte}
 use Rattle.text.specs.Range.{part}
 use Rattle.text.specs.Scan.{last_blank}
+use Rattle.text.proofs.Parts.{part_length, part_first, part_last}
 use Rattle.characters.proofs.Lasts.{LastAt, LastNone, last_is}
-use Rattle.characters.proofs.Tests.{and_left, by_test, le_or_lt}
+use Rattle.characters.proofs.Tests.{le_or_lt}
 use Rattle.characters.proofs.Walks.{last_none}
 use Rattle.area.specs.declared.State.{State}
 use Rattle.area.specs.declared.Rule.{Rule}
@@ -25,7 +27,7 @@ use Rattle.area.specs.Records.{nth_rule}
 use Rattle.fault.specs.declared.Span.{Span}
 use Rattle.fault.specs.declared.kinds.LexErrorKind.TheVariants.{MissingSpace, InvalidName}
 use Rattle.names.proofs.Distinct.{Unused, name_unused}
-use Rattle.rules.specs.declared.LexError.{LexError}
+use Rattle.fault.specs.declared.kinds.LexError.{LexError}
 use Rattle.rules.specs.declared.TargetState.{TargetState}
 use Rattle.rules.specs.declared.Target.{Target}
 use Rattle.rules.specs.declared.Label.{Label}
@@ -39,10 +41,87 @@ use Rattle.rules.proofs.Targets.{target_from, target_to}
 
 -- ---- the name
 
--- a marker that opens what a label goes by
-unfoldable pub labels : Unit {0}
-unfolding label_by is_no_name is_name equal_quotes
-labels = tt
+-- whether two bytes are the same quote, by what code has asked of them
+module _ (x y : ℕ) where
+  pub double_quotes : x ≡ 0x22 → y ≡ 0x22 → equal_quotes x y ≡ true
+  unfolding equal_quotes
+  double_quotes a b = rw (a, b) refl
+
+  pub single_quotes : x ≡ 0x27 → y ≡ 0x27 → equal_quotes x y ≡ true
+  unfolding equal_quotes
+  single_quotes a b = rw (a, b) refl
+
+  pub double_opened : x ≡ 0x22 → (y ≡ 0x22 → ⊥) → equal_quotes x y ≡ false
+  unfolding equal_quotes
+  double_opened a b = rw (a, ne_eqb y 0x22 b) refl
+
+  pub single_opened : x ≡ 0x27 → (y ≡ 0x27 → ⊥) → equal_quotes x y ≡ false
+  unfolding equal_quotes
+  single_opened a b = rw (a, ne_eqb y 0x27 b) refl
+
+  pub unquoted : (x ≡ 0x22 → ⊥) → (x ≡ 0x27 → ⊥) → equal_quotes x y ≡ false
+  unfolding equal_quotes
+  unquoted a b = rw (ne_eqb x 0x22 a, ne_eqb x 0x27 b) refl
+
+-- what stands at q is read as a part of the source
+module _ (s : List ℕ) (q : Span) (name : List ℕ) (cut : name ≡ part s q.start q.end) (fits : q.end ≤ length s) where
+  -- told by its length, its first byte and its last
+  told : {n x y : ℕ} → length name ≡ n → 0 < n → byte name 0 ≡ x → byte name (n - 1) ≡ y → label_of s q ≡ label_by n x y
+  unfolding label_of
+  told {n} {x} {y} is h first last =
+      let long = part_length s q.start q.end name cut fits in
+      let end : length name - 1 ≡ n - 1 = omega (arith, is) in
+      rw (
+        ← long,
+        is,
+        ← part_first s q.start q.end name cut fits (omega (arith, is)),
+        first,
+        ← part_last s q.start q.end name cut fits (omega (arith, is)),
+        end,
+        last,
+      )
+      refl
+
+  pub label_nothing : length name < 1 → Misnamed ≡ label_of s q
+  unfolding label_of label_by is_no_name is_name
+  label_nothing h =
+      let none : q.end - q.start ≡ 0 = omega (arith, part_length s q.start q.end name cut fits) in
+      rw none refl
+
+  module _ (h : 1 ≤ length name) (l : length name < 2) where
+    one : length name ≡ 1
+    one = omega arith
+
+    pub label_semicolon : byte name 0 ≡ 0x3b → Unnamed ≡ label_of s q
+    unfolding label_by is_no_name
+    label_semicolon x = sym (told one (omega arith) x refl)
+
+    pub label_letter : (byte name 0 ≡ 0x3b → ⊥) → Misnamed ≡ label_of s q
+    unfolding label_by is_no_name is_name
+    label_letter x = sym (told one (omega arith) refl refl ∙ rw (ne_eqb (byte name 0) 0x3b x) refl)
+
+  module _ (h : 2 ≤ length name) (l : length name < 3) where
+    two : length name ≡ 2
+    two = omega arith
+
+    pub label_empty : equal_quotes (byte name 0) (byte name 1) ≡ true → Unnamed ≡ label_of s q
+    unfolding label_by is_no_name
+    label_empty t = sym (told two (omega arith) refl refl ∙ rw t refl)
+
+    pub label_pair : equal_quotes (byte name 0) (byte name 1) ≡ false → Misnamed ≡ label_of s q
+    unfolding label_by is_no_name is_name
+    label_pair t = sym (told two (omega arith) refl refl ∙ rw t refl)
+
+  module _ (h : 3 ≤ length name) where
+    pub label_quoted : equal_quotes (byte name 0) (byte name (length name - 1)) ≡ true → Named ≡ label_of s q
+    unfolding label_by is_no_name is_name
+    label_quoted t = sym (told refl (omega arith) refl refl ∙ rw (ne_eqb (length name) 1 (omega arith), ne_eqb (length name) 2 (omega arith), lt-ltb 2 (length name) (omega arith), t) refl)
+
+    pub label_bare : equal_quotes (byte name 0) (byte name (length name - 1)) ≡ false → Misnamed ≡ label_of s q
+    unfolding label_by is_no_name is_name
+    label_bare t = sym (told refl (omega arith) refl refl ∙ rw (ne_eqb (length name) 1 (omega arith), ne_eqb (length name) 2 (omega arith), lt-ltb 2 (length name) (omega arith), t) refl)
+
+pub ruleset labeling = (rules, double_quotes, single_quotes, double_opened, single_opened, unquoted, label_nothing, label_semicolon, label_letter, label_empty, label_pair, label_quoted, label_bare)
 
 -- a name in quotes has more than 2 bytes
 abbrev Long : ℕ → Label → Type 0
@@ -53,8 +132,8 @@ Long n Misnamed = Unit {0}
 long : (n x y : ℕ) → Long n (label_by n x y)
 unfolding label_by is_name
 long n x y =
-    by_test (Long n) (is_no_name n x y) Unnamed (cond (is_name n x y) Named Misnamed) (λ _. tt)
-    (λ _. by_test (Long n) (is_name n x y) Named Misnamed (λ q. ltb-true 2 n (and_left (ltb 2 n) (equal_quotes x y) q)) (λ _. tt))
+    cond_both (is_no_name n x y) Unnamed (cond (is_name n x y) Named Misnamed) (Long n) (λ _. tt)
+    (λ _. cond_both (is_name n x y) Named Misnamed (Long n) (λ q. ltb-true 2 n (and_parts (ltb 2 n) (equal_quotes x y) q).0) (λ _. tt))
 
 pub name_long : (s : List ℕ) (p t : ℕ) → label_of s (span p t) ≡ Named → p + 2 < t
 unfolding label_of
@@ -111,7 +190,7 @@ module _ (s : List ℕ) (r : ℕ) (x : Option TargetState) (q : Span) (rs : List
   named_cases P repeated fresh =
       let h = head_named r q x in
       let first = nth_rule rs (rule_named s q rs) in
-      by_test P (ltb (rule_named s q rs) (length rs)) (repeats first h) (Fresh r h)
+      cond_both (ltb (rule_named s q rs) (length rs)) (repeats first h) (Fresh r h) P
       (λ _. repeated (span first.span_start first.span_end) h.name_span) (λ z. fresh (ltb-false (rule_named s q rs) (length rs) z))
 
 module _ (s : List ℕ) (i t : ℕ) (xs : List State) (rs : List Rule) where

@@ -23,7 +23,7 @@ use Rattle.area.proofs.Contents.{entry_sound, held_push}
 use Rattle.fault.specs.declared.Stop.{Stop}
 use Rattle.fault.specs.declared.Stop.TheVariants.{Fault, Full}
 use Rattle.fault.specs.declared.kinds.LexErrorKind.TheVariants.{UnknownStartState}
-use Rattle.fault.specs.Kinds.{kind_number}
+use Rattle.fault.specs.Kinds.{kind_number, error_at}
 use Rattle.fault.specs.Step.{Out, go, bad, Does, outcome, written}
 use Rattle.fault.proofs.Steps.{Loops, loops_stop, loops_ok, loops_err, going_start, does_go, does_bad, does_full, does_err, was_ok, holds_ok, holds_err}
 use Rattle.fault.proofs.Steps.{written_next, written_full, written_place, bad_goes}
@@ -37,7 +37,7 @@ module _ (s : List ℕ) (i g a : ℕ) (xs : List State) (l : List ℕ) (n : ℕ)
   abbrev Done : List ℕ → Result ℕ Stop → ℕ → Type 0
   Done x r m = Does (Held entry_format x) (next_entry s (length l) xs i g a) (contents entry_format l n) (contents entry_format x) (outcome r m)
 
-  pub entry_unknown : o ≡ None → Done l (Err (Fault UnknownStartState i)) n
+  pub entry_unknown : o ≡ None → Done l (Err (Fault (error_at UnknownStartState i))) n
   unfolding next_entry entry_end
   entry_unknown z =
       let missing = subst (Below (length xs) (entry_id s xs a e)) z f in
@@ -49,17 +49,17 @@ module _ (s : List ℕ) (i g a : ℕ) (xs : List State) (l : List ℕ) (n : ℕ)
     grown = held_push entry_sound h id pushed
 
     known : next_entry s (length l) xs i g a (contents entry_format l n)
-        ≡ written 3 (e + 1) (append entry_format (length l) (id ∷ []) (contents entry_format l n))
+        ≡ written N.Entries (e + 1) (append entry_format (length l) (id ∷ []) (contents entry_format l n))
     unfolding next_entry entry_end
     known =
         let found = subst (Below (length xs) (entry_id s xs a e)) z f in
         rw (← b.is, ← found.1, lt-leb (length xs) j found.0, same)
 
     pub entry_next : {m : ℕ} → p ≡ Ok m → Done x (Ok (e + 1)) m
-    entry_next {m} q = does_go (known ∙ written_next entry_format 3 (e + 1) _ x p grown.says q) (grown.held m q)
+    entry_next {m} q = does_go (known ∙ written_next entry_format N.Entries (e + 1) _ x p grown.says q) (grown.held m q)
 
     pub entry_full : {full : AreaFull} (m : ℕ) → p ≡ Err full → Done x (Err (Full full.0)) m
-    entry_full {full} m q = rw (grown.names full q) (does_full (known ∙ written_full entry_format 3 (e + 1) _ x p grown.says q))
+    entry_full {full} m q = rw (grown.names full q) (does_full (known ∙ written_full entry_format N.Entries (e + 1) _ x p grown.says q))
 
 -- ---- the loop over the names, up to g
 
@@ -74,10 +74,10 @@ entry_forward s c3 xs i g a ids {j} {ys} q = by (leb (length xs) k) q
     k : ℕ
     k = entry_id s xs a e
 
-    by : (t : Bool) → cond t (bad (kind_number UnknownStartState) i ids) (written 3 (e + 1) (append entry_format c3 (k ∷ []) ids)) ≡ go j ys → a < j
+    by : (t : Bool) → cond t (bad (kind_number UnknownStartState) i ids) (written N.Entries (e + 1) (append entry_format c3 (k ∷ []) ids)) ≡ go j ys → a < j
     by true w = absurd (bad_goes w)
     by false w =
-        omega (arith, written_place 3 (e + 1) (append entry_format c3 (k ∷ []) ids) w, first_from (λ m. eqb (byte s m) 0x2c) a g)
+        omega (arith, written_place N.Entries (e + 1) (append entry_format c3 (k ∷ []) ids) w, first_from (λ m. eqb (byte s m) 0x2c) a g)
 
 -- the loop has come to the name at a, with n entries held
 pub record Lists (whole : Out (List ℕ)) (s : List ℕ) (c3 : ℕ) (xs : List State) (i g a : ℕ) (l : List ℕ) (n : ℕ) : Type 0 where

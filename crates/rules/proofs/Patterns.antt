@@ -5,8 +5,8 @@ use mathlib.Core.List.{List}
 use Prim.Native.Nat.{ℕ, ◌≤◌, ◌<◌}
 use borrow.Author.Tests.{leb-false}
 use lib.Dec.{eqb, leb}
+use Rattle.std.proofs.lemmas.Bool.{cond_both}
 use Rattle.characters.specs.Whitespace.{byte}
-use Rattle.characters.proofs.Tests.{by_test}
 use Rattle.characters.proofs.Walks.{first_from}
 use Rattle.escape.specs.Escape.{is_rewritten}
 use Rattle.rules.specs.declared.Body.{Body}
@@ -24,9 +24,9 @@ module _ (s : List ℕ) (i c : ℕ) where
   unfolding body_of list_end
   closes =
       let g = list_end s i c in
-      by_test (Closes i c) (has_list s i c) (cond (leb c g) Unclosed (Listed g)) (cond (is_rewritten s i c) Rewritten Plain)
-      (λ _. by_test (Closes i c) (leb c g) Unclosed (Listed g) (λ _. tt) (λ d. (first_from (λ k. eqb (byte s k) 0x3e) i c, leb-false c g d)))
-      (λ _. by_test (Closes i c) (is_rewritten s i c) Rewritten Plain (λ _. tt) (λ _. tt))
+      cond_both (has_list s i c) (cond (leb c g) Unclosed (Listed g)) (cond (is_rewritten s i c) Rewritten Plain) (Closes i c)
+      (λ _. cond_both (leb c g) Unclosed (Listed g) (Closes i c) (λ _. tt) (λ d. (first_from (λ k. eqb (byte s k) 0x3e) i c, leb-false c g d)))
+      (λ _. cond_both (is_rewritten s i c) Rewritten Plain (Closes i c) (λ _. tt) (λ _. tt))
 
   module _ (k : Body) (is : k ≡ body_of s i c) (g : ℕ) (q : k ≡ Listed g) where
     pub listed_from : i ≤ g

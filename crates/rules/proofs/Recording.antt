@@ -14,6 +14,7 @@ use Rattle.area.specs.Contents.{append, contents, rule_format, Grows, Held}
 use Rattle.area.proofs.Contents.{rule_sound, contents-length, held_push}
 use Rattle.fault.specs.declared.Stop.{Stop}
 use Rattle.fault.specs.declared.Stop.TheVariants.{Fault, Full}
+use Rattle.fault.specs.Kinds.{error_at}
 use Rattle.fault.specs.declared.kinds.LexErrorKind.TheVariants.{RegexError}
 use Rattle.fault.specs.Step.{Does, outcome}
 use Rattle.fault.proofs.Steps.{does_go, does_bad, does_full, written_next, written_full}
@@ -26,7 +27,7 @@ module _ (verdicts : List ℕ) (i e : ℕ) (x : Rule) (l : List ℕ) (n : ℕ) (
   asked : refuses verdicts (length (contents rule_format l n)) ≡ r
   asked = rw (contents-length rule_sound h, q)
 
-  pub rule_refused : r ≡ true → Done l (Err (Fault RegexError i)) n
+  pub rule_refused : r ≡ true → Done l (Err (Fault (error_at RegexError i))) n
   unfolding record_rule
   rule_refused t = does_bad (rw (asked, t)) h
 
@@ -36,8 +37,8 @@ module _ (verdicts : List ℕ) (i e : ℕ) (x : Rule) (l : List ℕ) (n : ℕ) (
 
     pub rule_next : {m : ℕ} → p ≡ Ok m → Done y (Ok e) m
     unfolding record_rule
-    rule_next {m} z = does_go (rw (asked, t) (written_next rule_format 2 e _ y p grown.says z)) (grown.held m z)
+    rule_next {m} z = does_go (rw (asked, t) (written_next rule_format N.Rules e _ y p grown.says z)) (grown.held m z)
 
     pub rule_full : {full : AreaFull} (m : ℕ) → p ≡ Err full → Done y (Err (Full full.0)) m
     unfolding record_rule
-    rule_full {full} m z = rw (grown.names full z) (does_full (rw (asked, t) (written_full rule_format 2 e _ y p grown.says z)))
+    rule_full {full} m z = rw (grown.names full z) (does_full (rw (asked, t) (written_full rule_format N.Rules e _ y p grown.says z)))

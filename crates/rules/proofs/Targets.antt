@@ -7,13 +7,13 @@ use native.Mathlib.Omega.{arith}
 use borrow.Author.Tests.{leb-false}
 use lib.Dec.{eqb, leb}
 use lib.ListN.{length}
+use Rattle.std.proofs.lemmas.Bool.{cond_both}
 use Rattle.std.specs.Prelude.{Some, None, Result, Ok, Err}
 use Rattle.characters.specs.Whitespace.{byte}
-use Rattle.characters.proofs.Tests.{by_test}
 use Rattle.characters.proofs.Walks.{first_from}
 use Rattle.area.specs.declared.State.{State}
 use Rattle.fault.specs.declared.kinds.LexErrorKind.TheVariants.{UnknownStartState, InvalidStartState}
-use Rattle.rules.specs.declared.LexError.{LexError}
+use Rattle.fault.specs.declared.kinds.LexError.{LexError}
 use Rattle.rules.specs.declared.Target.{Target}
 use Rattle.rules.specs.Heading.{faulty, has_target, target_end, target_operation, target_name, target_id, target, target_of}
 
@@ -33,9 +33,9 @@ module _ (s : List ℕ) (r t : ℕ) (xs : List State) where
   target_cases P none unclosed unknown known =
       let found : Result Target LexError = Ok (target (Some (record { id = target_id s r t xs; operation = target_operation s r })) (target_end s r t + 1)) in
       let closed : Result Target LexError = cond (leb (length xs) (target_id s r t xs)) (faulty UnknownStartState (r + 1)) found in
-      by_test P (not (has_target s r)) (Ok (target None (r + 1))) (cond (leb t (target_end s r t)) (faulty InvalidStartState r) closed) (λ _. none)
-      (λ _. by_test P (leb t (target_end s r t)) (faulty InvalidStartState r) closed (λ _. unclosed)
-      (λ c. by_test P (leb (length xs) (target_id s r t xs)) (faulty UnknownStartState (r + 1)) found (λ _. unknown)
+      cond_both (not (has_target s r)) (Ok (target None (r + 1))) (cond (leb t (target_end s r t)) (faulty InvalidStartState r) closed) P (λ _. none)
+      (λ _. cond_both (leb t (target_end s r t)) (faulty InvalidStartState r) closed P (λ _. unclosed)
+      (λ c. cond_both (leb (length xs) (target_id s r t xs)) (faulty UnknownStartState (r + 1)) found P (λ _. unknown)
       (λ d. known (leb-false t (target_end s r t) c) (leb-false (length xs) (target_id s r t xs) d))))
 
 -- the place behind a target is behind r, and at most t

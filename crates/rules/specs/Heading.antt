@@ -8,11 +8,12 @@ use Rattle.area.specs.declared.Rule.{Rule}
 use Rattle.area.specs.Records.{nth_rule}
 pub use Rattle.area.specs.Operation.{operation_number}
 use Rattle.fault.specs.declared.Span.{Span}
+use Rattle.fault.specs.Kinds.{error_at}
+use Rattle.fault.specs.declared.kinds.LexError.{LexError}
 use Rattle.fault.specs.declared.kinds.LexErrorKind.{LexErrorKind}
 use Rattle.fault.specs.declared.kinds.LexErrorKind.TheVariants.{MissingSpace, InvalidName, UnknownStartState, InvalidStartState}
 use Rattle.names.specs.Names.{find_state, find_rule}
 use Rattle.escape.specs.Escape.{is_rewritten}
-use Rattle.rules.specs.declared.LexError.{LexError}
 use Rattle.area.specs.declared.StartStateOperation.{StartStateOperation}
 use Rattle.area.specs.declared.StartStateOperation.TheVariants.{ReplaceStack, Push, Pop}
 use Rattle.rules.specs.declared.TargetState.{TargetState}
@@ -28,7 +29,7 @@ use Rattle.rules.specs.declared.Body.TheVariants.{Unclosed, Listed, Rewritten, P
 
 -- a fault of a kind at a place
 abbrev pub faulty : {A : Type 0} → LexErrorKind → ℕ → Result A LexError
-faulty kind at = Err (record { kind = kind; at = at })
+faulty kind at = Err (error_at kind at)
 
 -- ---- the target, behind the blank at r of a line that is trimmed at t
 

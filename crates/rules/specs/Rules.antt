@@ -1,6 +1,7 @@
 -- The list of states in front of a rule's pattern, and the rule's record (01, Rules). The states are those of the declarations.
 use Rattle.std.specs.Prelude.{ℕ, ◌+◌, Bool, cond, not, List, [], ◌∷◌, eqb, leb, length, get_or}
 use Rattle.text.specs.Scan.{find_byte, trim_end, trim_start}
+use Rattle.area.specs.declared.AreaName.TheVariants as Areas
 use Rattle.area.specs.declared.State.{State}
 use Rattle.area.specs.declared.Rule.{Rule}
 use Rattle.area.specs.Contents.{append, rule_format, entry_format}
@@ -23,7 +24,7 @@ module _ (s : List ℕ) (c3 : ℕ) (xs : List State) (i g : ℕ) where
   unfoldable pub next_entry : ℕ → List ℕ → Out (List ℕ)
   next_entry a ids =
       cond (leb (length xs) (entry_id s xs a (entry_end s g a))) (bad UnknownStartState i ids)
-      (written 3 (entry_end s g a + 1) (append entry_format c3 (entry_id s xs a (entry_end s g a) ∷ []) ids))
+      (written Areas.Entries (entry_end s g a + 1) (append entry_format c3 (entry_id s xs a (entry_end s g a) ∷ []) ids))
 
   -- each name in turn (01, Rules)
   unfoldable pub entries : List ℕ → Out (List ℕ)
@@ -37,4 +38,4 @@ refuses verdicts k = not (eqb (get_or verdicts k 0) 0)
 
 -- the verdict, a fault at the line i; then the record, and on at the line's end e (01, Rules)
 unfoldable pub record_rule : List ℕ → ℕ → ℕ → ℕ → Rule → List Rule → Out (List Rule)
-record_rule verdicts c2 i e x rs = cond (refuses verdicts (length rs)) (bad RegexError i rs) (written 2 e (append rule_format c2 (x ∷ []) rs))
+record_rule verdicts c2 i e x rs = cond (refuses verdicts (length rs)) (bad RegexError i rs) (written Areas.Rules e (append rule_format c2 (x ∷ []) rs))

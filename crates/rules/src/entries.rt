@@ -1,6 +1,6 @@
 // The list of states in front of a pattern, between `<` and `>` (01, Rules).
-// Places stand beside the source, as in the definitions: a part of the source would move each of them. The area that is lent for writing stays
-// beside its count: a struct of both, lent again, has no proof (tried).
+// Places stand beside the source, as in the definitions: a part of the source would move each of them. The area that is lent stays beside its count:
+// in a struct of both there would be a parameter less and, at each function, a promise more that the same bytes are lent.
 ghost use Rattle.std.specs.Prelude.{◌≤◌, ◌<◌, length};
 ghost use Rattle.characters.specs.Walk.{Below};
 ghost use Rattle.area.specs.Contents.{entry_format, Held};
@@ -42,7 +42,7 @@ fn next_entry(
 {
     let e = find_byte(src, a, g, b',');
     let Some(j) = state_between(src, a, e, states) else {
-        return Err(Stop::Fault(LexErrorKind::UnknownStartState, i));
+        return Err(Stop::Fault(LexErrorKind::UnknownStartState.at(i)));
     };
     *count = push(area3, *count, states.number(j))?;
     Ok(e + 1)

@@ -1,16 +1,17 @@
 // A rule's line but for its pattern: the last blank, and behind it the target and the name (01, Rules). A line and a target go by places of the
 // source, and what stands behind the target is a `Span`, as in the definitions.
 ghost use Rattle.std.specs.Prelude.{◌≡◌, ◌+◌, ◌-◌, ◌≤◌, ◌<◌, length};
-ghost use Rattle.rules.specs.Heading.{operation_of, mark_length, target_of, label_by, label_of, head_unnamed, head_named};
+ghost use Rattle.rules.specs.Heading.{operation_of, mark_length, target_of, label_of, head_unnamed, head_named};
 ghost use Rattle.rules.specs.Heading.{heading_named, heading_behind, heading_of};
 
-use crate::{Head, Heading, Label, LexError, Name, StartStateOperation, Target, TargetState};
+use crate::{Head, Heading, Label, Name, StartStateOperation, Target, TargetState};
 use area::State;
 use area::list::Records;
 use characters::whitespace::byte_at;
-use fault::{LexErrorKind, Span};
+use fault::{LexError, LexErrorKind, Span};
 use names::{NamedRules, get_start_state_by_name};
 use section::LexFile;
+use text::range::part;
 use text::scan::{find_byte, last_blank};
 
 // ---- the target, behind the blank at r of a line trimmed at t
@@ -52,18 +53,12 @@ fn target_of(file: LexFile, r: usize, t: usize, states: &Records<State>) -> Resu
     }
     let g = find_byte(file.source, r + 1, t, b'>');
     if t <= g {
-        return Err(LexError {
-            kind: LexErrorKind::InvalidStartState,
-            at: r as u16,
-        });
+        return Err(LexErrorKind::InvalidStartState.at(r as u16));
     }
     let operation = parse_start_state_ops(byte_at(file.source, r + 2));
     let from = r + 2 + mark_len(operation);
     let Some(j) = get_start_state_by_name(file.source, from, g, states) else {
-        return Err(LexError {
-            kind: LexErrorKind::UnknownStartState,
-            at: (r + 1) as u16,
-        });
+        return Err(LexErrorKind::UnknownStartState.at((r + 1) as u16));
     };
     let id = states.number(j);
     Ok(Target {
@@ -74,30 +69,17 @@ fn target_of(file: LexFile, r: usize, t: usize, states: &Records<State>) -> Resu
 
 // ---- the name
 
-// What a name part of n bytes is, of which x is the first and y the last.
-#[tactic(auto, unfolding(crate::proofs::Heads::labels))]
-fn label_by(n: u16, x: u8, y: u8) -> Label
-    ensures { result ≡ label_by n x y }
-{
-    let quoted = ((x == b'"') & (y == b'"')) | ((x == b'\'') & (y == b'\''));
-    if ((n == 1) & (x == b';')) | ((n == 2) & quoted) {
-        return Label::Unnamed;
-    }
-    if (2 < n) & quoted {
-        return Label::Named;
-    }
-    Label::Misnamed
-}
-
 // What stands at q.
-#[tactic(auto, unfolding(crate::specs::Heading::label_of))]
+#[tactic(auto, using(crate::proofs::Heads::labeling))]
 fn label_of(src: &[u8], q: Span) -> Label
-    requires { (1 ≤ q.end) × (q.start ≤ q.end) }
+    requires { (q.start ≤ q.end) × (q.end ≤ length src.now) }
     ensures { result ≡ label_of src.now q }
 {
-    let first = byte_at(src, q.start as usize);
-    let last = byte_at(src, (q.end - 1) as usize);
-    label_by(q.end - q.start, first, last)
+    match part(src, q.start as usize, q.end as usize) {
+        [b';'] | [b'"', b'"'] | [b'\'', b'\''] => Label::Unnamed,
+        [b'"', .., b'"'] | [b'\'', .., b'\''] => Label::Named,
+        _ => Label::Misnamed,
+    }
 }
 
 // ---- the heading
@@ -148,12 +130,7 @@ fn heading_named(
     let Some(j) = rules.find((q.start + 1) as usize, (q.end - 1) as usize) else {
         return Heading::Fresh(r, h);
     };
-    let x = rules.get(j);
-    let first = Span {
-        start: x.span_start,
-        end: x.span_end,
-    };
-    Heading::Repeated(first, h.name_span)
+    Heading::Repeated(rules.get(j).into(), h.name_span)
 }
 
 // What stands at q behind the target.
@@ -165,17 +142,15 @@ fn heading_behind(
     q: Span,
     rules: &NamedRules,
 ) -> Result<Heading, LexError>
-    requires r_lt_start { (r < q.start) × (q.start ≤ q.end) }
+    requires r_lt_start { r < q.start }
+    requires q_inside { (q.start ≤ q.end) × (q.end ≤ length file.source.now) }
     requires source { rules.now.source.now ≡ file.source.now }
     ensures { result ≡ heading_behind file.entry.source.now r target_state q rules.now.rules }
 {
     match label_of(file.source, q) {
         Label::Unnamed => Ok(Heading::Fresh(r, head_unnamed(r, target_state))),
         Label::Named => Ok(heading_named(r, target_state, q, rules)),
-        Label::Misnamed => Err(LexError {
-            kind: LexErrorKind::InvalidName,
-            at: (r + 1) as u16,
-        }),
+        Label::Misnamed => Err(LexErrorKind::InvalidName.at((r + 1) as u16)),
     }
 }
 
@@ -193,10 +168,7 @@ pub fn heading_of(
     ensures { result ≡ heading_of file.entry.source.now i t states.now rules.now.rules }
 {
     let Some(r) = last_blank(file.source, i, t) else {
-        return Err(LexError {
-            kind: LexErrorKind::MissingSpace,
-            at: i as u16,
-        });
+        return Err(LexErrorKind::MissingSpace.at(i as u16));
     };
     let target = target_of(file, r, t, states)?;
     let behind = Span {

@@ -6,27 +6,8 @@ pub mod entries; // the list of states in front of a pattern
 pub mod headings; // what stands behind the last blank of a line
 pub mod record; // the record of a rule
 
-ghost use Rattle.std.specs.Prelude.{◌≡◌};
-
 pub use area::StartStateOperation;
-use fault::{LexErrorKind, Span, Stop};
-
-// A fault of a rule's line: its kind, and where it stands.
-#[derive(Clone, Copy, PartialEq, Eq, Debug)]
-pub struct LexError {
-    pub kind: LexErrorKind,
-    pub at: u16,
-}
-
-impl From<LexError> for Stop {
-    ghost use Rattle.fault.specs.declared.Stop.TheVariants.{Fault};
-
-    ghost from_gives = { λ error stop. stop ≡ Fault error.kind error.at };
-
-    fn from(error: LexError) -> Stop {
-        Stop::Fault(error.kind, error.at)
-    }
-}
+use fault::Span;
 
 // What a rule does with the stack of states, and with which of them.
 #[derive(Clone, Copy)]
@@ -51,7 +32,7 @@ pub enum Label {
 }
 
 // Where a rule's name stands, without its quotes.
-#[derive(Clone, Copy)]
+#[derive(Clone, Copy, Default)]
 pub struct Name {
     pub from: u16,
     pub length: u16,

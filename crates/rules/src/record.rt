@@ -1,5 +1,6 @@
 // The record of a rule: the engine's verdict, then the record (01, Rules).
-// The area that is lent for writing stays beside its count: a struct of both, lent again, has no proof (tried).
+// The area that is lent stays beside its count: in a struct of both there would be a parameter less and, at each function, a promise more that the
+// same bytes are lent.
 ghost use Rattle.std.specs.Prelude.{◌≡◌};
 ghost use Rattle.area.specs.Contents.{rule_format, Held};
 ghost use Rattle.area.specs.Phrases.{before};
@@ -32,7 +33,7 @@ pub fn record_rule(
     ensures { DoesRecords rule_format (λ c2. record_rule verdicts.now c2 i e x) area2 count result }
 {
     if refuses(verdicts, *count as usize) {
-        return Err(Stop::Fault(LexErrorKind::RegexError, i));
+        return Err(Stop::Fault(LexErrorKind::RegexError.at(i)));
     }
     *count = push(area2, *count, x)?;
     Ok(e)

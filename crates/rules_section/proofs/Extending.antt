@@ -5,11 +5,12 @@ use mathlib.Core.List.{List, [], ◌∷◌, ◌++◌}
 use mathlib.Core.Option.{Option, none, some}
 use Prim.Native.Nat.{ℕ, ◌+◌}
 use lib.ListN.{length, take}
+use Rattle.std.proofs.lemmas.Bool.{cond_both}
 use Rattle.std.specs.Prelude.{Result, Ok, Err}
 use lib.Seq.{take-length, take-append_seam}
 use Rattle.characters.specs.Whitespace.{at_whitespace}
 use Rattle.text.specs.Scan.{trim_end, trim_end_unescaped}
-use Rattle.characters.proofs.Tests.{by_test}
+use Rattle.area.specs.declared.AreaName.TheVariants as Areas
 use Rattle.area.specs.declared.State.{State}
 use Rattle.area.specs.declared.Rule.{Rule}
 use Rattle.area.specs.declared.Fault.{Fault}
@@ -28,10 +29,10 @@ use Rattle.escape.specs.Escape.{unescaped}
 use Rattle.rules.specs.declared.Head.{Head}
 use Rattle.rules.specs.declared.Heading.{Heading}
 use Rattle.rules.specs.declared.Heading.TheVariants.{Repeated, Fresh}
-use Rattle.rules.specs.declared.LexError.{LexError}
+use Rattle.fault.specs.declared.kinds.LexError.{LexError}
 use Rattle.rules.specs.Heading.{heading_of, named_field, name_fields}
 use Rattle.rules.specs.Rules.{entries, refuses, record_rule}
-use Rattle.rules_section.specs.declared.pattern.Text.{Text}
+use Rattle.area.specs.declared.RuleText.{RuleText}
 use Rattle.rules_section.specs.declared.pattern.StateList.{StateList}
 use Rattle.rules_section.specs.RulesSection.{Sheet, Caps, sheet, rule_of, source_text, text_since, no_list, list_since, with_rule}
 use Rattle.rules_section.specs.RulesSection.{listed_rule, rewritten_rule, pattern, Ruled, sheet_of, with_sheet, with_faults, rule_as, rule, line}
@@ -65,25 +66,25 @@ module _ (asked : Request) (k : Caps) (i e : ℕ) (h : Head) (w : Sheet)
   Sheets o = YieldsExtended asked.source w.rules (λ v. v.rules) o
 
   -- the record of a rule with this head, whatever the list entries and the text
-  with_extends : (t : Text) (l : StateList) (ids text : List ℕ) → Sheets (with_rule asked k i e h t l (sheet w.rules ids text))
+  with_extends : (t : RuleText) (l : StateList) (ids text : List ℕ) → Sheets (with_rule asked k i e h t l (sheet w.rules ids text))
   unfolding with_rule record_rule append
   with_extends t l ids text =
       let rs = w.rules in
       let x = rule_of h (length rs) t l in
       let made : Out (List Rule) → Out Sheet = onto (λ ys. sheet ys ids text) in
-      by_test (λ o. Sheets (made o)) (refuses asked.verdicts (length rs)) (bad RegexError i rs) (written 2 e (append rule_format k.c2 (x ∷ []) rs))
+      cond_both (refuses asked.verdicts (length rs)) (bad RegexError i rs) (written Areas.Rules e (append rule_format k.c2 (x ∷ []) rs)) (λ o. Sheets (made o))
       (λ _. tt)
-      (λ _. by_test (λ o. Sheets (made (written 2 e o))) (room rule_format.width rule_format.most k.c2 (length rs) 1) (some (rs ++ (x ∷ []))) none
+      (λ _. cond_both (room rule_format.width rule_format.most k.c2 (length rs) 1) (some (rs ++ (x ∷ []))) none (λ o. Sheets (made (written Areas.Rules e o)))
       (λ _. more x unused refl) (λ _. tt))
 
   -- the rule follows a step that writes list entries, or text
-  list_extends : (o : Out (List ℕ)) (t : Text) (l : Sheet → StateList)
+  list_extends : (o : Out (List ℕ)) (t : RuleText) (l : Sheet → StateList)
       → Sheets (next (onto (λ ids. sheet w.rules ids w.text) o) (λ _ v. with_rule asked k i e h t (l v) v))
   list_extends (go j ids) t l = with_extends t (l (sheet w.rules ids w.text)) ids w.text
   list_extends (bad kind at ids) t l = tt
   list_extends (full n) t l = tt
 
-  text_extends : (o : Out (List ℕ)) (t : Sheet → Text) (l : StateList)
+  text_extends : (o : Out (List ℕ)) (t : Sheet → RuleText) (l : StateList)
       → Sheets (next (onto (λ u. sheet w.rules w.lists u) o) (λ _ v. with_rule asked k i e h (t v) l v))
   text_extends (go j u) t l = with_extends (t (sheet w.rules w.lists u)) l w.lists u
   text_extends (bad kind at u) t l = tt
@@ -94,7 +95,7 @@ module _ (asked : Request) (k : Caps) (i e : ℕ) (h : Head) (w : Sheet)
   pattern_extends c xs =
       pattern_cases asked k i e h c xs w Sheets tt
       (λ g _ _. list_extends (entries asked.source k.c3 xs i g w.lists) (source_text (g + 1) c) (list_since w))
-      (text_extends (written 4 e (append text_format k.c4 (unescaped asked.source asked.options.flags i c) w.text)) (text_since w) (no_list w))
+      (text_extends (written Areas.Text e (append text_format k.c4 (unescaped asked.source asked.options.posix_escapes i c) w.text)) (text_since w) (no_list w))
       (with_extends (source_text i c) (no_list w) w.lists w.text)
 
 -- ---- a line
@@ -104,7 +105,7 @@ module _ (asked : Request) (xs : List State) (k : Caps) (c6 i e : ℕ) (r : Rule
   Lines o = YieldsExtended asked.source r.rules (λ t. t.rules) o
 
   -- a step that writes faults only
-  faults_extend : (o : Option (List Fault)) → Lines (onto (with_faults r) (written 6 e o))
+  faults_extend : (o : Option (List Fault)) → Lines (onto (with_faults r) (written Areas.Faults e o))
   faults_extend none = tt
   faults_extend (some fs) = same refl
 
@@ -122,8 +123,7 @@ module _ (asked : Request) (xs : List State) (k : Caps) (c6 i e : ℕ) (r : Rule
   line_extends : Lines (line asked xs k c6 i e r)
   unfolding line rule
   line_extends =
-      by_test Lines (at_whitespace asked.source i) (onto (with_faults r) (written 6 e (add_fault c6 VerbatimNotSupported i e r.faults)))
-      (rule asked xs k c6 i e r)
+      cond_both (at_whitespace asked.source i) (onto (with_faults r) (written Areas.Faults e (add_fault c6 VerbatimNotSupported i e r.faults))) (rule asked xs k c6 i e r) Lines
       (λ _. faults_extend (add_fault c6 VerbatimNotSupported i e r.faults))
       (λ _. as_extends (heading_of asked.source i (trim_end asked.source i e) xs r.rules) refl)
 

@@ -7,6 +7,7 @@ use native.Mathlib.Omega.{arith}
 use borrow.Author.Rules.{rules}
 use lib.ListN.{length}
 use Rattle.std.specs.Prelude.{Result, Ok, Err}
+use Rattle.area.specs.declared.AreaName.TheVariants as Areas
 use Rattle.area.specs.declared.State.{State}
 use Rattle.area.specs.declared.Rule.{Rule}
 use Rattle.area.specs.declared.AreaFull.{AreaFull}
@@ -14,6 +15,7 @@ use Rattle.area.specs.Contents.{append, contents, rule_format, entry_format, tex
 use Rattle.area.proofs.Contents.{contents-length, rule_sound, entry_sound, text_sound}
 use Rattle.fault.specs.declared.Stop.{Stop}
 use Rattle.fault.specs.declared.Stop.TheVariants.{Fault, Full}
+use Rattle.fault.specs.Kinds.{error_at}
 use Rattle.fault.specs.declared.kinds.LexErrorKind.TheVariants as Kind
 use Rattle.fault.specs.Step.{Out, bad, next, onto, written, outcome, Does}
 use Rattle.fault.specs.Faults.{InvalidStartState}
@@ -27,7 +29,7 @@ use Rattle.rules.specs.declared.Body.TheVariants.{Unclosed, Listed, Rewritten, P
 use Rattle.rules.specs.Heading.{body_of}
 use Rattle.rules.proofs.Patterns.{listed_from, listed_to}
 use Rattle.rules.specs.Rules.{entries, record_rule}
-use Rattle.rules_section.specs.declared.pattern.Text.{Text}
+use Rattle.area.specs.declared.RuleText.{RuleText}
 use Rattle.rules_section.specs.declared.pattern.StateList.{StateList}
 use Rattle.rules_section.specs.RulesSection.{Sheet, sheet, Caps, rule_of, source_text, text_since, no_list, list_since, with_rule}
 use Rattle.rules_section.specs.RulesSection.{listed_rule, rewritten_rule, pattern}
@@ -89,7 +91,7 @@ module _ (asked : Request) (i e : ℕ) (h : Head) (c : ℕ) (xs : List State) (l
   Done v2 v3 v4 r p = Does (HeldSheet v2 v3 v4) (pattern asked caps i e h c xs) before (rules_sheet_in v2 v3 v4) (outcome r p)
 
   -- the rule of a text and a list, behind what is written
-  abbrev made : Text → StateList → Sheet → Out Sheet
+  abbrev made : RuleText → StateList → Sheet → Out Sheet
   made t l v = with_rule asked caps i e h t l v
 
   -- on behind the list that is closed at g, and behind the rewritten text
@@ -104,8 +106,8 @@ module _ (asked : Request) (i e : ℕ) (h : Head) (c : ℕ) (xs : List State) (l
   is_listed g z = pattern_is_listed asked caps i e h c xs before g (sym is ∙ z)
 
   is_rewritten_lem : b ≡ Rewritten
-      → pattern asked caps i e h c xs before ≡ after_text (written 4 e
-      (append text_format (length l4) (unescaped asked.source asked.options.flags i c) before.text))
+      → pattern asked caps i e h c xs before ≡ after_text (written Areas.Text e
+      (append text_format (length l4) (unescaped asked.source asked.options.posix_escapes i c) before.text))
   unfolding rewritten_rule
   is_rewritten_lem z = pattern_is_rewritten asked caps i e h c xs before (sym is ∙ z)
 
@@ -118,7 +120,7 @@ module _ (asked : Request) (i e : ℕ) (h : Head) (c : ℕ) (xs : List State) (l
   text_count : length (contents text_format l4 q.text) ≡ q.text
   text_count = contents-length text_sound held.text
 
-  pub pattern_unclosed : b ≡ Unclosed → Done l2 l3 l4 (Err (Fault Kind.InvalidStartState i)) q
+  pub pattern_unclosed : b ≡ Unclosed → Done l2 l3 l4 (Err (Fault (error_at Kind.InvalidStartState i))) q
   pattern_unclosed z = does_bad (pattern_is_unclosed asked caps i e h c xs before (sym is ∙ z)) held
 
   -- the record was made, of the rule x
@@ -134,7 +136,7 @@ module _ (asked : Request) (i e : ℕ) (h : Head) (c : ℕ) (xs : List State) (l
         (does_onto (λ rs. sheet rs (contents entry_format l3' n) (contents text_format l4' t)) (λ k. sheet_counts k n t) (rules_sheet_in v2 l3' l4') y (λ k. refl)
         (λ k g. record { rules = g; entries = he; text = ht }) (outcome r m) d)
 
-    module _ (t : Text) (l : StateList) (is_rule : x ≡ rule_of h q.rules t l) where
+    module _ (t : RuleText) (l : StateList) (is_rule : x ≡ rule_of h q.rules t l) where
       pub pattern_plain : b ≡ Plain → t ≡ source_text i c → l ≡ record { from = q.entries; count = q.entries - q.entries }
           → Done v2 l3 l4 r (sheet_counts m q.entries q.text)
       unfolding with_rule
@@ -154,7 +156,7 @@ module _ (asked : Request) (i e : ℕ) (h : Head) (c : ℕ) (xs : List State) (l
             (is_listed g z ∙ ap (after_list g) (was_ok o n listed went) ∙ rw (more, rule_count, entry_count_lem, is_rule, is_text, is_list))
 
       module _ (z : b ≡ Rewritten) (o : Result ℕ AreaFull) {v4 : List ℕ}
-          (grown : Grows text_format (append text_format (length l4) (unescaped asked.source asked.options.flags i c)) l4 q.text o v4) (n : ℕ) (went : o ≡ Ok n) where
+          (grown : Grows text_format (append text_format (length l4) (unescaped asked.source asked.options.posix_escapes i c)) l4 q.text o v4) (n : ℕ) (went : o ≡ Ok n) where
         pub pattern_rewritten : t ≡ record { place = 1; from = q.text; length = n - q.text } → l ≡ record { from = q.entries; count = q.entries - q.entries }
             → Done v2 l3 v4 r (sheet_counts m q.entries n)
         unfolding with_rule
@@ -162,7 +164,7 @@ module _ (asked : Request) (i e : ℕ) (h : Head) (c : ℕ) (xs : List State) (l
             let more : length (contents text_format v4 n) ≡ n = contents-length text_sound (grown.held n went) in
             let none : q.entries - q.entries ≡ 0 = omega arith in
             recorded l3 v4 q.entries n held.entries (grown.held n went)
-            (is_rewritten_lem z ∙ ap after_text (written_next text_format 4 e _ v4 o grown.says went)
+            (is_rewritten_lem z ∙ ap after_text (written_next text_format Areas.Text e _ v4 o grown.says went)
             ∙ rw (more, rule_count, entry_count_lem, text_count, is_rule, is_text, is_list, none))
 
   pub pattern_list_err : (g : ℕ) → b ≡ Listed g → {v3 : List ℕ} (o : Result ℕ Stop) (n : ℕ)
@@ -177,9 +179,9 @@ module _ (asked : Request) (i e : ℕ) (h : Head) (c : ℕ) (xs : List State) (l
       (λ f. record { rules = held.rules; entries = holds_err o n listed y ended f; text = held.text })
 
   pub pattern_text_full : b ≡ Rewritten → {v4 : List ℕ} (o : Result ℕ AreaFull)
-      → Grows text_format (append text_format (length l4) (unescaped asked.source asked.options.flags i c)) l4 q.text o v4
+      → Grows text_format (append text_format (length l4) (unescaped asked.source asked.options.posix_escapes i c)) l4 q.text o v4
       → (p : SheetCounts) {full : AreaFull} → o ≡ Err full → Done l2 l3 v4 (Err (Full full.0)) p
   pattern_text_full z {v4} o grown p {full} y =
-      rw (grown.names full y) (does_full (is_rewritten_lem z ∙ ap after_text (written_full text_format 4 e _ v4 o grown.says y)))
+      rw (grown.names full y) (does_full (is_rewritten_lem z ∙ ap after_text (written_full text_format Areas.Text e _ v4 o grown.says y)))
 
 pub ruleset patterning = (rules, listed_from, list_to, list_closed, pattern_unclosed)

@@ -2,6 +2,7 @@
 use Rattle.std.specs.Prelude.{Result, Ok, Err, ℕ, ◌+◌, ◌-◌, cond, List, length}
 use Rattle.characters.specs.Whitespace.{at_whitespace}
 use Rattle.text.specs.Scan.{line_end, trim_end, trim_end_unescaped}
+use Rattle.area.specs.declared.AreaName.TheVariants as Areas
 use Rattle.area.specs.declared.State.{State}
 use Rattle.area.specs.declared.Rule.{Rule}
 use Rattle.area.specs.declared.Fault.{Fault}
@@ -12,14 +13,14 @@ use Rattle.fault.specs.Faults.{add_fault, add_repeat, RoutinesNotSupported, Inva
 use Rattle.escape.specs.Escape.{unescaped}
 use Rattle.section.specs.Request.{Request}
 use Rattle.section.specs.Section.{to_rule, in_section, has_routines}
-use Rattle.rules.specs.declared.LexError.{LexError}
+use Rattle.fault.specs.declared.kinds.LexError.{LexError}
 use Rattle.rules.specs.declared.Head.{Head}
 use Rattle.rules.specs.declared.Heading.{Heading}
 use Rattle.rules.specs.declared.Heading.TheVariants.{Repeated, Fresh}
 use Rattle.rules.specs.declared.Body.TheVariants.{Unclosed, Listed, Rewritten, Plain}
 use Rattle.rules.specs.Heading.{heading_of, named_field, name_fields, operation_field, target_field, body_of}
 use Rattle.rules.specs.Rules.{entries, record_rule}
-use Rattle.rules_section.specs.declared.pattern.Text.{Text}
+use Rattle.area.specs.declared.RuleText.{RuleText}
 use Rattle.rules_section.specs.declared.pattern.StateList.{StateList}
 
 -- ---- what is written
@@ -43,7 +44,7 @@ sheet rs ids t = record { rules = rs; lists = ids; text = t }
 -- ---- the record
 
 -- the rule at the position k: its id is k (01, Rules)
-abbrev pub rule_of : Head → ℕ → Text → StateList → Rule
+abbrev pub rule_of : Head → ℕ → RuleText → StateList → Rule
 rule_of h k t l = record {
   has_id = 1;
   id = k;
@@ -62,11 +63,11 @@ rule_of h k t l = record {
 }
 
 -- the source from a to c (01, Areas, 4)
-abbrev pub source_text : ℕ → ℕ → Text
+abbrev pub source_text : ℕ → ℕ → RuleText
 source_text a c = record { place = 0; from = a; length = c - a }
 
 -- the rewritten text that v has and w has not (01, Areas, 4)
-abbrev pub text_since : Sheet → Sheet → Text
+abbrev pub text_since : Sheet → Sheet → RuleText
 text_since w v = record { place = 1; from = length w.text; length = length v.text - length w.text }
 
 -- no list: it would begin behind the entries so far (01, Areas, 2)
@@ -81,7 +82,7 @@ list_since w v = record { from = length w.lists; count = length v.lists - length
 
 module _ (q : Request) (k : Caps) (i e : ℕ) (h : Head) where
   -- the verdict, and the record of the rule with this text and list (01, Rules)
-  unfoldable pub with_rule : Text → StateList → Sheet → Out Sheet
+  unfoldable pub with_rule : RuleText → StateList → Sheet → Out Sheet
   with_rule t l w =
       onto (λ rs. sheet rs w.lists w.text) (record_rule q.verdicts k.c2 i e (rule_of h (length w.rules) t l) w.rules)
 
@@ -89,7 +90,7 @@ module _ (q : Request) (k : Caps) (i e : ℕ) (h : Head) where
     -- the rewritten text; then the rule (01, Rules)
     unfoldable pub rewritten_rule : Sheet → Out Sheet
     rewritten_rule w =
-        next (onto (λ t. sheet w.rules w.lists t) (written 4 e (append text_format k.c4 (unescaped q.source q.options.flags i c) w.text)))
+        next (onto (λ t. sheet w.rules w.lists t) (written Areas.Text e (append text_format k.c4 (unescaped q.source q.options.posix_escapes i c) w.text)))
         (λ _ v. with_rule (text_since w v) (no_list w) v)
 
     module _ (xs : List State) where
@@ -141,7 +142,7 @@ module _ (q : Request) (xs : List State) (k : Caps) (c6 : ℕ) where
   unfoldable pub rule_as : ℕ → ℕ → Result Heading LexError → Ruled → Out Ruled
   rule_as i e (Err error) r = bad (kind_number error.kind) error.at r
   rule_as i e (Ok (Repeated first again)) r =
-      onto (with_faults r) (written 6 e (add_repeat c6 DuplicateName first.start first.end again.start again.end r.faults))
+      onto (with_faults r) (written Areas.Faults e (add_repeat c6 DuplicateName first.start first.end again.start again.end r.faults))
   rule_as i e (Ok (Fresh b h)) r = onto (with_sheet r) (pattern q k i e h (trim_end_unescaped q.source i b) xs (sheet_of r))
 
   -- a rule, whose line is read without its trailing whitespace (01, Rules)
@@ -151,15 +152,15 @@ module _ (q : Request) (xs : List State) (k : Caps) (c6 : ℕ) where
   -- a line: one that starts with whitespace is a fault whose span is the line; any other is a rule (01, Rules)
   unfoldable pub line : ℕ → ℕ → Ruled → Out Ruled
   line i e r =
-      cond (at_whitespace q.source i) (onto (with_faults r) (written 6 e (add_fault c6 VerbatimNotSupported i e r.faults))) (rule i e r)
+      cond (at_whitespace q.source i) (onto (with_faults r) (written Areas.Faults e (add_fault c6 VerbatimNotSupported i e r.faults))) (rule i e r)
 
   -- a line, and on from its end to the next (01, Rules)
   unfoldable pub next_rule : ℕ → Ruled → Out Ruled
-  next_rule i r = next (line i (line_end q.source i) r) (λ _ t. go (to_rule q.source q.options.flags (line_end q.source i)) t)
+  next_rule i r = next (line i (line_end q.source i) r) (λ _ t. go (to_rule q.source q.options (line_end q.source i)) t)
 
   -- the rules from i on (01, Rules)
   unfoldable pub rules : ℕ → Ruled → Out Ruled
-  rules i r = loop (length q.source) (in_section q.source) next_rule (to_rule q.source q.options.flags i) r
+  rules i r = loop (length q.source) (in_section q.source) next_rule (to_rule q.source q.options i) r
 
   -- the rules from i on, and what follows them (01, Rules)
   unfoldable pub rules_section : ℕ → Ruled → Out Ruled

@@ -1,6 +1,7 @@
 // The rules section: its lines, their patterns, and the records of the rules (01, Rules).
 #![tactic(auto)]
 
+pub mod areas; // the areas that the section writes
 mod pattern; // the pattern of a rule, and the rule's record
 mod line; // a line of the rules section
 pub mod lines; // the rules section

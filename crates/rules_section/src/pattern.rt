@@ -1,32 +1,21 @@
 // The pattern of a rule and the rule's record: a list of states, text to rewrite, or text as it stands (01, Rules).
-// The areas that are lent for writing stay parameters beside their counts: a struct of them, lent again, has no proof (tried).
 ghost use Rattle.std.specs.Prelude.{◌≡◌, ◌-◌, ◌≤◌, length};
-ghost use Rattle.area.specs.Phrases.{before};
 ghost use Rattle.section.specs.Request.{asked_by};
 ghost use Rattle.rules.specs.Heading.{named_field, name_fields, operation_field, target_field};
 ghost use Rattle.rules_section.specs.RulesSection.{source_text, rule_of, pattern};
-ghost use Rattle.rules_section.specs.Answers.{HeldSheet};
+ghost use Rattle.rules_section.specs.Areas.{SameAreas, SameFaults, SheetHeld};
 ghost use Rattle.rules_section.specs.Phrases.{DoesSheet};
 
-use crate::SheetCounts;
+use crate::areas::RuleAreas;
 use area::list::Records;
-use area::{Rule, State};
+use area::{Rule, RuleText, State};
 use escape::unescape;
 use fault::{LexErrorKind, Stop};
 use rules::bodies::body_of;
 use rules::entries::parse_start_states;
 use rules::record::record_rule;
 use rules::{Body, Head, Name, TargetState};
-use section::LexFile;
-use section::reader::Line;
-
-// Where a rule's text stands: place 0 is the source, 1 the rewritten text.
-#[derive(Clone, Copy)]
-pub struct Text {
-    pub place: u16,
-    pub from: u16,
-    pub length: u16,
-}
+use section::reader::FileLine;
 
 // Where a rule's list of states stands among the entries.
 #[derive(Clone, Copy)]
@@ -46,7 +35,7 @@ fn named_field(name: Option<Name>) -> u16
 fn name_fields(name: Option<Name>) -> Name
     ensures { result ≡ name_fields name }
 {
-    name.unwrap_or(Name { from: 0, length: 0 })
+    name.unwrap_or_default()
 }
 
 fn operation_field(target: Option<TargetState>) -> u16
@@ -62,7 +51,7 @@ fn target_field(target: Option<TargetState>) -> u16
 }
 
 // The rule of a heading, a text and a list, at the next position: its id is the position.
-fn rule_with(h: Head, k: u16, t: Text, l: StateList) -> Rule
+fn rule_with(h: Head, k: u16, t: RuleText, l: StateList) -> Rule
     ensures { result ≡ rule_of h k t l }
 {
     let name = name_fields(h.name);
@@ -86,11 +75,11 @@ fn rule_with(h: Head, k: u16, t: Text, l: StateList) -> Rule
 
 // ---- where the text and the list stand
 
-fn source_text(a: usize, c: usize) -> Text
+fn source_text(a: usize, c: usize) -> RuleText
     requires { (a ≤ c) × (c ≤ 65535) }
     ensures { result ≡ source_text a c }
 {
-    Text {
+    RuleText {
         place: 0,
         from: a as u16,
         length: (c - a) as u16,
@@ -98,10 +87,10 @@ fn source_text(a: usize, c: usize) -> Text
 }
 
 // The rewritten text behind the first `before` bytes of it.
-fn text_since(before: u16, now: u16) -> Text
+fn text_since(before: u16, now: u16) -> RuleText
     ensures { result ≡ record { place = 1; from = before; length = now - before } }
 {
-    Text {
+    RuleText {
         place: 1,
         from: before,
         length: now.saturating_sub(before),
@@ -123,44 +112,50 @@ fn list_since(before: u16, now: u16) -> StateList
 // The pattern of the line up to c, and the rule.
 #[tactic(auto, using(crate::proofs::Patterns::patterning))]
 pub fn parse_pattern(
-    file: LexFile,
-    line: Line,
+    at: FileLine,
     h: Head,
     c: usize,
-    counts: &mut SheetCounts,
     states: &Records<State>,
-    area2: &mut [u8],
-    area3: &mut [u8],
-    area4: &mut [u8],
+    areas: &mut RuleAreas,
 ) -> Result<usize, Stop>
-    requires start_le_c { (line.start ≤ c) × (c ≤ length file.source.now) }
-    requires held_sheet { HeldSheet area2.old area3.old area4.old counts.old }
-    ensures { DoesSheet (λ k. pattern (asked_by file.entry) k line.start line.end h c states.now) area2 area3 area4 counts result }
+    requires start_le_c { (at.line.start ≤ c) × (c ≤ length at.file.source.now) }
+    requires held_sheet { SheetHeld areas.old }
+    ensures same { SameAreas areas.old areas.new }
+    ensures faults { SameFaults areas.old areas.new }
+    ensures does { DoesSheet (λ k. pattern (asked_by at.entry.file) k at.entry.line.start at.entry.line.end h c states.now) areas result }
 {
+    let FileLine { file, line } = at;
     let place = line.start as u16;
-    let entries = counts.entries;
-    let before = counts.text;
+    let entries = areas.counts.sheet.entries;
+    let before = areas.counts.sheet.text;
     let text = match body_of(file.source, line.start, c) {
-        Body::Unclosed => return Err(Stop::Fault(LexErrorKind::InvalidStartState, place)),
+        Body::Unclosed => return Err(Stop::Fault(LexErrorKind::InvalidStartState.at(place))),
         Body::Listed(g) => {
-            let count = &mut counts.entries;
-            parse_start_states(file, line.start, g, states, area3, count)?;
+            let count = &mut areas.counts.sheet.entries;
+            parse_start_states(file, line.start, g, states, areas.entries, count)?;
             source_text(g + 1, c)
         }
         Body::Rewritten => {
-            counts.text = unescape(file.source, file.flags, line.start, c, area4, before)?;
-            text_since(before, counts.text)
+            areas.counts.sheet.text = unescape(
+                file.source,
+                file.options.posix_escapes,
+                line.start,
+                c,
+                areas.text,
+                before,
+            )?;
+            text_since(before, areas.counts.sheet.text)
         }
         Body::Plain => source_text(line.start, c),
     };
-    let list = list_since(entries, counts.entries);
-    let rule = rule_with(h, counts.rules, text, list);
+    let list = list_since(entries, areas.counts.sheet.entries);
+    let rule = rule_with(h, areas.counts.sheet.rules, text, list);
     record_rule(
         file.verdicts,
         place,
         line.end,
         rule,
-        area2,
-        &mut counts.rules,
+        areas.rules,
+        &mut areas.counts.sheet.rules,
     )
 }

@@ -8,7 +8,7 @@ use borrow.Author.Rules.{rules}
 use borrow.Author.Tests.{leb-true, ltb-true}
 use lib.Dec.{leb}
 use lib.ListN.{length}
-use Rattle.characters.proofs.Tests.{and_left, and_right}
+use Rattle.std.proofs.lemmas.Bool.{and_parts}
 use Rattle.area.specs.Records.{entry_at, entry_width}
 use Rattle.area.specs.Contents.{contents, entry_format}
 use Rattle.sheet_check.specs.SheetCheck.{declared}
@@ -36,17 +36,17 @@ good_numbers_lem r s e =
     let a4 : Bool = leb r.depth (r.position + 1) in
     let a5 : Bool = leb (moves_of r) r.position in
     let a6 : Bool = leb (stack_bytes r.n) (length s) in
-    let t5 = and_left (a1 && a2 && a3 && a4 && a5) a6 e in
-    let t4 = and_left (a1 && a2 && a3 && a4) a5 t5 in
-    let t3 = and_left (a1 && a2 && a3) a4 t4 in
-    let t2 = and_left (a1 && a2) a3 t3 in
+    let t5 = (and_parts (a1 && a2 && a3 && a4 && a5) a6 e).0 in
+    let t4 = (and_parts (a1 && a2 && a3 && a4) a5 t5).0 in
+    let t3 = (and_parts (a1 && a2 && a3) a4 t4).0 in
+    let t2 = (and_parts (a1 && a2) a3 t3).0 in
     record {
-      small = leb-true r.n most_bytes (and_left a1 a2 t2);
-      inside = leb-true r.position r.n (and_right a1 a2 t2);
-      some_depth = leb-true 1 r.depth (and_right (a1 && a2) a3 t3);
-      low_depth = leb-true r.depth (r.position + 1) (and_right (a1 && a2 && a3) a4 t4);
-      few_moves = leb-true (moves_of r) r.position (and_right (a1 && a2 && a3 && a4) a5 t5);
-      long = leb-true (stack_bytes r.n) (length s) (and_right (a1 && a2 && a3 && a4 && a5) a6 e);
+      small = leb-true r.n most_bytes (and_parts a1 a2 t2).0;
+      inside = leb-true r.position r.n (and_parts a1 a2 t2).1;
+      some_depth = leb-true 1 r.depth (and_parts (a1 && a2) a3 t3).1;
+      low_depth = leb-true r.depth (r.position + 1) (and_parts (a1 && a2 && a3) a4 t4).1;
+      few_moves = leb-true (moves_of r) r.position (and_parts (a1 && a2 && a3 && a4) a5 t5).1;
+      long = leb-true (stack_bytes r.n) (length s) (and_parts (a1 && a2 && a3 && a4 && a5) a6 e).1;
     }
 
 -- the entries in use lie within the stack
@@ -71,7 +71,7 @@ pub ruleset run_fits = (rules, run_numbers, run_broken, run_readable)
 module _ (states : ℕ) (r : Run) (s : List ℕ) (fits : good_run states (running r s) ≡ true) where
   pub run_is : GoodNumbers r (length s)
   unfolding good_run
-  run_is = good_numbers_lem r s (and_left (good_numbers (running r s)) (all (declared states) (contents entry_format s r.depth)) fits)
+  run_is = good_numbers_lem r s (and_parts (good_numbers (running r s)) (all (declared states) (contents entry_format s r.depth)) fits).0
 
   pub current_declared : current (running r s) < states
   unfolding good_run
@@ -79,7 +79,7 @@ module _ (states : ℕ) (r : Run) (s : List ℕ) (fits : good_run states (runnin
       let d : ℕ = r.depth in
       let h : d - 1 < d = omega (arith, run_is.some_depth) in
       let a : all (declared states) (contents entry_format s d) ≡ true =
-      and_right (good_numbers (running r s)) (all (declared states) (contents entry_format s d)) fits in
+      (and_parts (good_numbers (running r s)) (all (declared states) (contents entry_format s d)) fits).1 in
       let m : d - 1 < length (contents entry_format s d) = omega (arith, contents_count entry_format s d, h) in
       let b : declared states (entry_at s (d - 1)) ≡ true =
       ap (declared states) (sym (contents_read entry_format s d (d - 1) h)) ∙ all-at (declared states) (contents entry_format s d) 0 (d - 1) a m in

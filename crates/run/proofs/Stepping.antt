@@ -1,7 +1,7 @@
 -- The step call and the start call: a law for each way through, whose premises are what the callees promise and the tests taken. The winner
 -- is one of the rules and its length is at most the bytes left, so that a move stays inside the entry and the stack.
 use mathlib.Core.Path.{◌≡◌, sym, ap, subst, ◌∙◌}
-use mathlib.Core.Bool.{Bool, true, false}
+use mathlib.Core.Bool.{Bool, true, false, and-false}
 use mathlib.Core.List.{List}
 use Prim.Native.Nat.{ℕ, ◌-◌, ◌≤◌, ◌<◌}
 use native.Mathlib.Omega.{arith}
@@ -10,17 +10,17 @@ use borrow.Author.Tests.{le-leb, lt-leb, leb-true, eq-eqb, ne_eqb}
 use lib.Dec.{leb}
 use lib.ListN.{length}
 use Rattle.std.specs.Prelude.{Ok, Err, Some, None}
-use Rattle.characters.proofs.Tests.{and_false}
 use Rattle.area.specs.declared.Rule.{Rule}
-use Rattle.area.specs.Records.{entry_at, nth_rule}
-use Rattle.area.specs.Contents.{state_format, rule_format}
-use Rattle.sheet_check.specs.SheetCheck.{SheetBytes, count, decoded, sheet_check}
-use Rattle.area.proofs.Contents.{contents_count}
-use Rattle.sheet_check.proofs.Checked.{checked_long, checked_rule}
+use Rattle.area.specs.Records.{rule_at, entry_at, nth_rule}
+use Rattle.area.specs.Contents.{rule_format}
+use Rattle.sheet_check.specs.declared.Sizes.{Sizes}
+use Rattle.sheet_check.specs.SheetCheck.{SheetBytes, count, decoded, sizes_of, sheet_check}
+use Rattle.area.proofs.Contents.{contents_read}
+use Rattle.sheet_check.proofs.Checked.{states_count, rules_count, lists_count, checked_rule}
 use Rattle.winner.specs.declared.Best.{Best}
-use Rattle.winner.specs.Winner.{Lexer, weight, best}
+use Rattle.winner.specs.Winner.{Lexer, list_end, weight, best}
 use Rattle.winner.specs.declared.Row.{Row}
-use Rattle.winner.specs.Phrases.{lexer_at, Readable, winning}
+use Rattle.winner.specs.Phrases.{ListsInside, winning}
 use Rattle.winner.proofs.Winning.{winner_inside, weights_low}
 use Rattle.winner.proofs.Topping.{none_won, one_won}
 use Rattle.run.specs.declared.Run.{Run}
@@ -49,7 +49,7 @@ module _ (n : ℕ) (r : Run) (s : List ℕ) where
 
   pub start_short : length s < stack_bytes n → run_left start_refused r s ≡ start_call n (running r s)
   unfolding start_call good_start
-  start_short h = rw (lt-leb (stack_bytes n) (length s) h, and_false)
+  start_short h = rw (lt-leb (stack_bytes n) (length s) h, and-false)
 
   pub start_good : (e : List ℕ) → n ≤ most_bytes → stack_bytes n ≤ length s → e ≡ put_state s 0 0
       → run_left start_accepted (first_run n) e ≡ start_call n (running r s)
@@ -122,48 +122,48 @@ move_inside r bytes space g h l = record {
 pub short_of : (states : ℕ) (r : Run) (s : List ℕ) → good_run states (running r s) ≡ true → (r.position ≡ r.n → ⊥) → r.position < r.n
 short_of states r s e h = omega (arith, (run_is states r s e).inside, h)
 
--- the lexer that a sheet's areas are
-abbrev pub lexer_lent : SheetBytes → Lexer
-lexer_lent b = lexer_at b.area1 b.area2 b.area3 (count b 1) (count b 2) (count b 3)
-
-module _ (b : SheetBytes) (r : Run) (s : List ℕ) (row : List ℕ) (t : Bool) (is : t ≡ good_run (count b 1) (running r s)) where
+module _ (b : SheetBytes) (z : Sizes) (of : z ≡ sizes_of b) (r : Run) (s : List ℕ) (row : List ℕ) (t : Bool)
+    (is : t ≡ good_run z.states (running r s)) where
   abbrev after_check : RunLeft StepAnswer
   after_check = step_run (lexer_of (decoded b)) (running r s) (input row)
 
-  ran : good_run (length (lexer_lent b).states) (running r s) ≡ t
-  ran = ap (λ (m : ℕ). good_run m (running r s)) (contents_count state_format b.area1 (count b 1)) ∙ sym is
+  ran : good_run (length (decoded b).states) (running r s) ≡ t
+  ran = ap (λ (m : ℕ). good_run m (running r s)) (states_count b ∙ ap (λ (y : Sizes). y.states) (sym of)) ∙ sym is
 
   pub run_refused : t ≡ false → run_left (Err BrokenRun) r s ≡ after_check
-  unfolding step_run decoded
+  unfolding step_run
   run_refused e = rw (ran, e)
 
   pub run_done : t ≡ true → r.position ≡ r.n → run_left (Ok Done) r s ≡ after_check
-  unfolding step_run decoded
+  unfolding step_run
   run_done e h = rw (ran, e, eq-eqb r.position r.n h)
 
   module _ (e : t ≡ true) (h : r.position ≡ r.n → ⊥) where
-    rowed : good_row (fits_in r) (length (lexer_lent b).rules) row ≡ good_row (fits_in r) (count b 2) row
-    rowed = ap (λ (m : ℕ). good_row (fits_in r) m row) (contents_count rule_format b.area2 (count b 2))
+    counted : length (decoded b).rules ≡ z.rules
+    counted = rules_count b ∙ ap (λ (y : Sizes). y.rules) (sym of)
 
-    pub run_ill : good_row (fits_in r) (count b 2) row ≡ false → run_left (Err RowMismatch) r s ≡ after_check
-    unfolding step_run decoded
+    rowed : good_row (fits_in r) (length (decoded b).rules) row ≡ good_row (fits_in r) z.rules row
+    rowed = ap (λ (m : ℕ). good_row (fits_in r) m row) counted
+
+    pub run_ill : good_row (fits_in r) z.rules row ≡ false → run_left (Err RowMismatch) r s ≡ after_check
+    unfolding step_run
     run_ill g = rw (ran, e, ne_eqb r.position r.n h, rowed, g)
 
-    module _ (x : Row) (fits : RowFits (fits_in r) (count b 2) row x) (lexer : Lexer) (made : lexer ≡ lexer_lent b) where
+    module _ (x : Row) (fits : RowFits (fits_in r) z.rules row x) (lexer : Lexer) (made : lexer ≡ lexer_of (decoded b)) where
       pub lexer_run : good_run (length lexer.states) (running r s) ≡ true
       lexer_run = ap (λ (y : Lexer). good_run (length y.states) (running r s)) made ∙ ran ∙ e
 
       pub lexer_row : RowFits (fits_in r) (length lexer.rules) x.bytes.now x
       lexer_row =
-          let n : length lexer.rules ≡ count b 2 = ap (λ (y : Lexer). length y.rules) made ∙ contents_count rule_format b.area2 (count b 2) in
+          let n : length lexer.rules ≡ z.rules = ap (λ (y : Lexer). length y.rules) made ∙ counted in
           let there : RowFits (fits_in r) (length lexer.rules) row x = subst (λ (m : ℕ). RowFits (fits_in r) m row x) (sym n) fits in
           subst (λ (l : List ℕ). RowFits (fits_in r) (length lexer.rules) l x) (sym fits.bytes_are) there
 
       pub run_row : (y : RunLeft StepAnswer) → y ≡ step_row lexer (running r s) (input x.bytes.now) → y ≡ after_check
-      unfolding step_run decoded
+      unfolding step_run
       run_row y q =
           rw (ran, e, ne_eqb r.position r.n h, rowed, fits.good)
-          (q ∙ ap (λ (l : List ℕ). step_row lexer (running r s) (input l)) fits.bytes_are ∙ ap (λ (z : Lexer). step_row z (running r s) (input row)) made)
+          (q ∙ ap (λ (l : List ℕ). step_row lexer (running r s) (input l)) fits.bytes_are ∙ ap (λ (v : Lexer). step_row v (running r s) (input row)) made)
 
 -- ---- the sheet
 
@@ -176,10 +176,12 @@ module _ (b : SheetBytes) (r : Run) (s : List ℕ) (i : Input) (t : Bool) (is : 
   unfolding step_call
   sheet_stepped y e q = rw (← is, e) q
 
-pub sheet_readable : (b : SheetBytes) → sheet_check b ≡ true → Readable b.area1 b.area2 b.area3 (count b 1) (count b 2) (count b 3)
-sheet_readable b passed = record {
-  long1 = (checked_long b passed).long1;
-  long2 = (checked_long b passed).long2;
-  long3 = (checked_long b passed).long3;
-  lists = λ k h. (checked_rule b passed k h).list_inside;
+-- the list of each rule lies inside the list entries
+pub sheet_lists : (b : SheetBytes) → sheet_check b ≡ true → ListsInside (decoded b).rules (decoded b).lists
+unfolding decoded
+sheet_lists b passed = record {
+  each = λ k h.
+      let inside : k < count b 2 = omega (arith, rules_count b, h) in
+      let read : nth_rule (decoded b).rules k ≡ rule_at b.area2 k = contents_read rule_format b.area2 (count b 2) k inside in
+      subst (λ (y : Rule). list_end y ≤ length (decoded b).lists) (sym read) (omega (arith, (checked_rule b passed k inside).list_inside, lists_count b));
 }

@@ -7,7 +7,7 @@ ghost use Rattle.winner.specs.Top.{RowFits};
 
 use crate::moves::put_state;
 use crate::{After, MOST_BYTES, Run, StartRefused, Step, StepError};
-use area::{ENTRY_WIDTH, read};
+use area::Record;
 use sheet_check::Sheet;
 use sheet_check::check::quick_check;
 use winner::{LentLexer, Row};
@@ -20,7 +20,7 @@ pub fn start(n: u64, r: Run, stack: &mut [u8]) -> After<Result<(), StartRefused>
     if n > MOST_BYTES {
         return r.after(Err(StartRefused));
     }
-    if stack.len() < ENTRY_WIDTH * (n as usize + 1) {
+    if stack.len() < u16::WIDTH * (n as usize + 1) {
         return r.after(Err(StartRefused));
     }
     put_state(stack, 0, 0);
@@ -40,7 +40,7 @@ fn step_row(lexer: &LentLexer, r: Run, stack: &mut [u8], row: Row) -> After<Resu
     requires row_fits { RowFits (fits_in r) (length lexer.now.rules) row.bytes.now row }
     ensures { run_left result.answer result.run stack.new ≡ step_row lexer.now (running r stack.old) (input row.entry.bytes.now) }
 {
-    let state: u16 = read(stack, r.depth as usize - 1);
+    let state = u16::read(stack, r.depth as usize - 1);
     let Some(b) = lexer.winner(state, row) else {
         return r.after(Ok(Step::Stopped));
     };
@@ -48,29 +48,26 @@ fn step_row(lexer: &LentLexer, r: Run, stack: &mut [u8], row: Row) -> After<Resu
 }
 
 // A sheet that passed the check.
+#[tactic(auto, using(sheet_check::proofs::Sheets::checked_fits))]
 fn step_run(sheet: Sheet, r: Run, stack: &mut [u8], row: &[u8]) -> After<Result<Step, StepError>>
     requires { sheet_check (lent_sheet sheet) ≡ true }
     ensures { run_left result.answer result.run stack.new
         ≡ step_run (lexer_of (decoded (lent_sheet sheet.entry))) (running r stack.old) (input row.now) }
 {
-    let states = sheet.counts[0];
-    let rules = sheet.counts[1];
-    if !r.is_good(states, stack) {
+    let sizes = sheet.sizes();
+    if !r.is_good(sizes.states, stack) {
         return r.after(Err(StepError::BrokenRun));
     }
     if r.position == r.n {
         return r.after(Ok(Step::Done));
     }
-    let Some(lengths) = Row::fitting(row, rules, r.n - r.position) else {
+    let Some(lengths) = Row::fitting(row, sizes.rules, r.n - r.position) else {
         return r.after(Err(StepError::RowMismatch));
     };
     let lexer = LentLexer::new(
-        sheet.states,
-        sheet.rules,
-        sheet.entries,
-        states,
-        rules,
-        sheet.counts[2],
+        sheet.state_records(),
+        sheet.rule_records(),
+        sheet.entry_records(),
     );
     step_row(&lexer, r, stack, lengths)
 }

@@ -4,7 +4,8 @@ ghost use Rattle.area.specs.Phrases.{before};
 ghost use Rattle.run.specs.Run.{running, good_numbers, good_run};
 
 use crate::{MOST_BYTES, Run};
-use area::ENTRY_WIDTH;
+use area::Record;
+use area::list::Records;
 use sheet_check::check::good_entries;
 
 impl Run {
@@ -18,7 +19,7 @@ impl Run {
             & (1 <= self.depth)
             & (self.depth as usize <= self.position as usize + 1)
             & (self.moves <= self.position)
-            & (ENTRY_WIDTH * (self.n as usize + 1) <= stack.len())
+            & (u16::WIDTH * (self.n as usize + 1) <= stack.len())
     }
 
     // The numbers first, so that the entries in use may be read.
@@ -26,6 +27,6 @@ impl Run {
     pub fn is_good(self, states: u16, stack: &[u8]) -> bool
         ensures { result ≡ good_run states (running self stack.now) }
     {
-        self.good_numbers(stack) && good_entries(stack, self.depth, states)
+        self.good_numbers(stack) && good_entries(&Records::new(stack, self.depth), states)
     }
 }

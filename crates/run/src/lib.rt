@@ -16,9 +16,9 @@ use answers::Number;
 const MOST_BYTES: u64 = 4096;
 
 // A run's numbers: the bytes of the entry, those behind it, the entries of the stack in use, and the moves so far. For C they are four
-// two-byte numbers in this order. The stack stays beside it, for a struct with a `&mut` slice is not proved where it is lent.
+// two-byte numbers in this order. The stack stays beside it, as C lends it: in a struct with it each function would promise that the same bytes are lent.
 #[repr(C)]
-#[derive(Clone, Copy, PartialEq, Eq, Debug)]
+#[derive(Clone, Copy, PartialEq, Eq, Debug, Default)]
 pub struct Run {
     pub n: u16,
     pub position: u16,

@@ -6,15 +6,15 @@ ghost use Rattle.run.specs.Run.{running, run_left, put_state, with_depth, operat
 ghost use Rattle.run.specs.Phrases.{HasRoom, Inside};
 
 use crate::{After, Run, Step, StepError};
-use area::{ENTRY_WIDTH, Rule, StartStateOperation, write_field};
+use area::{Record, Rule, StartStateOperation};
 
 // Entry k of the stack, in the layout that C has of it. The stack is lent whole, for k is a place and no length of a part.
-#[tactic(auto, unfolding(crate::specs::Run::put_state))]
+#[tactic(auto, unfolding(crate::specs::Run::put_state, area::specs::Records::entry_fields, area::specs::Bytes::bytes, area::specs::Bytes::two))]
 pub fn put_state(stack: &mut [u8], k: u16, id: u16)
     requires { k * entry_width + entry_width ≤ length stack.old }
     ensures { stack.new ≡ put_state stack.old k id }
 {
-    write_field(stack, k as usize * ENTRY_WIDTH, id);
+    id.write(stack, k as usize);
 }
 
 impl Run {
@@ -26,20 +26,21 @@ impl Run {
         match StartStateOperation::from_field(x.operation) {
             Some(StartStateOperation::ReplaceStack) => {
                 put_state(stack, 0, x.target);
-                return 1; // the target alone
+                1 // the target alone
             }
             Some(StartStateOperation::Push) => {
                 put_state(stack, self.depth, x.target);
-                return self.depth + 1;
+                self.depth + 1
             }
             Some(StartStateOperation::Pop) => {
                 if self.depth == 1 {
                     put_state(stack, 0, 0);
-                    return 1; // state 0 alone
+                    1 // state 0 alone
+                } else {
+                    self.depth - 1
                 }
-                return self.depth - 1;
             }
-            None => return self.depth,
+            None => self.depth,
         }
     }
 
@@ -50,10 +51,10 @@ impl Run {
     {
         let depth = self.operate(x, stack);
         Run {
-            n: self.n,
             position: self.position + bytes,
-            depth: depth,
+            depth,
             moves: self.moves + 1,
+            ..self
         }
     }
 

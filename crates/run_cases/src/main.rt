@@ -12,8 +12,7 @@ use calls::answer;
 use printing::{Listed, Outcome};
 use runs::Runs;
 use sheet::Sheet;
-use std::fs::File;
-use streams::{fail, read_full, say};
+use streams::{read_file, read_full, say, show_texts};
 
 // A line that starts with # is only printed. What cannot be written is left out.
 fn play(rt: &impl Print, source: &[u8], lines: &[u8]) {
@@ -22,29 +21,22 @@ fn play(rt: &impl Print, source: &[u8], lines: &[u8]) {
     let outcome = Outcome::from(parsed);
     let counts = Listed(&sheet.counts);
     let _ = println!(rt; "parse:{outcome}{counts}");
-    for ended in lines.split_inclusive(|byte| *byte == b'\n') {
-        let line = ended.strip_suffix(b"\n").unwrap_or(ended);
+    show_texts(lines, b'\n', |line| {
         say(rt, line);
         if !line.starts_with(b"#") {
             let outcome = answer(&mut sheet, &mut runs, line);
             let _ = print!(rt; ":{outcome}{runs}");
         }
         say(rt, b"\n");
-    }
+    });
 }
 
 fn main(rt: HostRuntime) {
-    let mut file = match File::open(&rt, "file.l") {
-        Ok(file) => file,
-        Err(error) => {
-            fail(&rt, "file.l", error);
-            return;
-        }
+    let mut file = [0u8; 4096];
+    let Some(source) = read_file(&rt, "file.l", &mut file) else {
+        return;
     };
-    let mut source = [0u8; 4096];
-    let n = read_full(&mut file, &mut source);
-    drop(file);
-    let mut lines = [0u8; 65536];
-    let m = read_full(&mut rt.stdin(), &mut lines);
-    play(&rt, &source[..n], &lines[..m]);
+    let mut input = [0u8; 65536];
+    let lines = read_full(&mut rt.stdin(), &mut input);
+    play(&rt, source, lines);
 }

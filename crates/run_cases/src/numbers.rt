@@ -19,8 +19,6 @@ pub fn numbers_of(line: &[u8]) -> Text<128> {
 
 // Number k of two-byte fields, and 0 where there is none: a line may name fewer numbers than its call takes.
 pub fn number_at(fields: &[u8], k: usize) -> u16 {
-    match fields.chunks_exact(2).nth(k) {
-        Some([low, high]) => u16::from_le_bytes([*low, *high]),
-        _ => 0,
-    }
+    let (fields, _) = fields.as_chunks::<2>();
+    fields.get(k).map_or(0, |x| u16::from_le_bytes(*x))
 }

@@ -1,7 +1,7 @@
 // What is printed: numbers, and what a line is answered.
 use answers::Number;
 use link::{LinkError, Linked};
-use parse::ParseError;
+use parse::{FileCounts, ParseError};
 use run::{StartRefused, Step, StepError};
 use std::fmt;
 
@@ -21,13 +21,9 @@ impl fmt::Display for Listed<'_> {
 #[derive(Clone, Copy)]
 pub enum Outcome {
     Accepted,
-    Linked(u16, u16),
+    Linked(Linked),
     Started,
-    Done,
-    Stopped,
-    Unlinked,
-    Skip,
-    Token(u16, u16, u16),
+    Stepped(Step),
     Refused(Number),
     RefusedAt(Number, u16),
     Changed,
@@ -38,13 +34,20 @@ impl fmt::Display for Outcome {
     fn fmt<W: fmt::Write>(&self, f: &mut fmt::Formatter<W>) -> fmt::Result {
         match self {
             Outcome::Accepted => write!(f, " accepted"),
-            Outcome::Linked(missing, unused) => write!(f, " linked {missing} {unused}"),
+            Outcome::Linked(
+                Linked {
+                    unmapped_count,
+                    unused_count,
+                },
+            ) => write!(f, " linked {unmapped_count} {unused_count}"),
             Outcome::Started => write!(f, " started"),
-            Outcome::Done => write!(f, " done"),
-            Outcome::Stopped => write!(f, " stopped"),
-            Outcome::Unlinked => write!(f, " unlinked"),
-            Outcome::Skip => write!(f, " skip"),
-            Outcome::Token(id, from, length) => write!(f, " token {id} {from} {length}"),
+            Outcome::Stepped(Step::Done) => write!(f, " done"),
+            Outcome::Stepped(Step::Stopped) => write!(f, " stopped"),
+            Outcome::Stepped(Step::Unlinked) => write!(f, " unlinked"),
+            Outcome::Stepped(Step::Skip) => write!(f, " skip"),
+            Outcome::Stepped(Step::Token { id, start, length }) => {
+                write!(f, " token {id} {start} {length}")
+            }
             Outcome::Refused(number) => write!(f, " refused {}", u16::from(*number)),
             Outcome::RefusedAt(number, n) => write!(f, " refused {} {n}", u16::from(*number)),
             Outcome::Changed => Ok(()),
@@ -53,11 +56,11 @@ impl fmt::Display for Outcome {
     }
 }
 
-impl From<Result<(), ParseError>> for Outcome {
-    fn from(answer: Result<(), ParseError>) -> Outcome {
+impl From<Result<FileCounts, ParseError>> for Outcome {
+    fn from(answer: Result<FileCounts, ParseError>) -> Outcome {
         match answer {
             Ok(_) => Outcome::Accepted,
-            Err(ParseError::AreaFull(n)) => Outcome::RefusedAt(Number::AreaFull, n),
+            Err(ParseError::AreaFull(name)) => Outcome::RefusedAt(Number::AreaFull, name.into()),
             Err(ParseError::FaultyFile(n)) => Outcome::RefusedAt(Number::FaultyFile, n),
             Err(error) => Outcome::Refused(error.into()),
         }
@@ -67,8 +70,8 @@ impl From<Result<(), ParseError>> for Outcome {
 impl From<Result<Linked, LinkError>> for Outcome {
     fn from(answer: Result<Linked, LinkError>) -> Outcome {
         match answer {
-            Ok(linked) => Outcome::Linked(linked.unmapped_count, linked.unused_count),
-            Err(LinkError::AreaFull(area)) => Outcome::RefusedAt(Number::AreaFull, area.number()),
+            Ok(linked) => Outcome::Linked(linked),
+            Err(LinkError::AreaFull(area)) => Outcome::RefusedAt(Number::AreaFull, u16::from(area)),
             Err(error) => Outcome::Refused(error.into()),
         }
     }
@@ -86,11 +89,7 @@ impl From<Result<(), StartRefused>> for Outcome {
 impl From<Result<Step, StepError>> for Outcome {
     fn from(answer: Result<Step, StepError>) -> Outcome {
         match answer {
-            Ok(Step::Done) => Outcome::Done,
-            Ok(Step::Stopped) => Outcome::Stopped,
-            Ok(Step::Unlinked) => Outcome::Unlinked,
-            Ok(Step::Skip) => Outcome::Skip,
-            Ok(Step::Token { id, start, length }) => Outcome::Token(id, start, length),
+            Ok(step) => Outcome::Stepped(step),
             Err(error) => Outcome::Refused(error.into()),
         }
     }

@@ -2,7 +2,6 @@
 use crate::numbers::number_at;
 use crate::printing::Listed;
 use crate::sheet::Sheet;
-use area::write_field;
 use run::call::start;
 use run::{Run, StartRefused, Step, StepError};
 use std::fmt;
@@ -16,12 +15,7 @@ pub struct Runs {
 impl Runs {
     pub fn new() -> Self {
         Runs {
-            run: Run {
-                n: 0,
-                position: 0,
-                depth: 0,
-                moves: 0,
-            },
+            run: Run::default(),
             stack: [0; 8196],
         }
     }
@@ -44,9 +38,8 @@ impl Runs {
 
     // Another entry of the stack.
     pub fn put(&mut self, k: u16, id: u16) {
-        let at = 2 * k as usize;
-        if at + 2 <= self.stack.len() {
-            write_field(&mut self.stack, at, id);
+        if let Some(entry) = self.stack.as_chunks_mut::<2>().0.get_mut(k as usize) {
+            *entry = id.to_le_bytes();
         }
     }
 }

@@ -1,8 +1,8 @@
 // The sheet of a file, in areas of its own.
 use link::call::set_rule_ids_spanned;
 use link::{LinkError, Linked};
-use parse::ParseError;
 use parse::call::parse;
+use parse::{FileCounts, ParseError, counts_left};
 use run::call::step;
 use run::{After, Run, Step, StepError};
 
@@ -18,9 +18,8 @@ pub struct Sheet<'a> {
 }
 
 impl<'a> Sheet<'a> {
-    pub fn parse(source: &'a [u8]) -> (Sheet<'a>, Result<(), ParseError>) {
+    pub fn parse(source: &'a [u8]) -> (Sheet<'a>, Result<FileCounts, ParseError>) {
         // Locals, since fields that are lent for writing together do not prove.
-        let mut counts = [0; 6];
         let mut area1 = [0; 60];
         let mut area2 = [0; 560];
         let mut area3 = [0; 40];
@@ -28,20 +27,11 @@ impl<'a> Sheet<'a> {
         let mut area5 = [0; 40];
         let mut area6 = [0; 40];
         let answer = parse(
-            source,
-            0,
-            b"",
-            &mut counts,
-            &mut area1,
-            &mut area2,
-            &mut area3,
-            &mut area4,
-            &mut area5,
-            &mut area6,
+            source, 0, b"", &mut area1, &mut area2, &mut area3, &mut area4, &mut area5, &mut area6,
         );
         let sheet = Sheet {
             source,
-            counts,
+            counts: counts_left(answer),
             area1,
             area2,
             area3,
@@ -75,8 +65,8 @@ impl<'a> Sheet<'a> {
     }
 
     pub fn set_count(&mut self, k: u16, value: u16) {
-        if k < 6 {
-            self.counts[k as usize] = value;
+        if let Some(count) = self.counts.get_mut(k as usize) {
+            *count = value;
         }
     }
 

@@ -7,7 +7,7 @@ use native.Mathlib.Omega.{arith}
 use borrow.Author.Tests.{leb-true, eqb-true, eqb-false}
 use lib.Dec.{eqb}
 use lib.ListN.{length}
-use Rattle.characters.proofs.Tests.{by_test}
+use Rattle.std.proofs.lemmas.Bool.{cond_both}
 use Rattle.area.specs.declared.Rule.{Rule}
 use Rattle.area.specs.Records.{nth_rule}
 use Rattle.answers.specs.Numbers.{broken_sheet_number, broken_run_number, row_mismatch_number, done_number, stopped_number, unlinked_number}
@@ -78,8 +78,8 @@ module _ (c : Lexer) (x : Running) (i : Input) (P : RunLeft StepAnswer → Type 
   unfolding won_by view
   won_cases k bytes w =
       let r : Rule = nth_rule c.rules k in
-      by_test P (eqb r.named 1) _ _
-      (λ e. by_test P (eqb r.has_id 1) _ _ (λ d. holds.gave k bytes w (eqb-true r.named 1 e) (eqb-true r.has_id 1 d))
+      cond_both (eqb r.named 1) _ _ P
+      (λ e. cond_both (eqb r.has_id 1) _ _ P (λ d. holds.gave k bytes w (eqb-true r.named 1 e) (eqb-true r.has_id 1 d))
       (λ _. still (Ok Unlinked) unlinked_number refl (omega arith)))
       (λ e. holds.skipped k bytes w (eqb-false r.named 1 e))
 
@@ -88,15 +88,15 @@ module _ (c : Lexer) (x : Running) (i : Input) (P : RunLeft StepAnswer → Type 
   row_cases fits =
       let f : ℕ → ℕ = weight c (current x) i.row in
       let n : ℕ = length c.rules in
-      by_test P (eqb (greatest f n) 0) _ _ (λ _. still (Ok Stopped) stopped_number refl (omega arith))
+      cond_both (eqb (greatest f n) 0) _ _ P (λ _. still (Ok Stopped) stopped_number refl (omega arith))
       (λ e. won_cases (earliest f n) (greatest f n) (wins c x i fits (eqb-false (greatest f n) 0 e)))
 
   run_cases : good_run (length c.states) x ≡ true → P (step_run c x i)
   unfolding step_run view
   run_cases good =
       rw good
-      (by_test P (eqb x.run.position x.run.n) _ _ (λ _. still (Ok Done) done_number refl (omega arith))
-      (λ _. by_test P (good_row (fits_in x.run) (length c.rules) i.row) _ _ row_cases
+      (cond_both (eqb x.run.position x.run.n) _ _ P (λ _. still (Ok Done) done_number refl (omega arith))
+      (λ _. cond_both (good_row (fits_in x.run) (length c.rules) i.row) _ _ P row_cases
       (λ _. still (Err RowMismatch) row_mismatch_number refl (omega arith))))
 
 pub call_cases : (b : SheetBytes) → sheet_check b ≡ true → (x : Running) → good_run (length (decoded b).states) x ≡ true

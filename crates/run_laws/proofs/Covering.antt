@@ -1,13 +1,13 @@
 -- Pieces that adjoin, and others behind them, adjoin; and they cover each byte between their two ends once, and no other.
 use mathlib.Core.Path.{◌≡◌, refl, sym, ap, ap₂, subst⁻¹, ◌∙◌}
-use mathlib.Core.Bool.{cond}
+use mathlib.Core.Bool.{cond, and-false}
 use mathlib.Core.List.{List, [], ◌∷◌, ◌++◌}
 use mathlib.Core.Logic.{⊎_elim}
 use Prim.Native.Nat.{ℕ, ◌+◌, ◌-◌, ◌≤◌}
 use native.Mathlib.Omega.{arith}
 use borrow.Author.Tests.{le-leb, lt-leb, lt-ltb, le-ltb}
 use lib.Dec.{leb, ltb}
-use Rattle.characters.proofs.Tests.{le_or_lt, and_false}
+use Rattle.characters.proofs.Tests.{le_or_lt}
 use Rattle.run_laws.specs.Pieces.{Piece, Adjoin, among, covered}
 
 pub adjoin_append : (xs ys : List Piece) (p q e : ℕ) → Adjoin p xs q → Adjoin q ys e → Adjoin p (xs ++ ys) e
@@ -17,7 +17,7 @@ adjoin_append (x ∷ xs) ys p q e h k = (h.0, adjoin_append xs ys (p + x.bytes) 
 
 among_none : (x p : ℕ) → among x p 0 ≡ 0
 unfolding among
-among_none x p = ⊎_elim (λ h. rw (le-ltb x (p + 0) (omega arith), and_false (leb p x)) refl) (λ h. rw (lt-leb p x h) refl) (le_or_lt p x)
+among_none x p = ⊎_elim (λ h. rw (le-ltb x (p + 0) (omega arith), and-false (leb p x)) refl) (λ h. rw (lt-leb p x h) refl) (le_or_lt p x)
 
 among_join : (x p k l : ℕ) → among x p k + among x (p + k) l ≡ among x p (k + l)
 unfolding among

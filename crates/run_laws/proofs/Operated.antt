@@ -10,7 +10,8 @@ use native.Mathlib.Omega.{arith}
 use borrow.Author.Tests.{le-leb, lt-ltb, ltb-true, eqb-false}
 use lib.Dec.{eqb}
 use lib.ListN.{length}
-use Rattle.characters.proofs.Tests.{le_or_lt, by_test, and_right}
+use Rattle.std.proofs.lemmas.Bool.{cond_both, and_parts}
+use Rattle.characters.proofs.Tests.{le_or_lt}
 use Rattle.area.specs.declared.Rule.{Rule}
 use Rattle.area.specs.Lists.{all}
 use Rattle.area.specs.Records.{entry_at, entry_width}
@@ -42,7 +43,7 @@ module _ (states : ℕ) (x : Running) where
   ids_declared good k h =
       let d : ℕ = x.run.depth in
       let ids : List ℕ = contents entry_format x.stack d in
-      let pass : all (declared states) ids ≡ true = and_right (good_numbers x) (all (declared states) ids) good in
+      let pass : all (declared states) ids ≡ true = (and_parts (good_numbers x) (all (declared states) ids) good).1 in
       let inside : k < length ids = omega (arith, contents_count entry_format x.stack d, h) in
       ltb-true (entry_at x.stack k) states
       (ap (declared states) (sym (contents_read entry_format x.stack d k h)) ∙ all-at (declared states) ids 0 k pass inside)
@@ -120,9 +121,9 @@ module _ (states : ℕ) (x : Running) (good : good_run states x ≡ true) (room 
   unfolding operated popped
   operated_good r h =
       let some : 1 ≤ x.run.depth = (run_is states x.run x.stack good).some_depth in
-      by_test (Operated states x) (eqb r.operation 1) _ _ (λ _. alone r.target h)
-      (λ _. by_test (Operated states x) (eqb r.operation 2) _ _ (λ _. more r.target h)
-      (λ _. by_test (Operated states x) (eqb r.operation 3) _ _
-      (λ _. by_test (Operated states x) (eqb x.run.depth 1) _ _ (λ _. alone 0 (omega (arith, h)))
+      cond_both (eqb r.operation 1) _ _ (Operated states x) (λ _. alone r.target h)
+      (λ _. cond_both (eqb r.operation 2) _ _ (Operated states x) (λ _. more r.target h)
+      (λ _. cond_both (eqb r.operation 3) _ _ (Operated states x)
+      (λ _. cond_both (eqb x.run.depth 1) _ _ (Operated states x) (λ _. alone 0 (omega (arith, h)))
       (λ e. fewer (x.run.depth - 1) (omega (arith, some, eqb-false x.run.depth 1 e)) (omega arith)))
       (λ _. fewer x.run.depth some (omega arith))))

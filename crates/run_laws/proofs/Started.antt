@@ -6,7 +6,7 @@ use native.Mathlib.Omega.{arith}
 use borrow.Author.Tests.{leb-true}
 use lib.Dec.{leb}
 use lib.ListN.{length}
-use Rattle.characters.proofs.Tests.{and_left, and_right}
+use Rattle.std.proofs.lemmas.Bool.{and_parts}
 use Rattle.area.specs.Records.{entry_at}
 use Rattle.run.specs.Run.{start_accepted, start_refused, Running, running, leaving, run_left, most_bytes, stack_bytes}
 use Rattle.run.specs.Run.{put_state, first_run, good_start, good_run, start_call, start_fields, start_word}
@@ -24,11 +24,11 @@ module _ (n : ℕ) (x : Running) (started : (start_call n x).answer ≡ start_ac
 
   pub start_small : n ≤ most_bytes
   unfolding good_start
-  start_small = leb-true n most_bytes (and_left (leb n most_bytes) _ start_good)
+  start_small = leb-true n most_bytes (and_parts (leb n most_bytes) _ start_good).0
 
   pub start_long : stack_bytes n ≤ length x.stack
   unfolding good_start
-  start_long = leb-true (stack_bytes n) (length x.stack) (and_right (leb n most_bytes) _ start_good)
+  start_long = leb-true (stack_bytes n) (length x.stack) (and_parts (leb n most_bytes) _ start_good).1
 
   pub start_left : start_call n x ≡ run_left start_accepted (first_run n) (put_state x.stack 0 0)
   unfolding start_call

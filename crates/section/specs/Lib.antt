@@ -1,3 +1,4 @@
+pub mod Options
 pub mod Request
 pub mod Section
 pub mod Reader

@@ -14,9 +14,9 @@ reader_at s i = record { source = s; offset = i }
 abbrev pub reader_moved : (List ℕ → ℕ → ℕ) → Reader → Reader
 reader_moved scan r = reader_at r.source (scan r.source.now r.offset)
 
--- the same by a scanner that the flags are given to
-abbrev pub reader_moved_by : (List ℕ → ℕ → ℕ → ℕ) → ℕ → Reader → Reader
-reader_moved_by scan flags r = reader_moved (λ s i. scan s flags i) r
+-- the same by a scanner that goes by what the caller chooses
+abbrev pub reader_moved_by : {A : Type 0} → (List ℕ → A → ℕ → ℕ) → A → Reader → Reader
+reader_moved_by scan options r = reader_moved (λ s i. scan s options i) r
 
 -- the line from the reader's place on
 abbrev pub line_from : Reader → Line

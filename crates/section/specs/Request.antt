@@ -1,29 +1,24 @@
 -- What a parse is asked (01, Numbers given at the counter, and Declarations).
-use Rattle.std.specs.Prelude.{ℕ, List}
+use Rattle.std.specs.Prelude.{ℕ, Bool, false, List, ltb}
 use Rattle.section.specs.declared.LexFile.{LexFile}
+use Rattle.section.specs.declared.options.Options.{Options}
+use Rattle.section.specs.Options.{options}
 
--- what the caller chooses: the flags (01, Declarations)
-pub record Options : Type 0 where
-  pub flags : ℕ
-
--- these flags
-abbrev pub options : ℕ → Options
-options flags = record { flags = flags }
-
--- the bytes of the file, what the caller chooses, and the engine's verdicts on the rules (01, Characters)
+-- the bytes of the file, what the caller chooses, whether there is a flag that is not known, and the engine's verdicts on the rules (01, Characters)
 pub record Request : Type 0 where
   pub source : List ℕ
   pub options : Options
+  pub unknown_flags : Bool
   pub verdicts : List ℕ
 
--- the record of these
+-- what is asked with known flags that choose this
 abbrev pub request : List ℕ → Options → List ℕ → Request
-request s o verdicts = record { source = s; options = o; verdicts = verdicts }
+request s o verdicts = record { source = s; options = o; unknown_flags = false; verdicts = verdicts }
 
--- what these parameters ask
+-- what these parameters ask: the flags are known up to 3
 abbrev pub asked : List ℕ → ℕ → List ℕ → Request
-asked source flags verdicts = request source (options flags) verdicts
+asked source flags verdicts = record { source = source; options = options flags; unknown_flags = ltb 3 flags; verdicts = verdicts }
 
 -- what is asked of a file that is lent
 abbrev pub asked_by : LexFile → Request
-asked_by x = asked x.source.now x.flags x.verdicts.now
+asked_by x = request x.source.now x.options x.verdicts.now

@@ -2,6 +2,7 @@
 // A place stands beside the source that it is in, for the definitions speak of places in the whole source.
 #![tactic(auto)]
 
+pub mod options; // what the caller chooses
 pub mod reader; // the source and a place in it
 
 ghost use Rattle.std.specs.Prelude.{◌≡◌, ℕ, true, ◌+◌, ◌≤◌, length, is_some};
@@ -10,6 +11,7 @@ ghost use Rattle.text.specs.Range.{lookahead_is};
 ghost use Rattle.text.specs.Scan.{line_end};
 ghost use Rattle.section.specs.Section.{PastComments, slashes, is_comment, to_declaration, to_rule, in_section, has_routines};
 
+use crate::options::Options;
 use characters::class::is_line_end;
 use characters::whitespace::byte_at;
 use text::range::lookahead_is;
@@ -19,21 +21,19 @@ use text::scan::{line_end, parse_nl, parse_ws};
 #[derive(Clone, Copy)]
 pub struct LexFile<'a> {
     pub source: &'a [u8],
-    pub flags: u64,
+    pub options: Options,
     pub verdicts: &'a [u8],
     ghost short: { length source.now ≤ 65535 },
 }
 
-// Whether a line that flag 1 skips starts at i.
-#[tactic(auto, using(crate::proofs::Lines::asking))]
-fn is_comment(src: &[u8], flags: u64, i: usize) -> bool
+// Whether a line that flag 1 skips starts at i. It takes that flag alone: handed the `Options`, a file of short comment lines took a quarter more
+// instructions.
+#[tactic(auto, unfolding(crate::specs::Section::is_comment))]
+fn is_comment(src: &[u8], comments: bool, i: usize) -> bool
     requires { i ≤ length src.now }
-    ensures { result ≡ is_comment src.now flags i }
+    ensures { result ≡ is_comment src.now comments i }
 {
-    if flags % 2 == 1 {
-        return lookahead_is(src, b"//", i).is_some();
-    }
-    false
+    comments && lookahead_is(src, b"//", i).is_some()
 }
 
 // Where the line ends that starts with `//` at i. The slashes are no line end, and an empty comment is settled by the byte behind them.
@@ -50,33 +50,33 @@ fn comment_end(src: &[u8], i: usize) -> usize
 }
 
 // Past what `skip` passes and lines that flag 1 skips, one after the other, each as far as it goes: no index is counted.
-fn past_comments<F: Fn(usize) -> usize>(src: &[u8], flags: u64, i: usize, skip: F) -> usize
+fn past_comments<F: Fn(usize) -> usize>(src: &[u8], options: Options, i: usize, skip: F) -> usize
     requires inside { i ≤ length src.now }
     requires callable { (k : ℕ) → k ≤ length src.now → F.pre skip k }
     requires onward { (k n : ℕ) → k ≤ length src.now → F.post skip k n → (k ≤ n) × (n ≤ length src.now) }
-    ensures { PastComments src.now flags (F.post skip) i result }
+    ensures { PastComments src.now options (F.post skip) i result }
 {
     let mut k = skip(i);
-    while is_comment(src, flags, k) {
+    while is_comment(src, options.comments, k) {
         k = skip(comment_end(src, k));
     }
     k
 }
 
 // To a declaration or the section's end.
-fn to_declaration(src: &[u8], flags: u64, i: usize) -> usize
+fn to_declaration(src: &[u8], options: Options, i: usize) -> usize
     requires { i ≤ length src.now }
-    ensures { Between i (length src.now) (to_declaration src.now flags i) result }
+    ensures { Between i (length src.now) (to_declaration src.now options i) result }
 {
-    past_comments(src, flags, i, |k| parse_ws(src, k))
+    past_comments(src, options, i, |k| parse_ws(src, k))
 }
 
 // To a rule's line or the section's end. This pair, and those of the reader, differ in the scanner alone, which one function would take from its callers.
-fn to_rule(src: &[u8], flags: u64, i: usize) -> usize
+fn to_rule(src: &[u8], options: Options, i: usize) -> usize
     requires { i ≤ length src.now }
-    ensures { Between i (length src.now) (to_rule src.now flags i) result }
+    ensures { Between i (length src.now) (to_rule src.now options i) result }
 {
-    past_comments(src, flags, i, |k| parse_nl(src, k))
+    past_comments(src, options, i, |k| parse_nl(src, k))
 }
 
 // Whether a section goes on at i.

@@ -7,7 +7,8 @@ ghost use Rattle.text.specs.Scan.{line_end, skip_blanks};
 ghost use Rattle.section.specs.Section.{to_declaration, to_rule};
 ghost use Rattle.section.specs.Reader.{reader_at, reader_moved, reader_moved_by, line_from, NextLine};
 
-use crate::{to_declaration, to_rule};
+use crate::options::Options;
+use crate::{LexFile, to_declaration, to_rule};
 use text::scan::{line_end, parse_spaces};
 
 #[derive(Clone, Copy)]
@@ -17,10 +18,18 @@ pub struct Reader<'a> {
 }
 
 // A line that is read, or a part of one: where it starts and where it ends.
-#[derive(Clone, Copy)]
+#[derive(Clone, Copy, PartialEq, Eq, Debug)]
 pub struct Line {
     pub start: usize,
     pub end: usize,
+}
+
+// A line of a file, or a part of one, which the file has.
+#[derive(Clone, Copy)]
+pub struct FileLine<'a> {
+    pub file: LexFile<'a>,
+    pub line: Line,
+    ghost inside: { (line.start ≤ line.end) × (line.end ≤ length file.source.now) },
 }
 
 impl<'a> Reader<'a> {
@@ -46,19 +55,19 @@ impl<'a> Reader<'a> {
         self
     }
 
-    pub fn move_to_declaration(mut self, flags: u64) -> Self
+    pub fn move_to_declaration(mut self, options: Options) -> Self
         requires { self.offset ≤ length self.source.now }
-        ensures { result ≡ reader_moved_by to_declaration flags self.entry }
+        ensures { result ≡ reader_moved_by to_declaration options self.entry }
     {
-        self.offset = to_declaration(self.source, flags, self.offset);
+        self.offset = to_declaration(self.source, options, self.offset);
         self
     }
 
-    pub fn move_to_rule(mut self, flags: u64) -> Self
+    pub fn move_to_rule(mut self, options: Options) -> Self
         requires { self.offset ≤ length self.source.now }
-        ensures { result ≡ reader_moved_by to_rule flags self.entry }
+        ensures { result ≡ reader_moved_by to_rule options self.entry }
     {
-        self.offset = to_rule(self.source, flags, self.offset);
+        self.offset = to_rule(self.source, options, self.offset);
         self
     }
 
@@ -76,19 +85,19 @@ impl<'a> Reader<'a> {
 }
 
 // The line of the next declaration from i on.
-pub fn next_declaration(src: &[u8], flags: u64, i: usize) -> Line
+pub fn next_declaration(src: &[u8], options: Options, i: usize) -> Line
     requires { i ≤ length src.now }
-    ensures { NextLine src.now (to_declaration src.now flags) i result }
+    ensures { NextLine src.now (to_declaration src.now options) i result }
 {
-    Reader::at(src, i).move_to_declaration(flags).line()
+    Reader::at(src, i).move_to_declaration(options).line()
 }
 
 // The next rule's line from i on.
-pub fn next_rule(src: &[u8], flags: u64, i: usize) -> Line
+pub fn next_rule(src: &[u8], options: Options, i: usize) -> Line
     requires { i ≤ length src.now }
-    ensures { NextLine src.now (to_rule src.now flags) i result }
+    ensures { NextLine src.now (to_rule src.now options) i result }
 {
-    Reader::at(src, i).move_to_rule(flags).line()
+    Reader::at(src, i).move_to_rule(options).line()
 }
 
 // Past the blanks at i.

@@ -14,7 +14,7 @@ fn main(rt: HostRuntime) {
         return;
     }
     let mut out = Text::<SHEET_ROOM>::new();
-    sheet(&buffer[..source.length], &mut out);
+    sheet(source.text, &mut out);
     if let Err(error) = rt.write_all(out.as_slice()) {
         fail(&rt, "standard output", error);
     }

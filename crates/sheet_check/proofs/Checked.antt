@@ -7,7 +7,7 @@ use Prim.Native.Nat.{ℕ, ◌+◌, ◌≤◌, ◌<◌}
 use lib.Dec.{leb}
 use lib.ListN.{length}
 use borrow.Author.Tests.{leb-true, ltb-true, le-leb, lt-ltb, eq-eqb, ne_eqb}
-use Rattle.characters.proofs.Tests.{and_left, and_right}
+use Rattle.std.proofs.lemmas.Bool.{and_parts}
 use Rattle.area.specs.declared.State.{State}
 use Rattle.area.specs.declared.Rule.{Rule}
 use Rattle.area.specs.declared.Expected.{Expected}
@@ -43,19 +43,16 @@ pub record GoodExpected (z : Sizes) (x : Expected) : Type 0 where
   pub ordered : x.start ≤ x.end
   pub inside : x.end ≤ z.source
 
-both : (p q : Bool) → p && q ≡ true → (p ≡ true) × (q ≡ true)
-both p q e = (and_left p q e, and_right p q e)
-
 range_ordered : (start end n : ℕ) → ordered start end n ≡ true → (start ≤ end) × (end ≤ n)
 range_ordered start end n e =
-    let t = both (leb start end) (leb end n) e in
+    let t = and_parts (leb start end) (leb end n) e in
     (leb-true start end t.0, leb-true end n t.1)
 
 module _ (z : Sizes) where
   pub good_state_lem : (x : State) → good_state z x ≡ true → GoodState z x
   unfolding good_state
   good_state_lem x e =
-      let t = both (ordered x.start x.end z.source) (mark x.exclusive) e in
+      let t = and_parts (ordered x.start x.end z.source) (mark x.exclusive) e in
       let o = range_ordered x.start x.end z.source t.0 in
       record { ordered = o.0; inside = o.1; exclusive = leb-true x.exclusive 1 t.1 }
 
@@ -75,14 +72,14 @@ module _ (z : Sizes) where
       let a7 : Bool = within x.list_from x.list_count z.entries in
       let a8 : Bool = leb x.operation 3 in
       let a9 : Bool = declared z.states x.target in
-      let t9 = both (a1 && a2 && a3 && a4 && a5 && a6 && a7 && a8) a9 e in
-      let t8 = both (a1 && a2 && a3 && a4 && a5 && a6 && a7) a8 t9.0 in
-      let t7 = both (a1 && a2 && a3 && a4 && a5 && a6) a7 t8.0 in
-      let t6 = both (a1 && a2 && a3 && a4 && a5) a6 t7.0 in
-      let t5 = both (a1 && a2 && a3 && a4) a5 t6.0 in
-      let t4 = both (a1 && a2 && a3) a4 t5.0 in
-      let t3 = both (a1 && a2) a3 t4.0 in
-      let t2 = both a1 a2 t3.0 in
+      let t9 = and_parts (a1 && a2 && a3 && a4 && a5 && a6 && a7 && a8) a9 e in
+      let t8 = and_parts (a1 && a2 && a3 && a4 && a5 && a6 && a7) a8 t9.0 in
+      let t7 = and_parts (a1 && a2 && a3 && a4 && a5 && a6) a7 t8.0 in
+      let t6 = and_parts (a1 && a2 && a3 && a4 && a5) a6 t7.0 in
+      let t5 = and_parts (a1 && a2 && a3 && a4) a5 t6.0 in
+      let t4 = and_parts (a1 && a2 && a3) a4 t5.0 in
+      let t3 = and_parts (a1 && a2) a3 t4.0 in
+      let t2 = and_parts a1 a2 t3.0 in
       let o = range_ordered x.span_start x.span_end z.source t4.1 in
       record {
         has_id = leb-true x.has_id 1 t2.0;
@@ -137,9 +134,9 @@ good_records_lem z xs rs ids es e =
     let a1 : Bool = all (good_state z) xs in
     let a2 : Bool = all (good_rule z) rs in
     let a3 : Bool = all (declared z.states) ids in
-    let t4 = both (a1 && a2 && a3) (all (good_expected z) es) e in
-    let t3 = both (a1 && a2) a3 t4.0 in
-    let t2 = both a1 a2 t3.0 in
+    let t4 = and_parts (a1 && a2 && a3) (all (good_expected z) es) e in
+    let t3 = and_parts (a1 && a2) a3 t4.0 in
+    let t2 = and_parts a1 a2 t3.0 in
     record { states = t2.0; rules = t2.1; lists = t3.1; expected = t4.1 }
 
 -- ---- a sheet that passed the check
@@ -168,7 +165,7 @@ module _ (b : SheetBytes) where
 
     checked : (good_sizes z ≡ true) × (good_records z (decoded b).states (decoded b).rules (decoded b).lists (decoded b).expected ≡ true)
     unfolding sheet_check
-    checked = both (good_sizes z) (good_records z (decoded b).states (decoded b).rules (decoded b).lists (decoded b).expected) passed
+    checked = and_parts (good_sizes z) (good_records z (decoded b).states (decoded b).rules (decoded b).lists (decoded b).expected) passed
 
     pub checked_sizes : good_sizes z ≡ true
     checked_sizes = checked.0

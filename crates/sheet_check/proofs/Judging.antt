@@ -1,5 +1,5 @@
 -- What the tests of a sheet come to when they are joined: those of an area one record at a time, those of the sizes as their code joins them.
-use mathlib.Core.Path.{◌≡◌, sym, ap, subst⁻¹, ◌∙◌}
+use mathlib.Core.Path.{◌≡◌, sym, ap, ◌∙◌}
 use mathlib.Core.Bool.{Bool, true, false, ◌&&◌}
 use mathlib.Core.List.{List}
 use Prim.Native.Nat.{ℕ, ◌*◌, ◌≤◌, ◌<◌}
@@ -8,16 +8,15 @@ use native.Mathlib.Omega.{arith}
 use lib.Dec.{leb}
 use lib.ListN.{get_or}
 use borrow.Author.Tests.{leb-true}
+use Rattle.std.proofs.lemmas.Bool.{and_parts}
 use Rattle.area.specs.declared.State.{State}
 use Rattle.area.specs.declared.Rule.{Rule}
 use Rattle.area.specs.declared.Expected.{Expected}
 use Rattle.area.specs.Records.{state_width, rule_width, entry_width, expected_width, most_states, most_rules}
-use Rattle.area.specs.Contents.{Format, contents, state_format, rule_format, entry_format, expected_format}
-use Rattle.characters.proofs.Tests.{and_left, and_right}
+use Rattle.area.specs.Contents.{Format, contents}
 use Rattle.sheet_check.specs.declared.Sizes.{Sizes}
 use Rattle.sheet_check.specs.SheetCheck.{SheetBytes, sizes_of, long_enough, good_counts, good_sizes, declared}
 use Rattle.sheet_check.specs.SheetCheck.{good_state, good_rule, good_expected, good_records, decoded, sheet_check}
-use Rattle.sheet_check.specs.Phrases.{AreasLong}
 use Rattle.area.specs.Lists.{all}
 use Rattle.area.proofs.All.{all-at, all_from}
 use Rattle.area.proofs.Contents.{contents_count, contents_read}
@@ -56,31 +55,31 @@ module _ (z : Sizes) where
       let a3 : Bool = leb (z.entries * entry_width) z.area3 in
       let a4 : Bool = leb z.text z.area4 in
       let a5 : Bool = leb (z.expected * expected_width) z.area5 in
-      let t4 = and_left (a1 && a2 && a3 && a4) a5 e in
-      let t3 = and_left (a1 && a2 && a3) a4 t4 in
-      let t2 = and_left (a1 && a2) a3 t3 in
+      let t4 = (and_parts (a1 && a2 && a3 && a4) a5 e).0 in
+      let t3 = (and_parts (a1 && a2 && a3) a4 t4).0 in
+      let t2 = (and_parts (a1 && a2) a3 t3).0 in
       record {
-        long1 = leb-true (z.states * state_width) z.area1 (and_left a1 a2 t2);
-        long2 = leb-true (z.rules * rule_width) z.area2 (and_right a1 a2 t2);
-        long3 = leb-true (z.entries * entry_width) z.area3 (and_right (a1 && a2) a3 t3);
-        long4 = leb-true z.text z.area4 (and_right (a1 && a2 && a3) a4 t4);
-        long5 = leb-true (z.expected * expected_width) z.area5 (and_right (a1 && a2 && a3 && a4) a5 e);
+        long1 = leb-true (z.states * state_width) z.area1 (and_parts a1 a2 t2).0;
+        long2 = leb-true (z.rules * rule_width) z.area2 (and_parts a1 a2 t2).1;
+        long3 = leb-true (z.entries * entry_width) z.area3 (and_parts (a1 && a2) a3 t3).1;
+        long4 = leb-true z.text z.area4 (and_parts (a1 && a2 && a3) a4 t4).1;
+        long5 = leb-true (z.expected * expected_width) z.area5 (and_parts (a1 && a2 && a3 && a4) a5 e).1;
       }
 
   pub sizes_long : good_sizes z ≡ true → Long z
   unfolding good_sizes
-  sizes_long e = long_areas (and_left (long_enough z) (good_counts z.states z.rules) e)
+  sizes_long e = long_areas (and_parts (long_enough z) (good_counts z.states z.rules) e).0
 
   pub sizes_counts : good_sizes z ≡ true → (1 ≤ z.states) × (z.states ≤ most_states) × (z.rules ≤ most_rules)
   unfolding good_sizes good_counts
   sizes_counts e =
       let some : Bool = leb 1 z.states in
       let few : Bool = leb z.states most_states in
-      let t = and_right (long_enough z) (some && few && leb z.rules most_rules) e in
-      let u = and_left (some && few) (leb z.rules most_rules) t in (
-        leb-true 1 z.states (and_left some few u),
-        leb-true z.states most_states (and_right some few u),
-        leb-true z.rules most_rules (and_right (some && few) (leb z.rules most_rules) t),
+      let t = (and_parts (long_enough z) (some && few && leb z.rules most_rules) e).1 in
+      let u = (and_parts (some && few) (leb z.rules most_rules) t).0 in (
+        leb-true 1 z.states (and_parts some few u).0,
+        leb-true z.states most_states (and_parts some few u).1,
+        leb-true z.rules most_rules (and_parts (some && few) (leb z.rules most_rules) t).1,
       )
 
   pub sizes_judged : (a1 a2 a3 a4 a5 few : Bool) → a1 ≡ leb (z.states * state_width) z.area1 → a2 ≡ leb (z.rules * rule_width) z.area2
@@ -100,31 +99,28 @@ module _ (z : Sizes) (states : List State) (rules : List Rule) (lists : List ℕ
   unfolding good_records
   records_good e1 e2 e3 e5 = rw (e1, e2, e3, e5)
 
--- sizes that were taken of a sheet, and passed
-module _ (b : SheetBytes) (z : Sizes) (of : z ≡ sizes_of b) (t : Bool) (is : t ≡ good_sizes z) where
-  sizes_good : good_sizes (sizes_of b) ≡ t
-  sizes_good = sym (is ∙ ap good_sizes of)
+-- sizes that were taken of a sheet
+module _ (b : SheetBytes) (z : Sizes) (of : z ≡ sizes_of b) where
+  pub sizes_pass : {t : Bool} → t ≡ good_sizes z → t ≡ true → good_sizes (sizes_of b) ≡ true
+  sizes_pass is e = sym (ap good_sizes of) ∙ sym is ∙ e
 
-  pub check_long : t ≡ true → AreasLong z b.area1 b.area2 b.area3 b.area5
-  check_long e =
-      let l = sizes_long (sizes_of b) (sizes_good ∙ e) in
-      subst⁻¹ (λ (y : Sizes). AreasLong y b.area1 b.area2 b.area3 b.area5) of
-      (record { long1 = l.long1; long2 = l.long2; long3 = l.long3; long5 = l.long5 })
-
-  pub check_some : t ≡ true → 1 ≤ z.states
-  check_some e = (sizes_counts z (sym is ∙ e)).0
-
-  pub check_good : (r : Bool) → t ≡ true
-      → r ≡ good_records z (contents state_format b.area1 z.states) (contents rule_format b.area2 z.rules) (contents entry_format b.area3 z.entries)
-      (contents expected_format b.area5 z.expected)
-      → r ≡ sheet_check b
-  unfolding sheet_check decoded
-  check_good r e q =
-      rw (sizes_good, e)
-      (q
-      ∙ ap (λ (y : Sizes). good_records y (contents state_format b.area1 y.states) (contents rule_format b.area2 y.rules)
-      (contents entry_format b.area3 y.entries) (contents expected_format b.area5 y.expected)) of)
-
-  pub check_short : t ≡ false → false ≡ sheet_check b
+  pub sizes_fail : {t : Bool} → t ≡ good_sizes z → t ≡ false → t ≡ sheet_check b
   unfolding sheet_check
-  check_short e = rw (sizes_good, e)
+  sizes_fail is e = let bad : good_sizes (sizes_of b) ≡ false = sym (ap good_sizes of) ∙ sym is ∙ e in rw bad e
+
+-- the tests of the records of a sheet whose sizes pass
+module _ (b : SheetBytes) (good : good_sizes (sizes_of b) ≡ true) where
+  pub records_asked : (r : Bool) → r ≡ good_records (sizes_of b) (decoded b).states (decoded b).rules (decoded b).lists (decoded b).expected
+      → r ≡ sheet_check b
+  unfolding sheet_check
+  records_asked r q = rw good q
+
+-- ---- tests that are asked one after the other
+
+-- two tests are joined: the second is asked where the first passes
+module _ {p a v b : Bool} (is : p ≡ a) where
+  pub next_asked : p ≡ true → v ≡ b → v ≡ (a && b)
+  next_asked e q = rw (← is, e) q
+
+pub none_asked : {p a v : Bool} (b : Bool) → p ≡ a → p ≡ false → v ≡ p → v ≡ (a && b)
+none_asked b is e q = rw (← is, e) (q ∙ e)

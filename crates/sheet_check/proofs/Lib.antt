@@ -1,4 +1,5 @@
 pub mod Judging
+pub mod Sheets
 pub mod Checked
 pub mod Quick
 pub mod Patterns

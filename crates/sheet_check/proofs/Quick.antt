@@ -6,11 +6,13 @@ use Prim.Native.Nat.{ℕ, ◌+◌, ◌≤◌, ◌<◌}
 use native.Mathlib.Omega.{arith}
 use borrow.Author.Tests.{eqb-true, eqb-false, lt-ltb}
 use lib.Dec.{eqb}
-use Rattle.characters.proofs.Tests.{by_test}
+use lib.ListN.{length}
+use Rattle.std.proofs.lemmas.Bool.{cond_both}
 use Rattle.area.specs.declared.Rule.{Rule}
-use Rattle.area.specs.Records.{rule_at, entry_at}
-use Rattle.area.specs.Contents.{contents, rule_format, entry_format}
+use Rattle.area.specs.Records.{rule_at, nth_entry}
+use Rattle.area.specs.Contents.{contents, rule_format}
 use Rattle.area.specs.Lists.{all}
+use Rattle.area.proofs.All.{all_from}
 use Rattle.lanes.specs.Lanes.{RuleWithin, RulesWithin, EntriesWithin}
 use Rattle.sheet_check.specs.declared.Sizes.{Sizes}
 use Rattle.sheet_check.specs.SheetCheck.{declared, good_rule}
@@ -29,7 +31,7 @@ module _ (z : Sizes) (l : List ℕ) (source highest entries text : ℕ) (hn : so
     span_inside = omega (arith, hn, w.span_inside);
     name_inside = omega (arith, hn, w.name_inside);
     text_inside =
-        by_test (λ (n : ℕ). x.text_from + x.text_length ≤ n) (eqb x.place 1) z.text z.source
+        cond_both (eqb x.place 1) z.text z.source (λ (n : ℕ). x.text_from + x.text_length ≤ n)
         (λ one. omega (arith, ht, w.text_rewritten (eqb-true x.place 1 one)))
         (λ other.
         let none : x.place ≡ 0 = omega (arith, w.place, eqb-false x.place 1 other) in
@@ -43,7 +45,7 @@ module _ (z : Sizes) (l : List ℕ) (source highest entries text : ℕ) (hn : so
   rules_good count within =
       records_pass rule_format (good_rule z) l count (λ k h. rule_passes z (rule_at l k) (rule_good (rule_at l k) (within.each k h)))
 
-pub entries_declared : (l : List ℕ) (count highest states : ℕ) → highest < states → EntriesWithin l 0 count highest
-    → all (declared states) (contents entry_format l count) ≡ true
-entries_declared l count highest states h within =
-    records_pass entry_format (declared states) l count (λ k g. lt-ltb (entry_at l k) states (omega (arith, h, within.each k (omega arith) g)))
+pub entries_declared : (ids : List ℕ) (highest states : ℕ) → highest < states → EntriesWithin ids 0 (length ids) highest
+    → all (declared states) ids ≡ true
+entries_declared ids highest states h within =
+    all_from (declared states) ids 0 (λ k g. lt-ltb (nth_entry ids k) states (omega (arith, h, within.each k (omega arith) g)))

@@ -4,16 +4,13 @@ ghost use Rattle.std.specs.Prelude.{◌≡◌, true, ◌*◌, ◌≤◌, min, le
 ghost use Rattle.area.specs.Records.{state_width, rule_width, entry_width, expected_width};
 ghost use Rattle.area.specs.Contents.{contents, state_format, rule_format, entry_format, expected_format};
 ghost use Rattle.area.specs.Lists.{all};
-ghost use Rattle.sheet_check.specs.SheetCheck.{sizes_of, good_counts, good_sizes, ordered, within, declared, text_bytes};
+ghost use Rattle.sheet_check.specs.SheetCheck.{sizes_of, decoded, good_counts, good_sizes, ordered, within, declared, text_bytes};
 ghost use Rattle.sheet_check.specs.SheetCheck.{good_state, good_rule, good_expected, good_records, sheet_check};
-ghost use Rattle.sheet_check.specs.Phrases.{lent_sheet, AreasLong};
+ghost use Rattle.sheet_check.specs.Phrases.{lent_sheet, GoodSizes};
 
 use crate::{Sheet, Sizes};
 use area::list::Records;
-use area::{
-    ENTRY_WIDTH, EXPECTED_WIDTH, Expected, MOST_RULES, MOST_STATES, RULE_WIDTH, Rule, STATE_WIDTH,
-    State,
-};
+use area::{Expected, Record, Rule, State};
 use lanes::{entries_within, quick_rules};
 
 // ---- a record
@@ -77,24 +74,34 @@ fn good_expected(sizes: Sizes, x: Expected) -> bool
     is_ordered(x.start, x.end, sizes.source)
 }
 
-// ---- the records of an area
-//
-// That an area is long enough, and that there is a state, each contract asks for itself: `Sizes` is what the definitions have of a broken sheet
-// too, so no field of it can promise that. An area stands beside its count as the host lends it.
+// ---- lists of records
 
-fn good_states(sizes: Sizes, area: &[u8]) -> bool
-    requires { sizes.states * state_width ≤ length area.now }
-    ensures { result ≡ all (good_state sizes) (contents state_format area.now sizes.states) }
+fn good_states(sizes: Sizes, states: &Records<State>) -> bool
+    ensures { result ≡ all (good_state sizes) states.now }
 {
-    Records::<State>::new(area, sizes.states).all(|x| good_state(sizes, x))
+    states.all(|x| good_state(sizes, x))
 }
 
-fn good_rules(sizes: Sizes, area: &[u8]) -> bool
-    requires { sizes.rules * rule_width ≤ length area.now }
-    ensures { result ≡ all (good_rule sizes) (contents rule_format area.now sizes.rules) }
+fn good_rules(sizes: Sizes, rules: &Records<Rule>) -> bool
+    ensures { result ≡ all (good_rule sizes) rules.now }
 {
-    Records::<Rule>::new(area, sizes.rules).all(|x| good_rule(sizes, x))
+    rules.all(|x| good_rule(sizes, x))
 }
+
+// Also whether the ids in use on the stack of a run are declared.
+pub fn good_entries(entries: &Records<u16>, states: u16) -> bool
+    ensures { result ≡ all (declared states) entries.now }
+{
+    entries.all(|id| id < states)
+}
+
+fn good_names(sizes: Sizes, names: &Records<Expected>) -> bool
+    ensures { result ≡ all (good_expected sizes) names.now }
+{
+    names.all(|x| good_expected(sizes, x))
+}
+
+// ---- the rules, by the quick test first
 
 // The greatest limit of a sum, so that one that was cut at 65,535 is above every limit.
 const MOST_SUM: u16 = 65534;
@@ -105,8 +112,8 @@ fn sum_limit(n: usize) -> u16
     n.min(MOST_SUM as usize) as u16
 }
 
-// The quick test of the rules: where it passes, every rule is good. The limits go as numbers, for `sizes` would be laid out in memory to be
-// lent.
+// The quick test of the rules: where it passes, every rule is good. It goes by the bytes of area 2, and the limits go as numbers, for `sizes`
+// would be laid out in memory to be lent; so would the sheet, as the parameter in place of the area (measured: 7 instructions of a step).
 fn rules_within(sizes: Sizes, area: &[u8]) -> bool
     requires rule_width_in_bounds { sizes.rules * rule_width ≤ length area.now }
     requires le_states { 1 ≤ sizes.states }
@@ -128,141 +135,79 @@ fn rules_pass(sizes: Sizes, area: &[u8]) -> bool
     requires le_states { 1 ≤ sizes.states }
     ensures { result ≡ all (good_rule sizes) (contents rule_format area.now sizes.rules) }
 {
-    rules_within(sizes, area) || good_rules(sizes, area)
-}
-
-// Also whether the ids in use on the stack of a run are declared.
-pub fn good_entries(area: &[u8], count: u16, states: u16) -> bool
-    requires { count * entry_width ≤ length area.now }
-    ensures { result ≡ all (declared states) (contents entry_format area.now count) }
-{
-    Records::<u16>::new(area, count).all(|id| id < states)
-}
-
-fn good_names(sizes: Sizes, area: &[u8]) -> bool
-    requires { sizes.expected * expected_width ≤ length area.now }
-    ensures { result ≡ all (good_expected sizes) (contents expected_format area.now sizes.expected) }
-{
-    Records::<Expected>::new(area, sizes.expected).all(|x| good_expected(sizes, x))
+    rules_within(sizes, area) || good_rules(sizes, &Records::new(area, sizes.rules))
 }
 
 // ---- the sheet
 
 // Whether so many bytes are enough for so many records.
-fn is_long(bytes: usize, count: u16, width: usize) -> bool
-    requires { width ≤ rule_width }
-    ensures { result ≡ leb (count * width) bytes }
+fn is_long<R: Record>(bytes: usize, count: u16) -> bool
+    ensures { result ≡ leb (count * R.format.width) bytes }
 {
-    count as usize * width <= bytes
+    count as usize * R::WIDTH <= bytes
 }
 
 #[tactic(auto, unfolding(crate::specs::SheetCheck::good_counts))]
 fn good_counts(states: u16, rules: u16) -> bool
     ensures { result ≡ good_counts states rules }
 {
-    (1 <= states) & (states as usize <= MOST_STATES) & (rules as usize <= MOST_RULES)
+    (1 <= states) & (states as usize <= State::MOST) & (rules as usize <= Rule::MOST)
 }
 
 #[tactic(auto, using(crate::proofs::Judging::sizes_judged))]
 fn good_sizes(sizes: Sizes) -> bool
     ensures { result ≡ good_sizes sizes }
 {
-    let long1 = is_long(sizes.area1, sizes.states, STATE_WIDTH);
-    let long2 = is_long(sizes.area2, sizes.rules, RULE_WIDTH);
-    let long3 = is_long(sizes.area3, sizes.entries, ENTRY_WIDTH);
-    let long4 = is_long(sizes.area4, sizes.text, 1);
-    let long5 = is_long(sizes.area5, sizes.expected, EXPECTED_WIDTH);
+    let long1 = is_long::<State>(sizes.area1, sizes.states);
+    let long2 = is_long::<Rule>(sizes.area2, sizes.rules);
+    let long3 = is_long::<u16>(sizes.area3, sizes.entries);
+    let long4 = is_long::<u8>(sizes.area4, sizes.text);
+    let long5 = is_long::<Expected>(sizes.area5, sizes.expected);
     let few = good_counts(sizes.states, sizes.rules);
     long1 & long2 & long3 & long4 & long5 & few
 }
 
-// Area 4 and the source are asked for their lengths alone. The tests are not joined by &&, since what the first of them say is lost to the
-// proof at each join.
-#[tactic(auto, unfolding(crate::specs::SheetCheck::good_records))]
-fn good_records(sizes: Sizes, sheet: Sheet) -> bool
-    requires areas_long { AreasLong sizes sheet.states.now sheet.rules.now sheet.entries.now sheet.expected.now }
-    requires le_states { 1 ≤ sizes.states }
-    ensures { result ≡ good_records sizes
-        (contents state_format sheet.entry.states.now sizes.states)
-        (contents rule_format sheet.entry.rules.now sizes.rules)
-        (contents entry_format sheet.entry.entries.now sizes.entries)
-        (contents expected_format sheet.entry.expected.now sizes.expected) }
+// Area 4 and the source are asked for their lengths alone.
+#[tactic(auto, using(crate::proofs::Sheets::records_of))]
+fn good_records(sheet: Sheet) -> bool
+    requires { GoodSizes sheet }
+    ensures { result ≡ sheet_check (lent_sheet sheet.entry) }
 {
-    if !good_states(sizes, sheet.states) {
-        return false;
-    }
-    if !rules_pass(sizes, sheet.rules) {
-        return false;
-    }
-    if !good_entries(sheet.entries, sizes.entries, sizes.states) {
-        return false;
-    }
-    good_names(sizes, sheet.expected)
-}
-
-fn sizes_of(sheet: Sheet) -> Sizes
-    ensures { result ≡ sizes_of (lent_sheet sheet.entry) }
-{
-    Sizes {
-        source: sheet.source.len(),
-        area1: sheet.states.len(),
-        area2: sheet.rules.len(),
-        area3: sheet.entries.len(),
-        area4: sheet.text.len(),
-        area5: sheet.expected.len(),
-        states: sheet.counts[0],
-        rules: sheet.counts[1],
-        entries: sheet.counts[2],
-        text: sheet.counts[3],
-        expected: sheet.counts[4],
-    }
+    let sizes = sheet.sizes();
+    good_states(sizes, &sheet.state_records())
+        && rules_pass(sizes, sheet.rules)
+        && good_entries(&sheet.entry_records(), sizes.states)
+        && good_names(sizes, &sheet.expected_records())
 }
 
 // Whether what the host hands in is a sheet. The sizes first, so that every record may be read.
+#[tactic(auto, using(crate::proofs::Judging::sizes_fail))]
 pub fn check(sheet: Sheet) -> bool
     ensures { result ≡ sheet_check (lent_sheet sheet.entry) }
 {
-    let sizes = sizes_of(sheet);
-    good_sizes(sizes) && good_records(sizes, sheet)
+    good_sizes(sheet.sizes()) && good_records(sheet)
 }
 
 // ---- the sheet, asked at every move
 
 // The quick tests alone: where they pass, every record is good.
-fn quick_records(sizes: Sizes, sheet: Sheet) -> bool
-    requires areas_long { AreasLong sizes sheet.states.now sheet.rules.now sheet.entries.now sheet.expected.now }
-    requires le_states { 1 ≤ sizes.states }
-    ensures { result ≡ true
-        → good_records sizes
-        (contents state_format sheet.entry.states.now sizes.states)
-        (contents rule_format sheet.entry.rules.now sizes.rules)
-        (contents entry_format sheet.entry.entries.now sizes.entries)
-        (contents expected_format sheet.entry.expected.now sizes.expected)
-        ≡ true }
+#[tactic(auto, using(crate::proofs::Sheets::records_of))]
+fn quick_records(sheet: Sheet) -> bool
+    requires { GoodSizes sheet }
+    ensures { result ≡ true → sheet_check (lent_sheet sheet.entry) ≡ true }
 {
-    if !good_states(sizes, sheet.states) {
-        return false;
-    }
-    if !rules_within(sizes, sheet.rules) {
-        return false;
-    }
-    if !entries_within(sheet.entries, sizes.entries, sizes.states - 1) {
-        return false;
-    }
-    good_names(sizes, sheet.expected)
+    let sizes = sheet.sizes();
+    good_states(sizes, &sheet.state_records())
+        && rules_within(sizes, sheet.rules)
+        && entries_within(&sheet.entry_records(), sizes.states - 1)
+        && good_names(sizes, &sheet.expected_records())
 }
 
 // Whether what the host hands in is a sheet, as `check` says, for the step alone, which asks at every move: with one caller it becomes part
-// of that caller.
+// of that caller. Bad sizes do not go on to `check`: where they did, the address of every area was worked out first, of a good sheet too.
+#[tactic(auto, using(crate::proofs::Judging::sizes_fail))]
 pub fn quick_check(sheet: Sheet) -> bool
     ensures { result ≡ sheet_check (lent_sheet sheet.entry) }
 {
-    let sizes = sizes_of(sheet);
-    if good_sizes(sizes) {
-        if quick_records(sizes, sheet) {
-            return true;
-        }
-        return check(sheet);
-    }
-    false
+    good_sizes(sheet.sizes()) && (quick_records(sheet) || check(sheet))
 }

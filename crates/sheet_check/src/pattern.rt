@@ -1,28 +1,31 @@
 // The pattern call (01, Areas, 4): the text of a rule, borrowed from the source or from the rewritten text, whichever its place names.
 ghost use Rattle.std.specs.Prelude.{◌≡◌};
+ghost use Rattle.answers.specs.Numbers.{number_of};
 ghost use Rattle.sheet_check.specs.Phrases.{lent_sheet};
-ghost use Rattle.sheet_check.specs.Pattern.{pattern_part, pattern_call, handed, number_of};
+ghost use Rattle.sheet_check.specs.Pattern.{pattern_part, pattern_call, handed, number_of as test_number};
 
+use crate::Sheet;
 use crate::check::check;
-use crate::{Part, Sheet};
 use answers::Number;
-use area::{Rule, read};
+use area::RuleText;
 
 // Where the text of a rule stands; none where number 6 holds.
-pub fn locate(sheet: Sheet, rule: u64) -> Option<Part>
+pub fn locate(sheet: Sheet, rule: u64) -> Option<RuleText>
     ensures { result ≡ pattern_part (lent_sheet sheet.entry) rule }
 {
-    if check(sheet) {
-        if rule < u64::from(sheet.counts[1]) {
-            let x: Rule = read(sheet.rules, rule as usize);
-            return Some(Part {
-                place: x.place,
-                from: x.text_from,
-                length: x.text_length,
-            });
-        }
+    if !check(sheet) {
+        return None;
     }
-    None
+    let rules = sheet.rule_records();
+    if rules.count() as u64 <= rule {
+        return None;
+    }
+    let x = rules.get(rule as usize);
+    Some(RuleText {
+        place: x.place,
+        from: x.text_from,
+        length: x.text_length,
+    })
 }
 
 // The text of a rule; an empty part of the source where number 6 holds.
@@ -43,13 +46,13 @@ pub fn pattern<'a>(sheet: Sheet<'a>, rule: u64) -> &'a [u8]
     }
 }
 
-// 0 where the pattern call hands back a rule's text, and 6 where it does not.
+// Accepted where the pattern call hands back a rule's text, and number 6 where it does not.
 #[tactic(auto, unfolding(crate::specs::Pattern::number_of))]
-pub fn pattern_test(sheet: Sheet, rule: u64) -> u64
-    ensures { result ≡ number_of (pattern_part (lent_sheet sheet.entry) rule) }
+pub fn pattern_test(sheet: Sheet, rule: u64) -> Number
+    ensures { number_of result ≡ test_number (pattern_part (lent_sheet sheet.entry) rule) }
 {
     match locate(sheet, rule) {
-        Some(_) => Number::Accepted as u64,
-        None => Number::BrokenSheet as u64,
+        Some(_) => Number::Accepted,
+        None => Number::BrokenSheet,
     }
 }

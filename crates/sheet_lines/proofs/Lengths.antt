@@ -4,9 +4,9 @@ use mathlib.Core.List.{List, [], ◌∷◌}
 use native.Mathlib.Omega.{arith}
 use lib.Dec.{eqb}
 use lib.ListN.{length}
+use Rattle.std.proofs.lemmas.Bool.{cond_both}
 use Rattle.answers.specs.Numbers.{area_full_number}
 use Rattle.text.specs.Range.{part}
-use Rattle.characters.proofs.Tests.{by_test}
 use Rattle.area.specs.declared.State.{State}
 use Rattle.area.specs.declared.Rule.{Rule}
 use Rattle.area.specs.declared.Fault.{Fault}
@@ -14,12 +14,12 @@ use Rattle.area.specs.Records.{rule_fields, fault_fields}
 use Rattle.output.specs.Output.{newline}
 use Rattle.output.proofs.Lengths.{Most, word_most, append_most, field_most, fields_most, part_most}
 use Rattle.sheet_lines.specs.Lines.{state_word, rule_word, fault_word, refused_word, initial_name}
-use Rattle.sheet_lines.specs.Lines.{state_name, state_head, state_line, rule_line, fault_line, refused_line, full_line}
+use Rattle.sheet_lines.specs.Lines.{state_name, state_head, state_line, rule_line, fault_line, refused_head, refused_line, full_line}
 
 name_most : (s : List ℕ) (k a e : ℕ) → Most (state_name s k a e) (7 + (e - a))
 unfolding state_name
 name_most s k a e =
-    by_test (λ t. Most t (7 + (e - a))) (eqb k 0) initial_name (part s a e)
+    cond_both (eqb k 0) initial_name (part s a e) (λ t. Most t (7 + (e - a)))
     (λ _. record { most = omega arith })
     (λ _. record { most = omega (arith, part_most s a e) })
 
@@ -42,10 +42,14 @@ pub fault_most : (x : Fault) → Most (fault_line x) 30
 unfolding fault_line fault_fields
 fault_most x = append_most (append_most (word_most fault_word) (fields_most (fault_fields x))) (word_most newline)
 
+refused_head_most : (n : ℕ) → Most (refused_head n) 13
+unfolding refused_head
+refused_head_most n = append_most (word_most refused_word) (field_most n)
+
 pub refused_most : (n : ℕ) → Most (refused_line n) 14
 unfolding refused_line
-refused_most n = append_most (append_most (word_most refused_word) (field_most n)) (word_most newline)
+refused_most n = append_most (refused_head_most n) (word_most newline)
 
 pub full_most : (n : ℕ) → Most (full_line n) 20
 unfolding full_line
-full_most n = append_most (append_most (append_most (word_most refused_word) (field_most area_full_number)) (field_most n)) (word_most newline)
+full_most n = append_most (append_most (refused_head_most area_full_number) (field_most n)) (word_most newline)

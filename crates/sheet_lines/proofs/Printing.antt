@@ -15,7 +15,7 @@ use Rattle.area.proofs.Fields.{bytes-append, bytes_single}
 use Rattle.output.specs.Output.{appended, joined, newline, printed_field, printed_fields, printed_fields_at}
 use Rattle.output.proofs.Appending.{appended_next}
 use Rattle.sheet_lines.specs.Lines.{state_word, rule_word, fault_word, refused_word, initial_name}
-use Rattle.sheet_lines.specs.Lines.{state_name, state_head, state_line, rule_line, fault_line, refused_line, full_line}
+use Rattle.sheet_lines.specs.Lines.{state_name, state_head, state_line, rule_line, fault_line, refused_head, refused_line, full_line}
 use Rattle.sheet_lines.specs.Lines.{state_lines, rule_lines, sheet_lines}
 
 -- ---- the fields of a record
@@ -64,18 +64,21 @@ module _ (n : ℕ) (t l : List ℕ) (k : ℕ) {a b e : List ℕ} where
       let y = rw (fault_fields_lem l k) at q in
       appended_next n t _ _ z (appended_next n t _ _ y p)
 
-module _ (n : ℕ) (t : List ℕ) {a b e : List ℕ} where
-  pub refused_line_lem : (number : ℕ) → a ≡ appended n t refused_word → b ≡ appended n a (printed_field number) → e ≡ appended n b newline
-      → e ≡ appended n t (refused_line number)
+module _ (n : ℕ) (t : List ℕ) {a e : List ℕ} where
+  pub refused_head_lem : (number : ℕ) → a ≡ appended n t refused_word → e ≡ appended n a (printed_field number) → e ≡ appended n t (refused_head number)
+  unfolding refused_head
+  refused_head_lem number p z = appended_next n t _ _ z p
+
+  pub refused_line_lem : (number : ℕ) → a ≡ appended n t (refused_head number) → e ≡ appended n a newline → e ≡ appended n t (refused_line number)
   unfolding refused_line
-  refused_line_lem number p q z = appended_next n t _ _ z (appended_next n t _ _ q p)
+  refused_line_lem number p z = appended_next n t _ _ z p
 
-  pub full_line_lem : (area : ℕ) {c : List ℕ} → a ≡ appended n t refused_word → b ≡ appended n a (printed_field area_full_number)
-      → c ≡ appended n b (printed_field area) → e ≡ appended n c newline → e ≡ appended n t (full_line area)
+  pub full_line_lem : (area : ℕ) {b : List ℕ} → a ≡ appended n t (refused_head area_full_number) → b ≡ appended n a (printed_field area)
+      → e ≡ appended n b newline → e ≡ appended n t (full_line area)
   unfolding full_line
-  full_line_lem area p q r z = appended_next n t _ _ z (appended_next n t _ _ r (appended_next n t _ _ q p))
+  full_line_lem area {b} p q z = appended_next n t _ _ z (appended_next n t _ _ q p)
 
-pub ruleset line_printing = (rules, rule_line_lem, fault_line_lem, refused_line_lem, full_line_lem)
+pub ruleset line_printing = (rules, rule_line_lem, fault_line_lem, refused_head_lem, refused_line_lem, full_line_lem)
 
 -- ---- a state
 

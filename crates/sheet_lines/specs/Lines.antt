@@ -49,12 +49,15 @@ unfoldable pub fault_line : Fault → List ℕ
 fault_line x = fault_word ++ printed_fields (fault_fields x) ++ newline
 
 -- `refused`, the number
+unfoldable pub refused_head : ℕ → List ℕ
+refused_head number = refused_word ++ printed_field number
+
 unfoldable pub refused_line : ℕ → List ℕ
-refused_line number = refused_word ++ printed_field number ++ newline
+refused_line number = refused_head number ++ newline
 
 -- the same of a full area: its number too
 unfoldable pub full_line : ℕ → List ℕ
-full_line area = refused_word ++ printed_field area_full_number ++ printed_field area ++ newline
+full_line area = refused_head area_full_number ++ printed_field area ++ newline
 
 -- ---- the records of an area, from its bytes
 

@@ -1,17 +1,18 @@
 // Lines of text: a word, then numbers, with a blank before each. The records of a sheet's areas, and refusals.
 // A contract names each byte of a line, and `write!` promises nothing of what it wrote before an error: so the lines are put by methods of `Text`.
-// An area stands beside its count as the parse call leaves it, and a state's name in the source beside the text that it is put into.
+// An area stands beside its count, and not as `Records` of area: `Records::new` asks for room for so many, and these calls may not ask for it.
+// A state's name stands in the source, beside the text that it is put into.
 #![tactic(auto)]
 
 ghost use Rattle.std.specs.Prelude.{◌≡◌, ℕ, List};
 ghost use Rattle.answers.specs.Numbers.{number_of};
 ghost use Rattle.area.specs.Records.{state_at, rule_at, fault_at};
 ghost use Rattle.output.specs.Output.{appended, joined};
-ghost use Rattle.sheet_lines.specs.Lines.{state_name, state_line, rule_line, fault_line, refused_line, full_line};
+ghost use Rattle.sheet_lines.specs.Lines.{state_name, state_line, rule_line, fault_line, refused_head, refused_line, full_line};
 ghost use Rattle.sheet_lines.specs.Lines.{state_lines, rule_lines, fault_lines, sheet_lines};
 
 use answers::Number;
-use area::{FAULT_WIDTH, RULE_WIDTH, STATE_WIDTH, State};
+use area::{Fault, Record, Rule, State};
 use output::Text;
 use output::fields::field_at;
 
@@ -27,12 +28,12 @@ fn put_name<const N: usize>(out: &mut Text<N>, src: &[u8], k: u16, x: State)
     }
 }
 
-// `read_state` of area asks for room for the record; here a state that stands past the end of the area has fields of 0.
+// `State::read` of area asks for room for the record; here a state that stands past the end of the area has fields of 0.
 #[tactic(auto, using(crate::proofs::Printing::state_printing))]
 fn state_at(area: &[u8], k: u16) -> State
     ensures { result ≡ state_at area.now k }
 {
-    let at = k as usize * STATE_WIDTH;
+    let at = k as usize * State::WIDTH;
     State {
         start: field_at(area, at),
         end: field_at(area, at + 2),
@@ -94,7 +95,7 @@ impl<'a, const N: usize> Records<N> for Rules<'a> {
     fn put_line(&self, out: &mut Text<N>, k: u16) {
         out.push_text(b"rule");
         out.push_field(k);
-        out.push_fields(self.area, k as usize * RULE_WIDTH, 14);
+        out.push_fields(self.area, k as usize * Rule::WIDTH, Rule::WIDTH / 2);
         out.push_line_end();
     }
 }
@@ -105,7 +106,7 @@ impl<'a, const N: usize> Records<N> for Faults<'a> {
     #[tactic(auto, using(crate::proofs::Printing::line_printing))]
     fn put_line(&self, out: &mut Text<N>, k: u16) {
         out.push_text(b"fault");
-        out.push_fields(self.area, k as usize * FAULT_WIDTH, 4);
+        out.push_fields(self.area, k as usize * Fault::WIDTH, Fault::WIDTH / 2);
         out.push_line_end();
     }
 }
@@ -139,12 +140,20 @@ pub fn put_faults<const N: usize>(out: &mut Text<N>, area: &[u8], count: u16)
     put_lines(out, &Faults { area }, count);
 }
 
+// The word that both lines of a refusal start with, and its number.
+#[tactic(auto, using(crate::proofs::Printing::line_printing))]
+fn put_number<const N: usize>(out: &mut Text<N>, number: Number)
+    ensures { out.new ≡ appended N out.old (refused_head (number_of number)) }
+{
+    out.push_text(b"refused");
+    out.push_field(u16::from(number));
+}
+
 #[tactic(auto, using(crate::proofs::Printing::line_printing))]
 pub fn put_refused<const N: usize>(out: &mut Text<N>, number: Number)
     ensures { out.new ≡ appended N out.old (refused_line (number_of number)) }
 {
-    out.push_text(b"refused");
-    out.push_field(u16::from(number));
+    put_number(out, number);
     out.push_line_end();
 }
 
@@ -152,8 +161,7 @@ pub fn put_refused<const N: usize>(out: &mut Text<N>, number: Number)
 pub fn put_full<const N: usize>(out: &mut Text<N>, area: u16)
     ensures { out.new ≡ appended N out.old (full_line area) }
 {
-    out.push_text(b"refused");
-    out.push_field(Number::AreaFull as u16);
+    put_number(out, Number::AreaFull);
     out.push_field(area);
     out.push_line_end();
 }

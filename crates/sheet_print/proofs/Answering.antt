@@ -77,7 +77,7 @@ unfolding leaves text_of answer_text sheet_lines
 leaves_text s k long_file h = refl
 leaves_text s k unknown_flag h = refl
 leaves_text s k invalid_utf8 h = refl
-leaves_text s k (area_full n) h = refl
+leaves_text s k (area_full name) h = refl
 leaves_text s k (faulty fs) h = faults_laid s k.c6 _ h.six fs refl
 leaves_text s k (accepted b) h =
     ap₂ (λ (x y : List ℕ). x ++ y)

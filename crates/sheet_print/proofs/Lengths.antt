@@ -9,6 +9,7 @@ use Rattle.answers.specs.Numbers.{long_file_number, unknown_flag_number, invalid
 use Rattle.area.specs.declared.State.{State}
 use Rattle.area.specs.declared.Rule.{Rule}
 use Rattle.area.specs.declared.Fault.{Fault}
+use Rattle.area.specs.Names.{area_number}
 use Rattle.area.specs.Records.{nth_state, nth_rule, nth_fault}
 use Rattle.parse.specs.Parse.{Outcome, long_file, unknown_flag, invalid_utf8, area_full, faulty, accepted, outcome}
 use Rattle.parsed_sheet.proofs.Accepting.{accepted_holds, accepted_short}
@@ -49,7 +50,7 @@ unfolding text_of sheet_caps
 outcome_most s long_file q h = omega (arith, (refused_most long_file_number).most)
 outcome_most s unknown_flag q h = omega (arith, (refused_most unknown_flag_number).most)
 outcome_most s invalid_utf8 q h = omega (arith, (refused_most invalid_utf8_number).most)
-outcome_most s (area_full n) q h = omega (arith, (full_most n).most)
+outcome_most s (area_full name) q h = omega (arith, (full_most (area_number name)).most)
 outcome_most s (faulty fs) q h = omega (arith, faults_most fs, h.fits)
 outcome_most s (accepted c) q h =
     let g = accepted_holds (sheet_request s) sheet_caps c q in

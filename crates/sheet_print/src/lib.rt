@@ -3,12 +3,13 @@
 
 ghost use Rattle.std.specs.Prelude.{◌≡◌, ◌≤◌, get_or};
 ghost use Rattle.output.specs.Output.{appended};
+ghost use Rattle.parse.specs.Answers.{answered, counts_left};
 ghost use Rattle.sheet_print.specs.Lines.{answer_text, sheet_text, sheet_room};
 
 use answers::Number;
 use output::Text;
-use parse::ParseError;
 use parse::call::parse;
+use parse::{FileCounts, ParseError};
 use sheet_lines::{put_faults, put_full, put_refused, put_sheet};
 
 // The room that `sheet` asks for.
@@ -19,18 +20,18 @@ pub const SHEET_ROOM: usize = 262527;
 fn put_answer<const N: usize>(
     out: &mut Text<N>,
     src: &[u8],
-    answer: Result<(), ParseError>,
-    counts: [u16; 6],
+    answer: Result<FileCounts, ParseError>,
     area1: &[u8],
     area2: &[u8],
     area6: &[u8],
 )
     ensures { out.new ≡ appended N out.old
-        (answer_text src.now answer (get_or counts 0 0) (get_or counts 1 0) area1.now area2.now area6.now) }
+        (answer_text src.now (answered answer) (get_or (counts_left answer) 0 0) (get_or (counts_left answer) 1 0)
+        area1.now area2.now area6.now) }
 {
     match answer {
-        Ok(_) => put_sheet(out, src, counts[0], area1, counts[1], area2),
-        Err(ParseError::AreaFull(area)) => put_full(out, area),
+        Ok(counts) => put_sheet(out, src, counts.states, area1, counts.rules, area2),
+        Err(ParseError::AreaFull(area)) => put_full(out, area.into()),
         Err(ParseError::FaultyFile(spans)) => put_faults(out, area6, spans),
         Err(error) => put_refused(out, error.into()),
     }
@@ -41,7 +42,6 @@ pub fn sheet<const N: usize>(src: &[u8], out: &mut Text<N>)
     requires { sheet_room ≤ N }
     ensures { out.new ≡ sheet_text src.now }
 {
-    let mut counts = [0u16; 6];
     let mut area1 = [0u8; 384];
     let mut area2 = [0u8; 57344];
     let mut area3 = [0u8; 32768];
@@ -49,17 +49,8 @@ pub fn sheet<const N: usize>(src: &[u8], out: &mut Text<N>)
     let mut area5 = [0u8; 32768];
     let mut area6 = [0u8; 32768];
     let answer = parse(
-        src,
-        0,
-        b"",
-        &mut counts,
-        &mut area1,
-        &mut area2,
-        &mut area3,
-        &mut area4,
-        &mut area5,
-        &mut area6,
+        src, 0, b"", &mut area1, &mut area2, &mut area3, &mut area4, &mut area5, &mut area6,
     );
     out.clear();
-    put_answer(out, src, answer, counts, &area1, &area2, &area6);
+    put_answer(out, src, answer, &area1, &area2, &area6);
 }

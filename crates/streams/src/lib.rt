@@ -1,53 +1,70 @@
-// What the programs share: reading an input into a buffer, its texts one by one, and saying what is printed and what failed.
+// What the programs share: reading an input or a file into a buffer, its texts one by one, and saying what is printed and what failed.
 #![tactic(auto)]
 
-ghost use Rattle.std.specs.Prelude.{◌≤◌, length};
+ghost use Rattle.std.specs.Prelude.{◌≤◌, length, IfSome};
 
+use std::fs::{File, Files};
 use std::io;
 use std::io::Read;
 
-// How many bytes an input had, and the failure that ended it, if one did.
+// What was read of an input, and the failure that ended it, if one did.
 #[derive(Drop)]
-pub struct Source {
-    pub length: usize,
+pub struct Source<'a> {
+    pub text: &'a [u8],
     pub failure: Option<io::Error>,
 }
 
 // Reads until the buffer is full, the input ends or a read fails. The place is counted by hand: `Read` has nothing that says how far it came.
-pub fn read_source(input: &mut impl Read, buffer: &mut [u8]) -> Source
-    ensures { result.length ≤ length buffer.new }
+pub fn read_source<'a>(input: &mut impl Read, buffer: &'a mut [u8]) -> Source<'a>
+    ensures { length result.text.now ≤ length buffer.old }
 {
     let mut done = 0;
+    let mut failure = None;
     while done < buffer.len() {
         match input.read(&mut buffer[done..]) {
             Ok(n) if n > 0 => done += n,
             ended => {
-                return Source {
-                    length: done,
-                    failure: ended.err(),
-                };
+                failure = ended.err();
+                break;
             }
         }
     }
     Source {
-        length: done,
-        failure: None,
+        text: &buffer[..done],
+        failure,
     }
 }
 
-// The same where a failure ends the input, and answers how many bytes were read.
-pub fn read_full(input: &mut impl Read, buffer: &mut [u8]) -> usize
-    ensures { result ≤ length buffer.new }
+// The same where a failure ends the input.
+pub fn read_full<'a>(input: &mut impl Read, buffer: &'a mut [u8]) -> &'a [u8]
+    ensures { length result.now ≤ length buffer.old }
 {
-    read_source(input, buffer).length
+    read_source(input, buffer).text
 }
 
-// Shows each text of an input, where a zero byte ends a text.
-pub fn show_texts<F: Fn(&[u8])>(input: &[u8], show: F)
+// The same of a file, by its name. Where it cannot be opened, that is said, and None is answered.
+pub fn read_file<'a, R: Files + Eprint>(
+    rt: &R,
+    name: &str,
+    buffer: &'a mut [u8],
+) -> Option<&'a [u8]>
+    ensures { IfSome result (λ text. length text.now ≤ length buffer.old) }
+{
+    match File::open(rt, name) {
+        Ok(mut file) => Some(read_full(&mut file, buffer)),
+        Err(error) => {
+            fail(rt, name, error);
+            None
+        }
+    }
+}
+
+// Shows each text of an input, where a byte ends a text: a zero byte, or a line feed.
+pub fn show_texts<F: FnMut(&[u8])>(input: &[u8], end: u8, mut show: F)
     requires { F.IsAlwaysCallable show }
 {
-    for ended in input.split_inclusive(|byte| *byte == 0) {
-        show(ended.strip_suffix(b"\0").unwrap_or(ended));
+    for ended in input.split_inclusive(|byte| *byte == end) {
+        show(ended.strip_suffix(&[end]).unwrap_or(ended));
     }
 }
 

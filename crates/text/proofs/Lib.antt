@@ -1,3 +1,4 @@
 pub mod Ranges
+pub mod Parts
 pub mod Trims
 pub mod Blocks

@@ -11,13 +11,11 @@ use lib.ListN.{length, get_or, take, drop, length-take, length-drop}
 use lib.Seq.{take_all}
 use Rattle.text.specs.Range.{part, same_bytes, lookahead_is}
 use Rattle.std.specs.Prelude.{Some, None}
-use Rattle.std.specs.List.{slice_range}
 use Rattle.std.specs.Cmp.Lexicographic.{pointwise}
 use Rattle.std.proofs.lemmas.Cmp.{nat_list_eq_equiv}
 use Rattle.std.proofs.Common.{inl, inr}
-use Rattle.std.proofs.lemmas.Bool.{cases_lt}
+use Rattle.std.proofs.lemmas.Bool.{cases_lt, and_parts}
 use Rattle.std.specs.List.{slice_range}
-use Rattle.characters.proofs.Tests.{and_left, and_right}
 
 -- ---- same_bytes is equality
 
@@ -27,7 +25,7 @@ same_equal [] [] e = refl
 same_equal [] (y ∷ ys) e = absurd (false≢true e)
 same_equal (x ∷ xs) [] e = absurd (false≢true e)
 same_equal (x ∷ xs) (y ∷ ys) e =
-    ap₂ (λ (a : ℕ) (l : List ℕ). a ∷ l) (eqb-true x y (and_left (eqb x y) (same_bytes xs ys) e)) (same_equal xs ys (and_right (eqb x y) (same_bytes xs ys) e))
+    ap₂ (λ (a : ℕ) (l : List ℕ). a ∷ l) (eqb-true x y (and_parts (eqb x y) (same_bytes xs ys) e).0) (same_equal xs ys (and_parts (eqb x y) (same_bytes xs ys) e).1)
 
 pub same_self : (xs : List ℕ) → same_bytes xs xs ≡ true
 unfolding same_bytes

@@ -8,15 +8,16 @@ use Prim.Native.Nat.{ℕ, zero, suc, ◌+◌, ◌-◌, ◌%◌, ◌≤◌, ◌<�
 use native.Mathlib.Nat.{le_refl, lt_irrefl, lt_of_lt_of_le, lt_of_le_of_lt, eq-or-lt_of_le, eq-zero-or-pos}
 use native.Mathlib.Omega.{arith}
 use borrow.Author.Rules.{rules}
-use borrow.Author.Tests.{le-leb, lt-leb, eq-eqb, ne_eqb, eqb-true, leb-false}
+use borrow.Author.Tests.{le-leb, lt-leb, eq-eqb, ne_eqb, eqb-true, leb-false, not-true}
 use lib.Dec.{eqb, leb}
 use lib.ListN.{length}
+use Rattle.std.proofs.lemmas.Bool.{or_parts, cond_both, and_parts}
 use Rattle.characters.specs.Class.{is_whitespace_byte}
 use Rattle.characters.specs.Walk.{skip, Between}
 use Rattle.characters.specs.Whitespace.{byte, is_next_line, is_mark, is_separator, whitespace_of, whitespace_len, Width}
 use Rattle.characters.specs.Shortcuts.{RulesOut, Tells, may_be_whitespace}
 use Rattle.text.specs.Scan.{skip_whitespace, trim_end, backslashes_before, keep_escaped, trim_end_unescaped}
-use Rattle.characters.proofs.Tests.{and_left, and_right, or_cases, or_none, not_true, by_test, le_or_lt}
+use Rattle.characters.proofs.Tests.{or_cases, le_or_lt}
 use Rattle.characters.proofs.Walks.{first_here, first_none, first_over, skip_stays, skip_goes, repeat_keeps}
 use Rattle.characters.proofs.Spaces.{white_inside, inner_none}
 
@@ -33,9 +34,9 @@ three_bytes_lem a b c e =
         → (0x80 ≤ x) × (x < 0xc0) × (0x80 ≤ y) × (y < 0xc0)
         → (b ≡ 0x80) × (0x80 ≤ c) × (c < 0xc0)
     of x y t k =
-        let u = and_right (eqb a 0xe2) (eqb b 0x80 && (eqb c x || eqb c y)) t in
-        let p = eqb-true b 0x80 (and_left (eqb b 0x80) (eqb c x || eqb c y) u) in
-        or_cases (eqb c x) (eqb c y) (and_right (eqb b 0x80) (eqb c x || eqb c y) u)
+        let u = (and_parts (eqb a 0xe2) (eqb b 0x80 && (eqb c x || eqb c y)) t).1 in
+        let p = eqb-true b 0x80 (and_parts (eqb b 0x80) (eqb c x || eqb c y) u).0 in
+        or_cases (eqb c x) (eqb c y) (and_parts (eqb b 0x80) (eqb c x || eqb c y) u).1
         (λ v. omega (arith, eqb-true c x v))
         (λ v. omega (arith, eqb-true c y v))
 
@@ -46,15 +47,15 @@ inside_none s k m l =
     let b = byte s (k + 1) in
     let c = byte s (k + 2) in
     let P : ℕ → Type 0 = λ n. m < k + n → whitespace_len s m ≡ 0 in
-    by_test P (is_whitespace_byte a) 1 _ (λ e h. absurd (omega arith))
-    (λ _. by_test P (is_next_line a b) 2 _ (λ e h. at (k + 1) (omega arith) (omega (arith, second e)) (omega (arith, second e)))
-    (λ _. by_test P (is_mark a b c || is_separator a b c) 3 0 (λ e h. third (three_bytes_lem a b c e) h) (λ _ h. absurd (omega arith))))
+    cond_both (is_whitespace_byte a) 1 _ P (λ e h. absurd (omega arith))
+    (λ _. cond_both (is_next_line a b) 2 _ P (λ e h. at (k + 1) (omega arith) (omega (arith, second e)) (omega (arith, second e)))
+    (λ _. cond_both (is_mark a b c || is_separator a b c) 3 0 P (λ e h. third (three_bytes_lem a b c e) h) (λ _ h. absurd (omega arith))))
   where
     at : (j : ℕ) → m ≡ j → 0x80 ≤ byte s j → byte s j < 0xc0 → whitespace_len s m ≡ 0
     at j e x y = rw e (inner_none (byte s j) (byte s (j + 1)) (byte s (j + 2)) x y)
 
     second : is_next_line (byte s k) (byte s (k + 1)) ≡ true → byte s (k + 1) ≡ 0x85
-    second e = eqb-true (byte s (k + 1)) 0x85 (and_right (eqb (byte s k) 0xc2) (eqb (byte s (k + 1)) 0x85) e)
+    second e = eqb-true (byte s (k + 1)) 0x85 (and_parts (eqb (byte s k) 0xc2) (eqb (byte s (k + 1)) 0x85) e).1
 
     third :
         (byte s (k + 1) ≡ 0x80) × (0x80 ≤ byte s (k + 2)) × (byte s (k + 2) < 0xc0)
@@ -126,11 +127,11 @@ pub ruleset trimming = (rules, trim_found, trim_again, trim_ended)
 
 three_first : (a b c : ℕ) → is_mark a b c || is_separator a b c ≡ true → a ≡ 0xe2
 three_first a b c e =
-    or_cases (is_mark a b c) (is_separator a b c) e (λ t. eqb-true a 0xe2 (and_left (eqb a 0xe2) _ t)) (λ t. eqb-true a 0xe2 (and_left (eqb a 0xe2) _ t))
+    or_cases (is_mark a b c) (is_separator a b c) e (λ t. eqb-true a 0xe2 (and_parts (eqb a 0xe2) _ t).0) (λ t. eqb-true a 0xe2 (and_parts (eqb a 0xe2) _ t).0)
 
 module _ (s : List ℕ) (p : ℕ) (plain : may_be_whitespace (byte s p) ≡ false) where
   none : (is_whitespace_byte (byte s p) ≡ false) × (leb 0x80 (byte s p) ≡ false)
-  none = or_none (is_whitespace_byte (byte s p)) (leb 0x80 (byte s p)) plain
+  none = or_parts (is_whitespace_byte (byte s p)) (leb 0x80 (byte s p)) plain
 
   not_one : (j : ℕ) → is_whitespace_byte (byte s j) ≡ true → j ≡ p → ⊥
   not_one j e q = true≢false (sym e ∙ ap (λ (x : ℕ). is_whitespace_byte (byte s x)) q ∙ none.0)
@@ -145,9 +146,9 @@ module _ (s : List ℕ) (p : ℕ) (plain : may_be_whitespace (byte s p) ≡ fals
       let b = byte s (j + 1) in
       let c = byte s (j + 2) in
       let P : ℕ → Type 0 = λ n. j + n ≤ p in
-      by_test P (is_whitespace_byte a) 1 _ (λ e. omega (arith, not_one j e))
-      (λ _. by_test P (is_next_line a b) 2 _ (λ e. two (and_left (eqb a 0xc2) (eqb b 0x85) e) (and_right (eqb a 0xc2) (eqb b 0x85) e))
-      (λ _. by_test P (is_mark a b c || is_separator a b c) 3 0 (λ e. three (three_first a b c e) (three_bytes_lem a b c e)) (λ _. omega arith)))
+      cond_both (is_whitespace_byte a) 1 _ P (λ e. omega (arith, not_one j e))
+      (λ _. cond_both (is_next_line a b) 2 _ P (λ e. two (and_parts (eqb a 0xc2) (eqb b 0x85) e).0 (and_parts (eqb a 0xc2) (eqb b 0x85) e).1)
+      (λ _. cond_both (is_mark a b c || is_separator a b c) 3 0 P (λ e. three (three_first a b c e) (three_bytes_lem a b c e)) (λ _. omega arith)))
     where
       two : eqb (byte s j) 0xc2 ≡ true → eqb (byte s (j + 1)) 0x85 ≡ true → j + 2 ≤ p
       two e f =
@@ -178,7 +179,7 @@ module _ (s : List ℕ) (i e : ℕ) where
   nothing_told = record { holds = λ t. absurd (false≢true t) }
 
   pub told_by_last_byte : (r : Bool) → i < e → RulesOut (may_be_whitespace (byte s (e - 1))) r → Tells (eqb (trim_end s i e) e) (not r)
-  told_by_last_byte r h f = record { holds = λ t. eq-eqb (trim_end s i e) e (nothing_behind h (f.none (not_true r t))) }
+  told_by_last_byte r h f = record { holds = λ t. eq-eqb (trim_end s i e) e (nothing_behind h (f.none (not-true r t))) }
 
   pub plain_end : (r : Bool) → Tells (eqb (trim_end s i e) e) r → r ≡ true → e ≡ trim_end s i e
   plain_end r f t = sym (eqb-true (trim_end s i e) e (f.holds t))

@@ -1,14 +1,7 @@
 // Ranges of texts: whether two are the same bytes, and whether a word stands at an offset.
 // A range is a text and two places in it, and a word stands at a place, as in the definitions; a range may end past its text, which no slice does.
-ghost use Rattle.std.specs.Prelude.{◌≡◌, ◌-◌, ◌≤◌, min, length};
+ghost use Rattle.std.specs.Prelude.{◌≡◌, ◌≤◌, length};
 ghost use Rattle.text.specs.Range.{part, same_bytes, same_range, lookahead_is};
-
-// How many bytes stand from a to before e in a text of n bytes.
-pub fn part_len(n: usize, a: usize, e: usize) -> usize
-    ensures { result ≡ min (e - a) (n - a) }
-{
-    e.saturating_sub(a).min(n.saturating_sub(a))
-}
 
 // The bytes of s from a to before e, as far as s has them.
 #[tactic(auto, using(crate::proofs::Ranges::cutting))]

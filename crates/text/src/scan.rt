@@ -1,8 +1,8 @@
 // Scanners: each walks once, forward or backward, and answers where it stops. Where it finds nothing that is the end, as in the definitions, and its
-// callers go on from there.
+// callers go on from there, or compare it with the end as the definitions do.
 // It takes a text and places in it: a part of the text would move each place that the definitions speak of. The places differ from call to call, so
 // what is asked of them stands at each and in no struct.
-// A `while` goes by blocks, or by steps that the text gives: a `for` would count them and make each place of a number.
+// A `while` goes by blocks, or by steps that the text gives, and hands out where it came to, which a `for` by steps does not.
 ghost use Rattle.std.specs.Prelude.{◌≡◌, cond, ◌+◌, ◌-◌, ◌≤◌, ◌<◌, eqb, length};
 ghost use Rattle.characters.specs.Class.{is_blank};
 ghost use Rattle.characters.specs.Shortcuts.{RulesOut, Tells};
@@ -40,6 +40,7 @@ pub fn parse_nl(s: &[u8], i: usize) -> usize
 }
 
 // Past the blanks at i.
+#[tactic(auto, using(characters::proofs::Asking::finds_first))]
 pub fn parse_spaces(s: &[u8], i: usize) -> usize
     requires { i ≤ length s.now }
     ensures { Between i (length s.now) (skip_blanks s.now i) result }
@@ -48,6 +49,7 @@ pub fn parse_spaces(s: &[u8], i: usize) -> usize
 }
 
 // The first line end from i to before e, or e. Most bytes start none.
+#[tactic(auto, using(characters::proofs::Asking::finds_first, crate::proofs::Blocks::may_end))]
 fn find_line_end(s: &[u8], i: usize, e: usize) -> usize
     requires { (i ≤ e) × (e ≤ length s.now) }
     ensures { Between i e (find_line_end s.now i e) result }
@@ -56,6 +58,7 @@ fn find_line_end(s: &[u8], i: usize, e: usize) -> usize
 }
 
 // Whether one of the 16 bytes from i on may start a line end.
+#[tactic(auto, using(characters::proofs::Asking::asks_rules_out, characters::proofs::Spaces::end_may_start))]
 fn block_may_end_line(s: &[u8], i: usize) -> bool
     requires { i + 16 ≤ length s.now }
     ensures { RulesOut (any (λ j. at_line_end s.now (i + j)) 16) result }
@@ -99,6 +102,7 @@ pub fn line_end(s: &[u8], i: usize) -> usize
 }
 
 // The first whitespace character from i to before e, or e.
+#[tactic(auto, using(characters::proofs::Asking::finds_first))]
 pub fn find_whitespace(s: &[u8], i: usize, e: usize) -> usize
     requires { (i ≤ e) × (e ≤ length s.now) }
     ensures { Between i e (find_whitespace s.now i e) result }
@@ -106,6 +110,7 @@ pub fn find_whitespace(s: &[u8], i: usize, e: usize) -> usize
     find(i, e, |k| matches_whitespace(s, k))
 }
 
+#[tactic(auto, using(characters::proofs::Asking::finds_first))]
 pub fn skip_ascii_whitespace(s: &[u8], i: usize, e: usize) -> usize
     requires { (i ≤ e) × (e ≤ length s.now) }
     ensures { Between i e (skip_ascii_whitespace s.now i e) result }
@@ -113,6 +118,7 @@ pub fn skip_ascii_whitespace(s: &[u8], i: usize, e: usize) -> usize
     find(i, e, |k| !is_ascii_whitespace(s[k]))
 }
 
+#[tactic(auto, using(characters::proofs::Asking::finds_first))]
 pub fn find_ascii_whitespace(s: &[u8], i: usize, e: usize) -> usize
     requires { (i ≤ e) × (e ≤ length s.now) }
     ensures { Between i e (find_ascii_whitespace s.now i e) result }
@@ -120,6 +126,7 @@ pub fn find_ascii_whitespace(s: &[u8], i: usize, e: usize) -> usize
     find(i, e, |k| is_ascii_whitespace(s[k]))
 }
 
+#[tactic(auto, using(characters::proofs::Asking::finds_first))]
 pub fn find_byte(s: &[u8], i: usize, e: usize, b: u8) -> usize
     requires { (i ≤ e) × (e ≤ length s.now) }
     ensures { Between i e (find_byte s.now i e b) result }
@@ -128,6 +135,7 @@ pub fn find_byte(s: &[u8], i: usize, e: usize, b: u8) -> usize
 }
 
 // Whether one of the n bytes from i on may be a blank.
+#[tactic(auto, using(characters::proofs::Asking::asks_rules_out))]
 fn may_have_blank(s: &[u8], i: usize, n: usize) -> bool
     requires { i + n ≤ length s.now }
     ensures { RulesOut (any (λ j. is_blank (byte s.now (i + j))) n) result }

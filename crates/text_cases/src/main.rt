@@ -100,6 +100,6 @@ fn show(rt: &impl Print, s: &[u8]) {
 
 fn main(rt: HostRuntime) {
     let mut buffer = [0u8; 4096];
-    let n = read_full(&mut rt.stdin(), &mut buffer);
-    show_texts(&buffer[..n], |text| show(&rt, text));
+    let texts = read_full(&mut rt.stdin(), &mut buffer);
+    show_texts(texts, 0, |text| show(&rt, text));
 }

@@ -2,7 +2,10 @@
 use mathlib.Core.Path.{◌≡◌, ap, ◌∙◌}
 use mathlib.Core.List.{List}
 use Prim.Native.Nat.{ℕ}
-use Rattle.parse.specs.Parse.{ParseAnswer, Left, left, parse_word}
+use Rattle.parse.specs.declared.FileCounts.{FileCounts}
+use Rattle.parse.specs.declared.ParseError.{ParseError}
+use Rattle.parse.specs.Parse.{Left, left, parse_word}
+use Rattle.parse.specs.Answers.{answered, counts_left}
 use Rattle.link.specs.Link.{LinkAnswer, LinkLeft, link_left, link_word}
 use Rattle.std.specs.Prelude.{Result}
 use Rattle.lines.specs.declared.Place.{Place}
@@ -13,9 +16,10 @@ use Rattle.run.specs.Run.{RunLeft, run_left, leaving}
 use Rattle.troymantle.specs.Words.{left_in_words, in_words}
 use Rattle.troymantle.specs.LinkWords.{link_in_words, in_link_words}
 
-pub word_left : (a : ParseAnswer) (r : ℕ) → r ≡ parse_word a → (n x1 x2 x3 x4 x5 x6 : List ℕ) (y : Left)
-    → left a n x1 x2 x3 x4 x5 x6 ≡ y → left_in_words r n x1 x2 x3 x4 x5 x6 ≡ in_words y
-word_left a r w n x1 x2 x3 x4 x5 x6 y e = ap (λ (k : ℕ). left_in_words k n x1 x2 x3 x4 x5 x6) w ∙ ap in_words e
+pub word_left : (a : Result FileCounts ParseError) (r : ℕ) → r ≡ parse_word (answered a) → (n : List ℕ) → n ≡ counts_left a
+    → (x1 x2 x3 x4 x5 x6 : List ℕ) (y : Left)
+    → left (answered a) (counts_left a) x1 x2 x3 x4 x5 x6 ≡ y → left_in_words r n x1 x2 x3 x4 x5 x6 ≡ in_words y
+word_left a r w n c x1 x2 x3 x4 x5 x6 y e = (λ i. left_in_words (w i) (c i) x1 x2 x3 x4 x5 x6) ∙ ap in_words e
 
 pub word_link_left : (a : LinkAnswer) (r : ℕ) → r ≡ link_word a → (x2 x7 x8 : List ℕ) (y : LinkLeft)
     → link_left a x2 x7 x8 ≡ y → link_in_words r x2 x7 x8 ≡ in_link_words y

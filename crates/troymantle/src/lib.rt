@@ -10,6 +10,7 @@ ghost use Rattle.troymantle.specs.Words.{in_words};
 ghost use Rattle.troymantle.specs.Phrases.{words_left_in};
 
 use parse::call::parse;
+use parse::counts_left;
 use words::Word;
 
 pub mod linking;
@@ -34,8 +35,9 @@ pub fn troymantle_parse(
     ensures { words_left_in result counts area1 area2 area3 area4 area5 area6
         ≡ in_words (parse_call (asked src.now flags verdicts.now) (room_in area1 area2 area3 area4 area5 area6)) }
 {
-    Word::from(parse(
-        src, flags, verdicts, counts, area1, area2, area3, area4, area5, area6,
-    ))
-    .0
+    let answer = parse(
+        src, flags, verdicts, area1, area2, area3, area4, area5, area6,
+    );
+    *counts = counts_left(answer);
+    Word::from(answer).0
 }

@@ -55,5 +55,5 @@ pub fn troymantle_pattern_test(
         expected: area5,
         counts,
     };
-    pattern_test(sheet, rule)
+    Word::of(pattern_test(sheet, rule)).0
 }

@@ -7,7 +7,7 @@ use native.Mathlib.Omega.{arith}
 use borrow.Author.Tests.{le-leb, leb-true, eq-eqb, ne_eqb, eqb-true}
 use lib.Dec.{eqb, leb}
 use lib.ListN.{length}
-use Rattle.characters.proofs.Tests.{and_left, and_right}
+use Rattle.std.proofs.lemmas.Bool.{and_parts}
 use Rattle.area.specs.Records.{entry_at, entry_width}
 use Rattle.area.specs.Contents.{contents, entry_format}
 use Rattle.area.specs.Lists.{all}
@@ -41,11 +41,11 @@ module _ (test : ℕ → Bool) (rules : ℕ) (row : List ℕ) where
   -- a row that fits
   pub row_long : good_row test rules row ≡ true → length row ≡ rules * entry_width
   unfolding good_row
-  row_long e = eqb-true (length row) (rules * entry_width) (and_left (eqb (length row) (rules * entry_width)) lengths_pass e)
+  row_long e = eqb-true (length row) (rules * entry_width) (and_parts (eqb (length row) (rules * entry_width)) lengths_pass e).0
 
   pub row-length : good_row test rules row ≡ true → (k : ℕ) → k < rules → test (entry_at row k) ≡ true
   unfolding good_row
-  row-length e = length_passes (and_right (eqb (length row) (rules * entry_width)) lengths_pass e)
+  row-length e = length_passes (and_parts (eqb (length row) (rules * entry_width)) lengths_pass e).1
 
   pub row_good : length row ≡ rules * entry_width → ((k : ℕ) → k < rules → test (entry_at row k) ≡ true) → good_row test rules row ≡ true
   unfolding good_row

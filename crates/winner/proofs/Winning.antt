@@ -7,7 +7,6 @@ use mathlib.Core.Logic.{◌⊎◌, inl, inr}
 use Prim.Native.Nat.{ℕ, zero, suc, ◌+◌, ◌*◌, ◌≤◌, ◌<◌, max}
 use native.Mathlib.Numerals.{add-one}
 use native.Mathlib.Omega.{arith}
-use borrow.Author.Rules.{rules}
 use borrow.Author.Tests.{le-ltb, ltb-true, ltb-false, eq-eqb, ne_eqb, eqb-true, eqb-false}
 use lib.Dec.{eqb, ltb}
 use lib.ListN.{length, get_or}
@@ -18,14 +17,13 @@ use Rattle.characters.proofs.Tests.{le_or_lt}
 use Rattle.characters.proofs.Walks.{first_none, first_to}
 use Rattle.area.specs.declared.State.{State}
 use Rattle.area.specs.declared.Rule.{Rule}
-use Rattle.area.specs.Records.{entry_width, rule_at, nth_state, nth_rule, nth_entry}
+use Rattle.area.specs.Records.{entry_width, nth_state, nth_rule, nth_entry}
 use Rattle.area.specs.Asked.{FirstFound}
-use Rattle.area.specs.Contents.{contents, rule_format, entry_format}
+use Rattle.area.specs.Contents.{contents, entry_format}
 use Rattle.area.proofs.Contents.{contents_count, contents_read}
 use Rattle.winner.specs.declared.Best.{Best}
 use Rattle.winner.specs.declared.Row.{Row}
 use Rattle.winner.specs.Winner.{Lexer, find_in_list, list_end, in_list, live, length_in, weight, greatest, earliest, best, better, first_with}
-use Rattle.winner.specs.Phrases.{Readable, ListsInside}
 use Rattle.characters.proofs.Firsts.{first_passes, first_before, first_low, first_only}
 
 -- ---- a rule that is live
@@ -247,16 +245,3 @@ module _ (x : Lexer) (state : ℕ) (row : List ℕ) where
       same false differs =
           let z : ltb b.length 0 ≡ false = le-ltb b.length 0 (omega arith) in
           rw z refl
-
--- ---- a lexer that is lent
-
--- what areas hold that are long enough, with the list of each rule inside the entries
-pub lists_inside : {l1 l2 l3 : List ℕ} {states rules entries : ℕ} → Readable l1 l2 l3 states rules entries
-    → ListsInside (contents rule_format l2 rules) (contents entry_format l3 entries)
-lists_inside {l2 = l2} {l3 = l3} {rules = rules} {entries = entries} g = record {
-  each = λ k h.
-      let inside : k < rules = omega (arith, contents_count rule_format l2 rules, h) in
-      let z : list_end (rule_at l2 k) ≤ entries = g.lists k inside in
-      subst (λ (y : Rule). list_end y ≤ length (contents entry_format l3 entries)) (sym (contents_read rule_format l2 rules k inside))
-      (omega (arith, z, contents_count entry_format l3 entries));
-}

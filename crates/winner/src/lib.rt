@@ -6,13 +6,14 @@ ghost use Rattle.area.specs.Contents.{contents, entry_format};
 ghost use Rattle.area.specs.Records.{entry_width, nth_rule};
 ghost use Rattle.characters.specs.Walk.{Below};
 ghost use Rattle.winner.specs.Winner.{Lexer, live, length_in, weight, greatest, best, better, first_with};
-ghost use Rattle.winner.specs.Phrases.{lexer_in, Readable, winning};
+ghost use Rattle.winner.specs.Phrases.{lexer, ListsInside, winning};
 
 use area::list::Records;
-use area::{ENTRY_WIDTH, Rule, State};
+use area::{Record, Rule, State};
 use std::marker::Model;
 
-// The greatest length among live rules, and the first rule that has it.
+// The greatest length among live rules, and the first rule that has it. At length 0 no rule wins, as in the definition `best`; `winner` answers an
+// Option.
 #[derive(Clone, Copy)]
 pub struct Best {
     pub length: u16,
@@ -47,6 +48,9 @@ pub fn greatest_length(row: &[u8], rules: u16) -> u16
 }
 
 impl<'a> Row<'a> {
+    ghost use Rattle.std.specs.Prelude.{leb};
+    ghost use Rattle.winner.specs.Top.{RowTopIs};
+
     pub fn new(bytes: &'a [u8], rules: u16) -> Row<'a>
         requires { rules * entry_width ≤ length bytes.now }
         ensures { (result.bytes.now ≡ bytes.now) × (result.rules ≡ rules) }
@@ -63,17 +67,12 @@ impl<'a> Row<'a> {
     {
         Records::new(self.bytes, self.rules)
     }
-}
-
-impl<'a> Row<'a> {
-    ghost use Rattle.std.specs.Prelude.{leb};
-    ghost use Rattle.winner.specs.Top.{RowTopIs};
 
     // The row, where it fits: it has a length for each rule, and every length is at most what is left where the greatest is.
     pub fn fitting(bytes: &'a [u8], rules: u16, left: u16) -> Option<Row<'a>>
         ensures { RowTopIs (λ l. leb l left) rules bytes.now result }
     {
-        if bytes.len() != rules as usize * ENTRY_WIDTH {
+        if bytes.len() != rules as usize * u16::WIDTH {
             return None;
         }
         let row = Row::new(bytes, rules);
@@ -109,22 +108,18 @@ impl<'a> Model for LentLexer<'a> {
 // That a state or a rule is one of the lexer's, and that a row has a length for each rule, are facts of two values, which no field of one has:
 // so each contract asks for them.
 impl<'a> LentLexer<'a> {
-    // The areas and counts of a sheet, as the C interface has them.
     pub fn new(
-        area1: &'a [u8],
-        area2: &'a [u8],
-        area3: &'a [u8],
-        states: u16,
-        rules: u16,
-        entries: u16,
+        states: Records<'a, State>,
+        rules: Records<'a, Rule>,
+        entries: Records<'a, u16>,
     ) -> LentLexer<'a>
-        requires { Readable area1.now area2.now area3.now states rules entries }
-        ensures { result ≡ lexer_in area1.now area2.now area3.now states rules entries }
+        requires { ListsInside rules entries }
+        ensures { result ≡ lexer states.entry rules.entry entries.entry }
     {
         LentLexer {
-            states: Records::new(area1, states),
-            rules: Records::new(area2, rules),
-            entries: Records::new(area3, entries),
+            states,
+            rules,
+            entries,
         }
     }
 
@@ -158,13 +153,11 @@ impl<'a> LentLexer<'a> {
         requires { (state < length self.now.states) × (k < length self.now.rules) }
         ensures { result ≡ better b k (cond (live self.now.states self.now.lists state (nth_rule self.now.rules k)) bytes 0) }
     {
-        if b.length < bytes {
-            if self.is_live(state, k) {
-                return Best {
-                    length: bytes,
-                    rule: k,
-                };
-            }
+        if b.length < bytes && self.is_live(state, k) {
+            return Best {
+                length: bytes,
+                rule: k,
+            };
         }
         b
     }

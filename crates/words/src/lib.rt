@@ -5,6 +5,7 @@ ghost use Rattle.std.specs.Prelude.{◌≡◌};
 ghost use Rattle.answers.specs.Numbers.{number_of};
 ghost use Rattle.answers.specs.Words.{fields, word};
 ghost use Rattle.parse.specs.Parse.{parse_word};
+ghost use Rattle.parse.specs.Answers.{answered};
 ghost use Rattle.sheet_check.specs.Pattern.{pattern_word};
 ghost use Rattle.link.specs.Link.{link_word};
 ghost use Rattle.run.specs.Run.{start_word, step_word};
@@ -12,11 +13,11 @@ ghost use Rattle.lines.specs.Lines.{refusal_fields, line_column_word, offset_wor
 ghost use Rattle.lines.specs.Places.{SmallOffset};
 
 use answers::Number;
+use area::RuleText;
 use lines::{Byte, Place, PlaceError};
 use link::{LinkError, Linked};
-use parse::ParseError;
+use parse::{FileCounts, ParseError};
 use run::{StartRefused, Step, StepError};
-use sheet_check::Part;
 
 // An answer as one word.
 #[derive(Clone, Copy, PartialEq, Eq, Debug)]
@@ -44,14 +45,14 @@ impl Word {
 }
 
 // The word of a parse's answer.
-impl From<Result<(), ParseError>> for Word {
-    ghost from_gives = { λ answer word. word.0 ≡ parse_word answer };
+impl From<Result<FileCounts, ParseError>> for Word {
+    ghost from_gives = { λ answer word. word.0 ≡ parse_word (answered answer) };
 
     #[tactic(auto, unfolding(parse::specs::Parse::parse_fields))]
-    fn from(answer: Result<(), ParseError>) -> Word {
+    fn from(answer: Result<FileCounts, ParseError>) -> Word {
         match answer {
             Ok(_) => Word::of(Number::Accepted),
-            Err(ParseError::AreaFull(n)) => Word::new(Number::AreaFull, n, 0, 0),
+            Err(ParseError::AreaFull(name)) => Word::new(Number::AreaFull, name.into(), 0, 0),
             Err(ParseError::FaultyFile(n)) => Word::new(Number::FaultyFile, n, 0, 0),
             Err(error) => Word::of(error.into()),
         }
@@ -59,11 +60,11 @@ impl From<Result<(), ParseError>> for Word {
 }
 
 // That of where a pattern stands.
-impl From<Option<Part>> for Word {
+impl From<Option<RuleText>> for Word {
     ghost from_gives = { λ part word. word.0 ≡ pattern_word part };
 
     #[tactic(auto, unfolding(sheet_check::specs::Pattern::pattern_fields))]
-    fn from(part: Option<Part>) -> Word {
+    fn from(part: Option<RuleText>) -> Word {
         match part {
             Some(x) => Word::new(Number::Accepted, x.place, x.from, x.length),
             None => Word::of(Number::BrokenSheet),
@@ -84,7 +85,7 @@ impl From<Result<Linked, LinkError>> for Word {
                 linked.unused_count,
                 0,
             ),
-            Err(LinkError::AreaFull(area)) => Word::new(Number::AreaFull, area.number(), 0, 0),
+            Err(LinkError::AreaFull(area)) => Word::new(Number::AreaFull, u16::from(area), 0, 0),
             Err(error) => Word::of(error.into()),
         }
     }

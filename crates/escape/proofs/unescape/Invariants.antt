@@ -9,4 +9,4 @@ abbrev pub invariant-loop-e : goal.invariant-loop-e
 invariant-loop-e l =
     (goal.iterator-loop-e).can_next l.e-iterator × (goal.iterator-loop-e).is_finite l.e-iterator
     × (escapes l.e-iterator.pattern.source.now l.e-iterator.at l.e-iterator.pattern.end ≡ escapes l.src l.p l.c) × (l.p ≤ l.c)
-    × Writing (unescaped l.src l.flags l.i l.c) l.initial.area l.n (unescaped l.src l.flags l.p l.c) l.area l.count
+    × Writing (unescaped l.src l.posix_escapes l.i l.c) l.initial.area l.n (unescaped l.src l.posix_escapes l.p l.c) l.area l.count

@@ -5,4 +5,6 @@ use Rattle.fault.proofs.Spans.{fault_added}
 use Rattle.fault.proofs.add_fault.Goals as goal
 
 pub returns : goal.returns
-returns c = rw (← c.from-code.ensures) (fault_added c.requires _ _ (c.next_number-number.ensures ∙ ap next_number c.new.ensures) _ _ _ _ c.push.ensures)
+returns c =
+    rw (← c.from.ensures)
+    (fault_added c.requires _ _ (c.next_number-number.ensures ∙ ap next_number c.new.ensures) _ _ _ _ (rw c.fault_of.ensures at c.push.ensures))

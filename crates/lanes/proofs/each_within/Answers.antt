@@ -5,4 +5,4 @@ use Rattle.lanes.proofs.each_within.Goals as goal
 
 pub loop-j-preserved : goal.loop-j-preserved
 loop-j-preserved c =
-    λ e. entries_to _ _ _ _ _ (omega arith) (excess_next _ _ _ _ _ _ _ c.loop-j.invariant c.read.ensures c.saturating_sub-excess.ensures e)
+    λ e. entries_to _ _ _ _ _ (omega arith) (excess_next _ _ _ _ _ _ _ c.loop-j.invariant c.get.ensures c.saturating_sub-excess.ensures e)

@@ -4,4 +4,4 @@ use Rattle.lanes.specs.Lanes.{EntriesWithin}
 use Rattle.lanes.proofs.each_within.Given as goal
 
 abbrev pub invariant-loop-j : goal.invariant-loop-j
-invariant-loop-j l = l.excess ≡ 0 → EntriesWithin l.area l.from (l.from + l.j) l.highest
+invariant-loop-j l = l.excess ≡ 0 → EntriesWithin l.entries l.from (l.from + l.j) l.highest

@@ -4,4 +4,4 @@ use Rattle.lanes.specs.Lanes.{lane_count, EntriesWithin}
 use Rattle.lanes.proofs.entries_within.Given as goal
 
 abbrev pub invariant-loop-k : goal.invariant-loop-k
-invariant-loop-k l = EntriesWithin l.area 0 (l.k * lane_count) l.highest
+invariant-loop-k l = EntriesWithin l.entries 0 (l.k * lane_count) l.highest

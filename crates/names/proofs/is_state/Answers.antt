@@ -1,6 +1,6 @@
--- `names::is_state` meets its contract: the name of state 0, or the span of another's.
-use Rattle.names.proofs.Finds.{state_other}
+-- `names::is_state` meets its contract: the name of state 0, or the span of another's. `auto` with these laws does not close the latter (tried).
+use Rattle.names.proofs.Finds.{comparing_names}
 use Rattle.names.proofs.is_state.Goals as goal
 
 pub returns : goal.returns
-returns c xs is = state_other _ _ _ _ _ c.args.x c.if-j-eq0.false c.same_range-2.ensures xs is
+returns c = search comparing_names

@@ -3,6 +3,7 @@
 use Prim.Native.Nat.{ℕ}
 use lib.ListN.{length-replicate}
 use Rattle.std.proofs.Common.{ap₂, ◌∙◌, List}
+use Rattle.parse.specs.Answers.{answered, counts_left}
 use Rattle.output.specs.Output.{appended}
 use Rattle.sheet_print.proofs.Answering.{sheet_written}
 use Rattle.sheet_print.proofs.Lengths.{all_appended}
@@ -12,7 +13,7 @@ pub returns : goal.returns
 returns g c =
     let src = c.args.src.now in
     let call = c.parse-answer in
-    let printed = sheet_written src call.result _ _ _ _ _ _ _ _ _ _ _ _ _
+    let printed = sheet_written src (answered call.result) (counts_left call.result) _ _ _ _ _ _ _ _ _ _ _ _
     call.ensures
     (length-replicate {A = ℕ} 384 0)
     (length-replicate {A = ℕ} 57344 0)

@@ -2,12 +2,12 @@
 use Prim.Native.Nat.{◌-◌}
 use lib.ListN.{length}
 use Rattle.area.specs.Contents.{expected_format, contents}
-use Rattle.declarations.specs.Declarations.{range, expected_names}
+use Rattle.declarations.specs.Declarations.{expected_names}
 use Rattle.declarations.proofs.Expecting.{Expects}
 use Rattle.declarations.proofs.missing.expected_names.Given as goal
 
 abbrev pub invariant-loop-a : goal.invariant-loop-a
-invariant-loop-a l = Expects (expected_names l.file.source.now (length l.initial.area) (range l.line.start l.line.end) l.w (contents expected_format l.initial.area l.initial.count)) l.file.source.now (length l.initial.area) l.line.start l.line.end l.a l.area l.count
+invariant-loop-a l = Expects (expected_names l.at.file.source.now (length l.initial.area) l.at.line l.w (contents expected_format l.initial.area l.initial.count)) l.at.file.source.now (length l.initial.area) l.at.line l.a l.area l.count
 
 abbrev pub decreases-loop-a : goal.decreases-loop-a
-decreases-loop-a l = l.line.end - l.a
+decreases-loop-a l = l.at.line.end - l.a

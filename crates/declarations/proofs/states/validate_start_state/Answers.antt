@@ -4,4 +4,6 @@ use Rattle.declarations.proofs.states.validate_start_state.Goals as goal
 
 pub returns : goal.returns
 returns c =
-    known _ _ _ _ _ c.validate_start_state_name.ensures c.if-not-validate_start_state_name.false c.get_start_state_by_name.ensures c.get-x.result c.in-Some.is c.get-x.ensures
+    rw c.into.ensures
+    (known _ _ _ _ _ c.validate_start_state_name.ensures c.if-not-validate_start_state_name.false c.get_start_state_by_name.ensures
+    c.get.result c.in-Some.is c.get.ensures)

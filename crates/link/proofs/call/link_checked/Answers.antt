@@ -15,38 +15,37 @@ use Rattle.link.specs.Link.{unused, unlinked, fits}
 use Rattle.link.specs.Matches.{EntriesFound, Matched, unmarked}
 use Rattle.link.specs.Phrases.{rules_in}
 use Rattle.link.proofs.Outcomes.{room_left, short_7, short_8, none_short, unlinked_left, all_written}
-use Rattle.link.proofs.call.link_checked.Goals.{After-match_rules-unmapped_count}
+use Rattle.link.proofs.call.link_checked.Goals.{After-match_rules-matches}
 use Rattle.link.proofs.call.link_checked.Goals as goal
 
 -- what was found and marked, said of the rules of area 2
-matched : (c : After-match_rules-unmapped_count)
+matched : (c : After-match_rules-matches)
     → Matched (name_of c.args.src.now) (map_in c.args.index.now.map) (rules_in c.args.area2.now c.args.rules)
-    c.match_rules-unmapped_count.result c.match_rules-unmapped_count.new.found c.match_rules-unmapped_count.new.used
+    c.match_rules-matches.result
 matched c =
-    let left = c.match_rules-unmapped_count in
-    subst (λ (xs : List Rule). Matched (name_of c.args.src.now) (map_in c.args.index.now.map) xs left.result left.new.found left.new.used)
-    c.new-lent.ensures left.ensures
+    let matches = c.match_rules-matches in
+    subst (λ (xs : List Rule). Matched (name_of c.args.src.now) (map_in c.args.index.now.map) xs matches.result) c.new-lent.ensures matches.ensures
 
 -- the numbers that are written to area 8
-idle : (c : After-match_rules-unmapped_count)
-    → unmarked c.match_rules-unmapped_count.new.used c.count-entries.result
+idle : (c : After-match_rules-matches)
+    → unmarked c.match_rules-matches.result.used c.count-entries.result
     ≡ unused (name_of c.args.src.now) (map_in c.args.index.now.map) (rules_in c.args.area2.now c.args.rules)
 idle c =
     let map = c.args.index.now.map in
-    ap (unmarked c.match_rules-unmapped_count.new.used) (c.count-entries.ensures ∙ sym (named_count map.names.now map.entries)) ∙ (matched c).without_mark
+    ap (unmarked c.match_rules-matches.result.used) (c.count-entries.ensures ∙ sym (named_count map.names.now map.entries)) ∙ (matched c).without_mark
 
 -- the rules that were found, by the number of rules
-kept : (c : After-match_rules-unmapped_count)
+kept : (c : After-match_rules-matches)
     → EntriesFound (name_of c.args.src.now) (map_in c.args.index.now.map) (rules_in c.args.area2.now c.args.rules) c.args.rules
-    c.match_rules-unmapped_count.new.found
+    c.match_rules-matches.result.found
 kept c =
-    subst (λ n. EntriesFound (name_of c.args.src.now) (map_in c.args.index.now.map) (rules_in c.args.area2.now c.args.rules) n c.match_rules-unmapped_count.new.found)
+    subst (λ n. EntriesFound (name_of c.args.src.now) (map_in c.args.index.now.map) (rules_in c.args.area2.now c.args.rules) n c.match_rules-matches.result.found)
     (contents_count rule_format c.args.area2.now c.args.rules) (matched c).kept
 
 pub returns-in_err-check_room : goal.returns-in_err-check_room
 returns-in_err-check_room c =
     let a = c.args in
-    let m = matched (goal.at.returns-in_err-check_room c).After-match_rules-unmapped_count in
+    let m = matched (goal.at.returns-in_err-check_room c).After-match_rules-matches in
     let p = err_from_is_err_and c.from_residual.result c.from_residual.ensures.1 in
     let short = short_7 (name_of a.src.now) (rules_in a.area2.now a.rules) (map_in a.index.now.map) a.area2.now a.area7.now a.area8.now
     _ m.missing _ (sym c.in_err-check_room.was ∙ c.check_room.ensures) in
@@ -55,16 +54,16 @@ returns-in_err-check_room c =
 pub returns-in_err-check_room-2 : goal.returns-in_err-check_room-2
 returns-in_err-check_room-2 c =
     let a = c.args in
-    let m = matched (goal.at.returns-in_err-check_room-2 c).After-match_rules-unmapped_count in
+    let m = matched (goal.at.returns-in_err-check_room-2 c).After-match_rules-matches in
     let p = err_from_is_err_and c.from_residual-in_err-check_room-2.result c.from_residual-in_err-check_room-2.ensures.1 in
-    let free = c.count_unused-unused_count.ensures ∙ ap length (idle (goal.at.returns-in_err-check_room-2 c).After-match_rules-unmapped_count) in
+    let free = c.count_unused-unused_count.ensures ∙ ap length (idle (goal.at.returns-in_err-check_room-2 c).After-match_rules-matches) in
     let short = short_8 (name_of a.src.now) (rules_in a.area2.now a.rules) (map_in a.index.now.map) a.area2.now a.area7.now a.area8.now
     _ m.missing _ (sym c.in_ok-check_room.was ∙ c.check_room.ensures)
     _ free _ (sym c.in_err-check_room-2.was ∙ c.check_room-2.ensures) in
     rw (p.1, p.2) short
 
-pub match_rules-unmapped_count-requires-clause-rules_le_most_rules : goal.match_rules-unmapped_count-requires-clause-rules_le_most_rules
-match_rules-unmapped_count-requires-clause-rules_le_most_rules c =
+pub match_rules-matches-requires : goal.match_rules-matches-requires
+match_rules-matches-requires c =
     omega (arith, ap length c.new-lent.ensures, contents_count rule_format c.args.area2.now c.args.rules, c.requires.0)
 
 pub write_unlinked-requires-clause-rules_le_most_rules : goal.write_unlinked-requires-clause-rules_le_most_rules
@@ -76,12 +75,12 @@ write_unused-requires-clause-room c =
     room_left _ _ _ Unused c.count_unused-unused_count.ensures _ (sym c.in_ok-check_room-2.was ∙ c.check_room-2.ensures)
 
 pub link_rules-requires-clause-found_inside : goal.link_rules-requires-clause-found_inside
-link_rules-requires-clause-found_inside c = (matched (goal.at.link_rules-requires-clause-found_inside c).After-match_rules-unmapped_count).inside
+link_rules-requires-clause-found_inside c = (matched (goal.at.link_rules-requires-clause-found_inside c).After-match_rules-matches).inside
 
 pub write_unlinked-requires-clause-room : goal.write_unlinked-requires-clause-room
 write_unlinked-requires-clause-room c =
     let a = c.args in
-    let first = (goal.at.write_unlinked-requires-clause-room c).After-match_rules-unmapped_count in
+    let first = (goal.at.write_unlinked-requires-clause-room c).After-match_rules-matches in
     let linked = c.link_rules.ensures (name_of a.src.now) (kept first) in
     let left = ap unlinked c.new-linked.ensures ∙ unlinked_left (name_of a.src.now) (map_in a.index.now.map) a.area2.now a.rules _ linked in
     ap (λ ns. fits ns a.area7.now) left
@@ -90,7 +89,7 @@ write_unlinked-requires-clause-room c =
 pub returns : goal.returns
 returns c =
     let a = c.args in
-    let first = (goal.at.returns c).After-match_rules-unmapped_count in
+    let first = (goal.at.returns c).After-match_rules-matches in
     let m = matched first in
     let linked = c.link_rules.ensures (name_of a.src.now) (kept first) in
     let free = c.count_unused-unused_count.ensures ∙ ap length (idle first) in

@@ -1,6 +1,7 @@
 -- `link::call::set_rule_ids_spanned` meets its contract: the sheet check, the map check, and the link of what passed both.
 use Rattle.std.specs.Prelude.{is_some}
-use mathlib.Core.Path.{sym, ap, ◌∙◌}
+use mathlib.Core.Path.{◌≡◌, sym, ap, ◌∙◌}
+use Rattle.sheet_check.specs.declared.Sizes.{Sizes}
 use Rattle.sheet_check.specs.SheetCheck.{sheet_bytes}
 use Rattle.link.proofs.Outcomes.{call_sheet, call_map, call_rules, call_linked}
 use Rattle.link.proofs.call.set_rule_ids_spanned.Goals as goal
@@ -20,14 +21,18 @@ returns-in_default c =
 pub invariant_of-index : goal.invariant_of-index
 invariant_of-index c = record { index = c.check_map.ensures.index _ c.in-Some.is }
 
+-- the sheet's number of rules is its second count
+counted : {q z : Sizes} → q ≡ z → q.rules ≡ z.rules
+counted e = ap (λ (x : Sizes). x.rules) e
+
 pub link_checked-requires : goal.link_checked-requires
 link_checked-requires c =
     let lent = sheet_bytes c.args.src.now c.args.area1.now c.args.area2.now c.args.area3.now c.args.area4.now c.args.area5.now c.args.counts.now in
-    call_rules lent _ c.check.ensures c.if-not-check.false
+    rw (counted c.sizes-rules.ensures) (call_rules lent _ c.check.ensures c.if-not-check.false)
 
 pub returns : goal.returns
 returns c =
     let lent = sheet_bytes c.args.src.now c.args.area1.now c.args.area2.now c.args.area3.now c.args.area4.now c.args.area5.now c.args.counts.now in
-    c.link_checked.ensures
+    rw (counted c.sizes-rules.ensures) at c.link_checked.ensures
     ∙ call_linked lent c.args.names.now c.args.entries.now c.args.area7.now c.args.area8.now
     _ c.check.ensures c.if-not-check.false (sym (ap is_some c.in-Some.is) ∙ c.check_map.ensures.is) _ (c.check_map.ensures.map _ c.in-Some.is)

@@ -9,19 +9,19 @@ use Rattle.link.proofs.matches.match_rules.Goals.{In-Some}
 use Rattle.link.proofs.matches.match_rules.Goals as goal
 
 pub loop-k-init : goal.loop-k-init
-loop-k-init c = (omega arith, matching_none _ _ _ _ _ c.requires.found_value c.requires.used_value)
+loop-k-init c = (omega arith, matching_none _ _ _)
 
-pub loop-k-preserved-then-x-ne1 : goal.loop-k-preserved-then-x-ne1
-loop-k-preserved-then-x-ne1 c = (
+pub loop-k-preserved-then-not-is_named : goal.loop-k-preserved-then-not-is_named
+loop-k-preserved-then-not-is_named c = (
   omega arith,
-  matching_unnamed _ _ _ c.loop-k.invariant.1 (omega (arith, c.loop-k-test.true, c.count-k-end.ensures)) _ c.get-x.ensures c.if-x-ne1.true,
+  matching_unnamed _ _ _ c.loop-k.invariant.1 (omega (arith, c.loop-k-test.true, c.count-k-end.ensures)) _ c.get-x.ensures (sym c.is_named.ensures ∙ c.if-not-is_named.true),
 )
 
 pub loop-k-preserved-in_default : goal.loop-k-preserved-in_default
 loop-k-preserved-in_default c = (
   omega arith,
   matching_missing _ _ _ c.loop-k.invariant.1 (omega (arith, c.loop-k-test.true, c.count-k-end.ensures)) _ c.get-x.ensures c.args.index.now.index.different
-      c.if-x-ne1.false (sym c.in_default.is ∙ c.entry_of.ensures),
+      (sym c.is_named.ensures ∙ c.if-not-is_named.false) (sym c.in_default.is ∙ c.entry_of.ensures),
 )
 
 -- the entry that was found is one of the map
@@ -31,18 +31,18 @@ inside c =
     let at = some_found _ _ _ (sym c.in-Some.is ∙ c.entry_of.ensures) in
     omega (arith, at.0, named_count map.names.now map.entries, map.few)
 
-pub overflow_cast-found : goal.overflow_cast-found
-overflow_cast-found c = record { fits = omega (arith, inside (goal.at.overflow_cast-found c).In-Some) }
+pub overflow_cast-matches : goal.overflow_cast-matches
+overflow_cast-matches c = record { fits = omega (arith, inside (goal.at.overflow_cast-matches c).In-Some) }
 
-pub bounds-used-j : goal.bounds-used-j
-bounds-used-j c = omega (arith, inside (goal.at.bounds-used-j c).In-Some)
+pub bounds-matches-j : goal.bounds-matches-j
+bounds-matches-j c = omega (arith, inside (goal.at.bounds-matches-j c).In-Some)
 
 pub loop-k-preserved : goal.loop-k-preserved
 loop-k-preserved c = (
   omega arith,
   matching_found _ _ _ c.loop-k.invariant.1 (omega (arith, c.loop-k-test.true, c.count-k-end.ensures)) _ c.get-x.ensures c.args.index.now.index.different
-      c.if-x-ne1.false _ (sym c.in-Some.is ∙ c.entry_of.ensures)
-      (omega (arith, c.loop-k-test.true, c.count-k-end.ensures, c.requires.rules_le_most_rules)) (omega (arith, inside (goal.at.loop-k-preserved c).In-Some)),
+      (sym c.is_named.ensures ∙ c.if-not-is_named.false) _ (sym c.in-Some.is ∙ c.entry_of.ensures)
+      (omega (arith, c.loop-k-test.true, c.count-k-end.ensures, c.requires)) (omega (arith, inside (goal.at.loop-k-preserved c).In-Some)),
 )
 
 pub returns : goal.returns

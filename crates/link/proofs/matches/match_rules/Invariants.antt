@@ -6,4 +6,4 @@ use Rattle.link.proofs.Matching.{Matching}
 use Rattle.link.proofs.matches.match_rules.Given as goal
 
 abbrev pub invariant-loop-k : goal.invariant-loop-k
-invariant-loop-k l = (l.n ≤ l.k) × Matching (name_of l.src) (map_in l.index.map) l.rules l.k l.n l.found l.used
+invariant-loop-k l = (l.matches.unmapped_count ≤ l.k) × Matching (name_of l.src) (map_in l.index.map) l.rules l.k l.matches

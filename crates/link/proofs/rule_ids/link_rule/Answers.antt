@@ -7,16 +7,16 @@ use Rattle.link.specs.Matches.{found_id}
 use Rattle.link.proofs.LinkedRules.{link_unnamed, link_named}
 use Rattle.link.proofs.rule_ids.link_rule.Goals as goal
 
-pub returns-then-x-ne1 : goal.returns-then-x-ne1
-returns-then-x-ne1 c = link_unnamed _ _ _ c.if-x-ne1.true
+pub returns-then-not-is_named : goal.returns-then-not-is_named
+returns-then-not-is_named c = link_unnamed _ _ _ (sym c.is_named.ensures ∙ c.if-not-is_named.true)
 
 pub returns-in-Some : goal.returns-in-Some
 returns-in-Some c =
     let map = c.args.map.now in
     let id = id_read map.names.now map.entries c.in-Some.j _ c.get.ensures (c.requires c.in-Some.j c.in-Some.is) in
-    link_named (map_in map) c.args.found _ c.if-x-ne1.false (Some c.get.result.id) (id ∙ ap (found_id (map_in map)) (sym c.in-Some.is)) _ c.with_id.ensures
+    link_named (map_in map) c.args.found _ (sym c.is_named.ensures ∙ c.if-not-is_named.false) (Some c.get.result.id) (id ∙ ap (found_id (map_in map)) (sym c.in-Some.is)) _ c.with_id.ensures
 
 pub returns-in-None : goal.returns-in-None
 returns-in-None c =
     let es = map_in c.args.map.now in
-    link_named es c.args.found _ c.if-x-ne1.false None (ap (found_id es) (sym c.in-None.is)) _ c.with_id-in-None.ensures
+    link_named es c.args.found _ (sym c.is_named.ensures ∙ c.if-not-is_named.false) None (ap (found_id es) (sym c.in-None.is)) _ c.with_id-in-None.ensures

@@ -5,18 +5,18 @@ use Rattle.name_map.proofs.Maps.{named_count}
 use Rattle.link.proofs.LinkedRules.{rules_none, rules_next, rules_all}
 use Rattle.link.proofs.rule_ids.link_rules.Goals as goal
 
-pub loop-k-init : goal.loop-k-init
-loop-k-init c = λ name found. rules_none name _ _
+pub loop-at-init : goal.loop-at-init
+loop-at-init c = λ name found. rules_none name _ _
 
 pub link_rule-requires : goal.link_rule-requires
 link_rule-requires c = λ j is.
     let map = c.args.map.now in
     omega (arith, c.requires.found_inside.each _ j is, named_count map.names.now map.entries)
 
-pub loop-k-preserved : goal.loop-k-preserved
-loop-k-preserved c = λ name found.
-    rules_next name (map_in c.args.map.now) c.args.area.now c.loop-k.k c.args.count _ (c.loop-k.invariant name found) c.loop-k-test.true
-    c.args.found.now found _ c.read-x.ensures (omega (arith, c.requires.count_le_most_rules.1, c.loop-k.auto.area)) _ _ c.link_rule.ensures c.write.ensures
+pub loop-at-preserved : goal.loop-at-preserved
+loop-at-preserved c = λ name found.
+    rules_next name (map_in c.args.map.now) c.args.area.now c.loop-at.at c.args.count _ (c.loop-at.invariant name found) c.loop-at-test.true
+    c.args.found.now found _ c.read-x.ensures (omega (arith, c.requires.count_le_most_rules.1, c.loop-at.auto.area)) _ _ c.link_rule.ensures c.write.ensures
 
 pub returns : goal.returns
-returns c = λ name found. rules_all name _ _ _ _ _ (c.loop-k.invariant name found) (omega arith) (omega arith)
+returns c = λ name found. rules_all name _ _ _ _ _ (c.loop-at.invariant name found) (omega arith) (omega arith)

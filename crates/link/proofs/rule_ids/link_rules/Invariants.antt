@@ -7,7 +7,7 @@ use Rattle.link.specs.Phrases.{rules_in}
 use Rattle.link.proofs.LinkedRules.{linked_to}
 use Rattle.link.proofs.rule_ids.link_rules.Given as goal
 
-abbrev pub invariant-loop-k : goal.invariant-loop-k
-invariant-loop-k l =
+abbrev pub invariant-loop-at : goal.invariant-loop-at
+invariant-loop-at l =
     (name : Rule → List ℕ) → EntriesFound name (map_in l.map) (rules_in l.initial.area l.count) l.count l.found
-    → l.area ≡ linked_to name (map_in l.map) l.initial.area l.k
+    → l.area ≡ linked_to name (map_in l.map) l.initial.area l.at

@@ -9,8 +9,8 @@ use Rattle.name_map.proofs.index.check_map.Goals as goal
 pub returns-then-entries-ne0 : goal.returns-then-entries-ne0
 returns-then-entries-ne0 c = checked_no _ _ _ (map_ragged _ _ c.if-entries-ne0.true)
 
-pub returns-then-n-gt-MOST_ENTRIES : goal.returns-then-n-gt-MOST_ENTRIES
-returns-then-n-gt-MOST_ENTRIES c = checked_no _ _ _ (map_large _ _ c.if-entries-ne0.false (omega arith))
+pub returns-then-n-gt-MOST : goal.returns-then-n-gt-MOST
+returns-then-n-gt-MOST c = checked_no _ _ _ (map_large _ _ c.if-entries-ne0.false (omega arith))
 
 pub invariant_of-map : goal.invariant_of-map
 invariant_of-map c = record { few = omega (arith, ap length c.new.ensures, contents_count map_format c.args.entries.now (length c.args.entries.now / 6)) }

@@ -1,6 +1,13 @@
 -- `name_map::index::probe` meets its contract: the slots that it has passed are taken by entries of other names.
+use Rattle.std.proofs.Common.{sym, ◌∙◌}
+use Rattle.name_map.proofs.Maps.{name_compared}
 use Rattle.name_map.proofs.Probing.{probe_free}
 use Rattle.name_map.proofs.index.probe.Goals as goal
 
-pub returns-then-number-eq0 : goal.returns-then-number-eq0
-returns-then-number-eq0 c = probe_free _ _ _ _ c.loop-p.invariant _ c.requires.entry_slots c.loop-p-test.true c.if-number-eq0.true
+pub returns-in-None : goal.returns-in-None
+returns-in-None c = probe_free _ _ _ _ c.loop-p.invariant _ c.requires.entry_slots c.loop-p-test.true c.in-None.is
+
+pub returns-then-has_name : goal.returns-then-has_name
+returns-then-has_name c =
+    let map = c.args.map.now in
+    (c.requires.entry_slots.low _ _ c.in-Some.is, sym (name_compared map.names.now map.entries _ _ c.get.ensures _ _ c.has_name.ensures) ∙ c.if-has_name.true)

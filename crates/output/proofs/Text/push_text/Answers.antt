@@ -1,8 +1,11 @@
--- `output::Text::push_text` meets its contract: what there is room for is written behind the text.
-use Rattle.output.proofs.Appending.{written_behind}
+-- `output::Text::push_text` meets its contract: the vector's write appends what there is room for, and the text is what the vector holds.
+use Rattle.std.proofs.Common.{ap, ◌∙◌}
+use Rattle.output.specs.Output.{appended}
+use Rattle.output.proofs.Appending.{written_appended}
 use Rattle.output.proofs.Text.push_text.Goals as goal
 
 pub returns : goal.returns
 returns g c =
-    written_behind g.row.N c.self.inside.length _ c.min-length.result c.self.inside.bytes c.args.self.now c.args.s.now c.copy_from_slice.new.self
-    c.self.told c.self.invariant c.self.view_is c.copy_from_slice.ensures.after c.min-length.ensures
+    written_appended g.row.N c.self.inside.bytes.items c.write-count.new.self.items c.args.s.now c.write-count.result c.write-count.ensures.bytes
+    c.write-count.ensures.count
+    ∙ ap (λ t. appended g.row.N t c.args.s.now) c.self.view_is

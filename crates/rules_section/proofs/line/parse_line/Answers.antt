@@ -4,13 +4,13 @@ use Rattle.section.specs.Request.{asked_by}
 use Rattle.rules_section.proofs.RuleLines.{line_verbatim, line_no_room}
 use Rattle.rules_section.proofs.line.parse_line.Goals as goal
 
-pub returns-in_err-counts : goal.returns-in_err-counts
-returns-in_err-counts c =
+pub returns-in_err-areas-clause-does : goal.returns-in_err-areas-clause-does
+returns-in_err-areas-clause-does c =
     passed_on _ _ _ c.from_residual.ensures.1
-    (line_no_room (asked_by c.args.file) _ _ _ _ _ _ _ _ c.requires.held_ruled _ c.matches_whitespace.ensures c.if-matches_whitespace.true _
-    c.add_fault.ensures c.args.counts.now c.in_err-counts.was)
+    (line_no_room (asked_by c.args.at.file) _ _ _ _ _ _ _ _ c.requires.held_ruled _ c.matches_whitespace.ensures c.if-matches_whitespace.true _
+    c.add_fault.ensures c.args.areas.now.counts c.in_err-areas.was)
 
-pub returns-then-matches_whitespace : goal.returns-then-matches_whitespace
-returns-then-matches_whitespace c =
-    line_verbatim (asked_by c.args.file) _ _ _ _ _ _ _ _ c.requires.held_ruled _ c.matches_whitespace.ensures c.if-matches_whitespace.true _
-    c.add_fault.ensures c.in_ok-counts.was
+pub returns-then-matches_whitespace-clause-does : goal.returns-then-matches_whitespace-clause-does
+returns-then-matches_whitespace-clause-does c =
+    line_verbatim (asked_by c.args.at.file) _ _ _ _ _ _ _ _ c.requires.held_ruled _ c.matches_whitespace.ensures c.if-matches_whitespace.true _
+    c.add_fault.ensures c.in_ok-areas.was

@@ -17,8 +17,8 @@ returns-then-self-eq1 c =
     let is = operation_told _ _ _ _ c.from_field.ensures c.in-Some-Pop.is c.in-Some-Pop.field-0-is in
     operated_empty _ _ _ _ is c.if-self-eq1.true c.put_state-then-self-eq1.ensures
 
-pub returns-in-Some-Pop : goal.returns-in-Some-Pop
-returns-in-Some-Pop c =
+pub returns-else-self-eq1 : goal.returns-else-self-eq1
+returns-else-self-eq1 c =
     let is = operation_told _ _ _ _ c.from_field.ensures c.in-Some-Pop.is c.in-Some-Pop.field-0-is in
     operated_pop _ _ _ is c.if-self-eq1.false
 

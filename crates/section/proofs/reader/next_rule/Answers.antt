@@ -8,10 +8,10 @@ use Rattle.section.proofs.reader.next_rule.Goals as goal
 
 pub line-requires : goal.line-requires
 line-requires c =
-    start_inside to_rule rule_between c.args.src c.args.flags c.args.i _ c.requires
-    (c.move_to_rule.ensures ∙ ap (reader_moved_by to_rule c.args.flags) c.at.ensures)
+    start_inside to_rule rule_between c.args.src c.args.options c.args.i _ c.requires
+    (c.move_to_rule.ensures ∙ ap (reader_moved_by to_rule c.args.options) c.at.ensures)
 
 pub returns : goal.returns
 returns c =
-    line_found to_rule rule_between c.args.src c.args.flags c.args.i _ _ c.requires
-    (c.move_to_rule.ensures ∙ ap (reader_moved_by to_rule c.args.flags) c.at.ensures) c.line.ensures
+    line_found to_rule rule_between c.args.src c.args.options c.args.i _ _ c.requires
+    (c.move_to_rule.ensures ∙ ap (reader_moved_by to_rule c.args.options) c.at.ensures) c.line.ensures

@@ -1,22 +1,15 @@
--- The counts so far are those recorded, and the cursor stands behind them.
-use Rattle.std.proofs.Common.{◌∙◌, refl, arith}
-use Rattle.recorded.proofs.Reading.{skip_none, skip_step}
-use Rattle.recorded.proofs.Comparing.{counts_start, counts_next}
+-- Each count that was compared is the one recorded, and the cursor stands behind it.
+use Rattle.std.proofs.Common.{refl, rules}
+use Rattle.std.proofs.lemmas.Fn.{chained_keeps}
+use Rattle.std.proofs.lemmas.Iterator.{YieldsList-from_slice}
+use Rattle.recorded.specs.contracts.reader.fn.Cursor.counted.all as closure
+use Rattle.recorded.proofs.Comparing.{Compared, compared_none, compared_next, all_compared}
 use Rattle.recorded.proofs.reader.Cursor.counted.Goals as goal
 
-pub loop-count-init : goal.loop-count-init
-loop-count-init c = record {
-  same = refl;
-  at_is = skip_none _ _ c.args.self.now.within;
-  counts_are = counts_start _ _ _;
-}
-
-pub loop-count-preserved : goal.loop-count-preserved
-loop-count-preserved c =
-    let so_far = c.loop-count.invariant in
-    let read = c.field.ensures in
-    record {
-      same = read.goes.same ∙ so_far.same;
-      at_is = skip_step _ _ _ _ _ _ _ so_far.same so_far.at_is read.goes.at_is _ (omega arith);
-      counts_are = counts_next _ _ _ _ c.field.result _ (read.is ∙ rw so_far.same refl) so_far.at_is c.if-count-field.false so_far.counts_are;
-    }
+pub returns : goal.returns
+returns c =
+    let ran = c.all.ensures.ran in
+    let start = c.args.self.now in
+    all_compared _ _ _ _ _ ran.0 ran.1 _ _ _ ran.3 (YieldsList-from_slice c.args.counts.now cc) ran.5
+    (chained_keeps _ (λ xs q. Compared start.answers.now start.at xs (closure.captures q).recorded)
+    (λ xs q x v so_far call. search (rules, compared_next)) ran.0 _ _ (compared_none _ _ start refl refl start.within) ran.4)
