@@ -26,6 +26,10 @@ module _ {A : Type 0} (F : Format A) (l : List ℕ) (n : ℕ) {xs : List A} (is 
   pub seen_count : n ≡ length xs
   seen_count = sym (contents_count F l n) ∙ ap length is
 
+  -- all of the records stand in the bytes
+  pub seen_bytes : n * F.width ≤ length l → (length xs * F.width ≤ length l) × (xs ≡ contents F l (length xs))
+  seen_bytes fits = (subst (λ (m : ℕ). m * F.width ≤ length l) seen_count fits, sym is ∙ ap (contents F l) seen_count)
+
   pub seen_fits : {k : ℕ} → n * F.width ≤ length l → k < length xs → k * F.width + F.width ≤ length l
   seen_fits {k} fits h = record_fits F.width (length l) n k (omega (arith, seen_count)) fits
 

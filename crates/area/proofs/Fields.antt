@@ -1,4 +1,5 @@
--- Fields as bytes: those of a list of records, of any width, and that a field read back is the number that was written, whatever that number is.
+-- Fields as bytes: those of a list of records, of any width. What is written field by field is the bytes of the list of fields, and a field read
+-- back is the number that was written, whatever that number is.
 -- Assumes nothing.
 use mathlib.Core.Path.{◌≡◌, refl, sym, ap, ap₂, ◌∙◌}
 use mathlib.Core.List.{List, [], ◌∷◌, ◌++◌, append_assoc, append-nil}
@@ -8,7 +9,10 @@ use native.Mathlib.Omega.{arith}
 use lib.ListN.{length, get_or, take, drop, length-append, get_or-append}
 use lib.Seq.{sets, get_or-append-add}
 use Rattle.area.specs.Bytes.{two, bytes, field_at, field_from, AllBytes}
+use Rattle.area.specs.declared.Rule.{Rule}
+use Rattle.area.specs.Records.{rule_fields, rule_bytes}
 use Rattle.area.specs.Areas.{insert_at}
+use Rattle.area.proofs.Lists.{sets_then}
 
 -- ---- the bytes of a list of records, for any width
 
@@ -73,6 +77,48 @@ field_back fs j h =
 -- one field written
 pub one_field : (l : List ℕ) (at : ℕ) (e : List ℕ) (a : ℕ) → e ≡ sets l at (two a) → e ≡ sets l at (bytes two (a ∷ []))
 one_field l at e a q = q ∙ ap (sets l at) (sym (bytes_single two a))
+
+-- fields written one behind the other
+module _ (l : List ℕ) (at : ℕ) where
+  then_fields : {m e : List ℕ} (j : ℕ) (us vs : List ℕ) → m ≡ sets l at (bytes two us) → e ≡ sets m j (bytes two vs) → j ≡ at + 2 * length us
+      → e ≡ sets l at (bytes two (us ++ vs))
+  then_fields j us vs p q r =
+      sets_then l at j (bytes two us) (bytes two vs) p q (r ∙ ap (λ (i : ℕ). at + i) (sym (fields-length us)))
+      ∙ ap (sets l at) (sym (bytes-append two us vs))
+
+  then_field : {m e : List ℕ} (j : ℕ) (us : List ℕ) (v : ℕ) → m ≡ sets l at (bytes two us) → e ≡ sets m j (two v) → j ≡ at + 2 * length us
+      → e ≡ sets l at (bytes two (us ++ (v ∷ [])))
+  then_field {m} j us v p q r = then_fields j us (v ∷ []) p (q ∙ ap (sets m j) (sym (bytes_single two v))) r
+
+  -- two, three and four fields
+  module _ (l1 : List ℕ) (a : ℕ) (e1 : l1 ≡ sets l at (two a)) (l2 : List ℕ) (b : ℕ) (e2 : l2 ≡ sets l1 (at + 2) (two b)) where
+    pub two_fields : l2 ≡ sets l at (bytes two (a ∷ b ∷ []))
+    two_fields = then_field (at + 2) (a ∷ []) b (one_field l at l1 a e1) e2 refl
+
+    module _ (l3 : List ℕ) (c : ℕ) (e3 : l3 ≡ sets l2 (at + 4) (two c)) where
+      pub three_fields : l3 ≡ sets l at (bytes two (a ∷ b ∷ c ∷ []))
+      three_fields = then_field (at + 4) (a ∷ b ∷ []) c two_fields e3 refl
+
+      pub four_fields : (l4 : List ℕ) (d : ℕ) → l4 ≡ sets l3 (at + 6) (two d) → l4 ≡ sets l at (bytes two (a ∷ b ∷ c ∷ d ∷ []))
+      four_fields l4 d e4 = then_field (at + 6) (a ∷ b ∷ c ∷ []) d three_fields e4 refl
+
+  -- the fields of a rule: three times four, and two more
+  pub rule_fields_lem : (l1 l2 l3 l4 l5 : List ℕ) (x : Rule)
+      → l1 ≡ sets l at (bytes two (x.has_id ∷ x.id ∷ x.named ∷ x.span_start ∷ []))
+      → l2 ≡ sets l1 (at + 8) (bytes two (x.span_end ∷ x.name_from ∷ x.name_length ∷ x.place ∷ []))
+      → l3 ≡ sets l2 (at + 16) (bytes two (x.text_from ∷ x.text_length ∷ x.list_from ∷ x.list_count ∷ []))
+      → l4 ≡ sets l3 (at + 24) (two x.operation)
+      → l5 ≡ sets l4 (at + 26) (two x.target)
+      → l5 ≡ sets l at (rule_bytes x)
+  unfolding rule_fields
+  rule_fields_lem l1 l2 l3 l4 l5 x h1 h2 h3 h4 h5 =
+      let a : List ℕ = x.has_id ∷ x.id ∷ x.named ∷ x.span_start ∷ [] in
+      let b : List ℕ = x.span_end ∷ x.name_from ∷ x.name_length ∷ x.place ∷ [] in
+      let c : List ℕ = x.text_from ∷ x.text_length ∷ x.list_from ∷ x.list_count ∷ [] in
+      let g2 : l2 ≡ sets l at (bytes two (a ++ b)) = then_fields (at + 8) a b h1 h2 refl in
+      let g3 : l3 ≡ sets l at (bytes two (a ++ b ++ c)) = then_fields (at + 16) (a ++ b) c g2 h3 refl in
+      let g4 : l4 ≡ sets l at (bytes two (a ++ b ++ c ++ (x.operation ∷ []))) = then_field (at + 24) (a ++ b ++ c) x.operation g3 h4 refl in
+      then_field (at + 26) (a ++ b ++ c ++ (x.operation ∷ [])) x.target g4 h5 refl
 
 -- ---- a field of bytes has two bytes
 

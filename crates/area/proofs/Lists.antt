@@ -1,11 +1,11 @@
--- Laws of lists: a list that is written over, zeros behind a list, bytes put in between two lists, and a part that is lent and comes back.
+-- Laws of lists: a list that is written over, stores one behind the other, zeros behind a list, bytes put in between two lists, and a part that is lent and comes back.
 -- Assumes nothing.
 use mathlib.Core.Path.{◌≡◌, sym, ap, ap₂, ◌∙◌}
-use mathlib.Core.List.{List, ◌++◌, append_assoc, append-nil}
-use Prim.Native.Nat.{ℕ, ◌+◌, ◌*◌, ◌-◌, ◌≤◌}
-use native.Mathlib.Nat.{zero-add, sub-zero}
+use mathlib.Core.List.{List, [], ◌∷◌, ◌++◌, append_assoc, append-nil}
+use Prim.Native.Nat.{ℕ, suc, ◌+◌, ◌*◌, ◌-◌, ◌≤◌}
+use native.Mathlib.Nat.{add-zero, zero-add, sub-zero}
 use native.Mathlib.Omega.{arith}
-use lib.ListN.{length, take, drop, length-append, length-replicate, length-drop}
+use lib.ListN.{length, take, drop, set, length-append, length-replicate, length-drop}
 use lib.Seq.{sets, sets-eq, drop-drop, take-append_seam, drop-append-add, drop-append_seam, length-take-le, drop-length, take-length}
 use borrow.Rule.Slice.PartMut.{put_mid, mid_of}
 use Rattle.std.specs.List.{copy_within}
@@ -14,6 +14,15 @@ use Rattle.area.specs.Bytes.{pad, zeros}
 use Rattle.area.specs.Areas.{move_up, inserted}
 
 -- ---- stores
+
+sets_sets : (us l : List ℕ) (i : ℕ) (vs : List ℕ) → sets (sets l i us) (i + length us) vs ≡ sets l i (us ++ vs)
+sets_sets [] l i vs = ap (λ (j : ℕ). sets l j vs) (add-zero i)
+sets_sets (u ∷ us) l i vs =
+    ap (λ (j : ℕ). sets (sets (set l i u) (suc i) us) j vs) (omega arith) ∙ sets_sets us (set l i u) (suc i) vs
+
+-- a run of stores behind another
+pub sets_then : (l : List ℕ) {m e : List ℕ} (i j : ℕ) (us vs : List ℕ) → m ≡ sets l i us → e ≡ sets m j vs → j ≡ i + length us → e ≡ sets l i (us ++ vs)
+sets_then l i j us vs p q r = q ∙ ap₂ (λ (t : List ℕ) (k : ℕ). sets t k vs) p r ∙ sets_sets us l i vs
 
 -- a run of stores over the front
 pub sets_front : (v u t : List ℕ) → length u ≡ length v → sets (u ++ t) 0 v ≡ v ++ t

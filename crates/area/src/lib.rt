@@ -339,9 +339,10 @@ impl Record for Expected {
 
     #[tactic(auto, unfolding(crate::specs::Bytes::two, crate::specs::Bytes::bytes, crate::specs::Records::expected_fields))]
     fn write(self, area: &mut [u8], k: usize) {
+        let Expected { start, end } = self;
         let at = k * Self::WIDTH;
-        write_field(area, at, self.start);
-        write_field(area, at + 2, self.end);
+        write_field(area, at, start);
+        write_field(area, at + 2, end);
     }
 }
 
@@ -412,10 +413,10 @@ impl Record for u8 {
 
 // ---- records, appended
 
-// Whether m records more, behind n, fit the area and do not pass its limit. The limit comes first, so that the product
+// Whether m records more, behind n, fit an area of that length and do not pass its limit. The limit comes first, so that the product
 // cannot wrap.
-pub fn has_room<R: Record>(area: &[u8], n: usize, m: usize) -> bool
-    ensures { result ≡ room R.format.width R.format.most (length area.now) n m }
+pub fn has_room<R: Record>(length: usize, n: usize, m: usize) -> bool
+    ensures { result ≡ room R.format.width R.format.most length n m }
 {
     let limit = R::MOST;
     if limit < n {
@@ -424,7 +425,7 @@ pub fn has_room<R: Record>(area: &[u8], n: usize, m: usize) -> bool
     if limit - n < m {
         return false;
     }
-    (n + m) * R::WIDTH <= area.len()
+    (n + m) * R::WIDTH <= length
 }
 
 // A record behind n others.
@@ -432,7 +433,7 @@ pub fn push<R: Record>(area: &mut [u8], n: u16, x: R) -> Result<u16, AreaFull>
     ensures { Pushed R.format.name R.format.width R.format.most 1 (R.format.write x) area.old n result area.new }
 {
     let count = n as usize;
-    if has_room::<R>(area, count, 1) {
+    if has_room::<R>(area.len(), count, 1) {
         x.write(area, count);
         return Ok(n + 1);
     }
@@ -448,7 +449,7 @@ pub fn push_text(area: &mut [u8], n: u16, text: &[u8]) -> Result<u16, AreaFull>
 {
     let count = n as usize;
     let more = text.len();
-    if has_room::<u8>(area, count, more) {
+    if has_room::<u8>(area.len(), count, more) {
         area[count..count + more].copy_from_slice(text);
         return Ok((count + more) as u16);
     }

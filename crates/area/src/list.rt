@@ -52,6 +52,13 @@ impl<'a, R: Record> Records<'a, R> {
         self.count as usize
     }
 
+    // The bytes that the records are read of, for a caller that goes by the places of fields.
+    pub fn bytes(&self) -> &'a [u8]
+        ensures { (length self.now * R.format.width ≤ length result.now) × (self.now ≡ contents R.format result.now (length self.now)) }
+    {
+        self.bytes
+    }
+
     pub fn get(&self, k: usize) -> R
         requires { k < length self.now }
         ensures { result ≡ get_or self.now k R.format.blank }

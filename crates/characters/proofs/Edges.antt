@@ -1,7 +1,7 @@
 -- Where characters start in a text of code points: at the edges, and nowhere else. The first byte of a character is not from 80 to BF, the bytes
 -- inside it are; so on well-formed text an edge is where no byte of 80 to BF stands.
 use mathlib.Core.Path.{◌≡◌, refl, sym, ap, subst, ◌∙◌}
-use mathlib.Core.Bool.{true, false, not, true≢false}
+use mathlib.Core.Bool.{Bool, true, false, not, ◌&&◌, true≢false}
 use mathlib.Core.List.{List, [], ◌∷◌, ◌++◌, append_assoc, append-nil}
 use mathlib.Core.Logic.{◌⊎◌, inl, inr}
 use Prim.Native.Nat.{ℕ, ◌+◌, ◌-◌, ◌/◌, ◌≤◌, ◌<◌}
@@ -104,3 +104,7 @@ module _ (cs : List ℕ) (b : ℕ) where
 
   pub edge_judges : JudgesEdge cs b (is_edge (encode_all cs) b)
   edge_judges = record { sound = edge_is; complete = edge_passes }
+
+-- the test on a byte that was read
+pub edge_tested : (s : List ℕ) (b x : ℕ) (t : Bool) → x ≡ byte s b → t ≡ is_continuation x → leb b (length s) && not t ≡ is_edge s b
+edge_tested s b x t e q = ap (λ (u : Bool). leb b (length s) && not u) (q ∙ ap is_continuation e)

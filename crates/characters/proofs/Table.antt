@@ -15,7 +15,7 @@ use Rattle.std.proofs.lemmas.Bool.{and_parts}
 use Rattle.characters.specs.Class.{Classes, ClassTable, has, is_line_end, is_blank, is_other_whitespace}
 use Rattle.characters.specs.Class.{is_letter, is_digit, is_hex_digit, is_meta_character, is_escape_letter}
 
--- the test passes at each number below n
+-- the test passes at each number below n; area, above this crate, has its own, and this one unfolds by itself where the table is computed
 abbrev pub all_below : (ℕ → Bool) → ℕ → Bool
 all_below test zero = true
 all_below test (suc n) = test n && all_below test n

@@ -187,7 +187,8 @@ fn is_any_out_of_place(s: &[u8], n: usize) -> bool
     has_out_of_place(s, k, n - k)
 }
 
-// Whether every byte is in place. Of a text of fewer than three bytes nothing is said.
+// Whether every byte is in place. Of a text of fewer than three bytes nothing is said. The last three stand by their place, and not in a slice
+// pattern, since the bytes before them are asked by that place too.
 fn is_in_place(s: &[u8]) -> bool
     ensures { Tells (Utf8.utf8 s.now) result }
 {

@@ -3,20 +3,17 @@ ghost use Rattle.std.specs.Prelude.{◌≡◌, ℕ, ◌+◌, ◌≤◌, ◌<◌}
 ghost use Rattle.characters.specs.Walk.{Finds, FindsLast, Asks, Skips};
 
 // The first position from i to before e that passes the test, or e: the end stands for none as in the definition, and the callers go on from it.
-// A counted loop, which answers its own k: by a `for`, which has to answer e, the search for a line's end is slower by a tenth.
 pub fn find<F: Fn(usize) -> bool>(i: usize, e: usize, test: F) -> usize
     requires in_order { i ≤ e }
     requires callable { (k : ℕ) → i ≤ k → k < e → F.pre test k }
     ensures { Finds (F.post test) i e result }
 {
-    let mut k = i;
-    while k < e {
+    for k in i..e {
         if test(k) {
             return k;
         }
-        k += 1;
     }
-    k
+    e
 }
 
 // The last such position.

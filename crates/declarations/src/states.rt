@@ -1,6 +1,6 @@
 // The states that a line declares (01, Declarations). `exclusive` is a field of their records, and chooses no step.
-ghost use Rattle.std.specs.Prelude.{◌≡◌, ◌+◌, ◌≤◌, ◌<◌, length};
-ghost use Rattle.declarations.specs.Declarations.{range, state, declare_state, state_names};
+ghost use Rattle.std.specs.Prelude.{◌≡◌};
+ghost use Rattle.declarations.specs.Declarations.{state, declare_state, state_names};
 ghost use Rattle.declarations.specs.Stages.{naming_of};
 ghost use Rattle.declarations.specs.Areas.{SameAreas, SameExpected, NamesHeld};
 ghost use Rattle.declarations.specs.Phrases.{DoesNames};
@@ -11,49 +11,46 @@ use area::{State, push};
 use characters::whitespace::whitespace_len;
 use fault::{LexErrorKind, Span, Stop, add_duplicate_occurrence};
 use names::{get_start_state_by_name, validate_start_state_name};
-use section::LexFile;
-use section::reader::FileLine;
+use section::reader::{FileLine, Line};
 use text::scan::find_whitespace;
 
-// The span of the state that has the name from a to e, if there is one.
+// The span of the state that has the name, if there is one.
 #[tactic(auto, using(crate::proofs::Declares::validating))]
 fn validate_start_state(
-    src: &[u8],
-    a: usize,
-    e: usize,
+    name: FileLine,
     states: &Records<State>,
 ) -> Result<Option<Span>, LexErrorKind>
-    requires { e ≤ length src.now }
-    ensures { result ≡ naming_of src.now a e states.now }
+    ensures { result ≡ naming_of name.entry.file.source.now name.entry.line.start name.entry.line.end states.now }
 {
-    if !validate_start_state_name(src, a, e) {
+    let FileLine { file, line } = name;
+    if !validate_start_state_name(file.source, line.start, line.end) {
         return Err(LexErrorKind::InvalidStartStateName);
     }
-    let Some(j) = get_start_state_by_name(src, a, e, states) else {
+    let Some(j) = get_start_state_by_name(file.source, line.start, line.end, states) else {
         return Ok(None);
     };
     Ok(Some(states.get(j).into()))
 }
 
-// Declares the name from a to e.
+// Declares the name, and goes on behind the whitespace character that ends it.
 #[tactic(auto, using(crate::proofs::Declares::declaring))]
 fn declare_state(
-    file: LexFile,
+    name: FileLine,
     exclusive: u16,
-    a: usize,
-    e: usize,
     areas: &mut DeclarationAreas,
 ) -> Result<usize, Stop>
-    requires a_le_e { (a ≤ e) × (e ≤ length file.source.now) }
     requires held_names { NamesHeld areas.old }
     ensures same { SameAreas areas.old areas.new }
     ensures expected { SameExpected areas.old areas.new }
-    ensures does { DoesNames (λ k. declare_state file.entry.source.now k (state a e exclusive)) areas result }
+    ensures does { DoesNames
+        (λ k. declare_state name.entry.file.source.now k (state name.entry.line.start name.entry.line.end exclusive))
+        areas result }
 {
-    let next = e + whitespace_len(file.source, e);
-    let start = a as u16;
-    let end = e as u16;
-    let named = validate_start_state(file.source, a, e, &areas.state_records());
+    let FileLine { file, line } = name;
+    let next = line.end + whitespace_len(file.source, line.end);
+    let start = line.start as u16;
+    let end = line.end as u16;
+    let named = validate_start_state(name, &areas.state_records());
     match named.map_err(|kind| Stop::Fault(kind.at(start)))? {
         Some(first) => {
             let kind = LexErrorKind::DuplicateStartState;
@@ -89,8 +86,14 @@ pub fn declare_start_states(
     let FileLine { file, line } = part;
     let mut at = line.start;
     while at < line.end {
-        let e = find_whitespace(file.source, at, line.end);
-        at = declare_state(file, exclusive, at, e, areas)?;
+        let name = FileLine {
+            file,
+            line: Line {
+                start: at,
+                end: find_whitespace(file.source, at, line.end),
+            },
+        };
+        at = declare_state(name, exclusive, areas)?;
     }
     Ok(at)
 }

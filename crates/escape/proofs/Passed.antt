@@ -92,6 +92,11 @@ rest_left q n =
     let left = n.left in
     cc
 
+-- a text whose last whole escape ends at w ends there if one more backslash follows
+pub drop_lone_lem : (s : List ℕ) (c w : ℕ) → next_backslash s c w < c → drop_lone s c w ≡ w
+unfolding drop_lone
+drop_lone_lem s c w h = rw (lt-ltb (next_backslash s c w) c h)
+
 -- where none is left, a backslash that follows is the last byte, and alone
 module _ (s : List ℕ) (c p : ℕ) (none : escapes s p c ≡ []) where
   lone_is_last : next_backslash s c p < c → next_backslash s c p ≡ c - 1
@@ -105,10 +110,9 @@ module _ (s : List ℕ) (c p : ℕ) (none : escapes s p c ≡ []) where
       go false w = w
 
   pub lone_dropped : p < c → byte s (c - 1) ≡ 0x5c → Between p c (drop_lone s c p) p
-  unfolding drop_lone
   lone_dropped l b =
       let low : next_backslash s c p ≤ c - 1 = first_low (is_backslash s) p c (omega arith) (c - 1) (omega arith) (eq-eqb (byte s (c - 1)) 0x5c b) in
-      record { is = rw (lt-ltb (next_backslash s c p) c (omega arith)) refl; from = omega arith; to = omega arith }
+      record { is = sym (drop_lone_lem s c p (omega arith)); from = omega arith; to = omega arith }
 
   pub none_dropped : p ≤ c → (p < c → byte s (c - 1) ≡ 0x5c → ⊥) → Between p c (drop_lone s c p) c
   unfolding drop_lone

@@ -49,6 +49,7 @@ fn is_code_letter(b: u8) -> bool
     (b == b'x') | ((b == b'u') | (b == b'U'))
 }
 
+// Each test of a place q asks that it lies before the pattern's end, as an index does; a type of such places would have no other use.
 impl<'a> Pattern<'a> {
     // Whether a character's code starts at q: a letter, and a hex digit behind it.
     #[tactic(auto, using(crate::proofs::Kept::keeping))]

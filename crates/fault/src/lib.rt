@@ -171,7 +171,7 @@ fn add_span(area: &mut [u8], n: u16, j: usize, second: Span) -> Result<u16, Area
     ensures { GrowsFaults (add_span (length area.old) j second.start second.end) area.old n result area.new }
 {
     let count = n as usize;
-    if has_room::<Fault>(area, count, 1) {
+    if has_room::<Fault>(area.len(), count, 1) {
         let spans = Records::<Fault>::new(area, n);
         let x = spans.get(j);
         let p = fault_end(&spans, x.number);
@@ -188,7 +188,7 @@ fn add_pair(area: &mut [u8], n: u16, kind: u16, first: Span, second: Span) -> Re
         area.old n result area.new }
 {
     let count = n as usize;
-    if has_room::<Fault>(area, count, 2) {
+    if has_room::<Fault>(area.len(), count, 2) {
         let number = next_number(&Records::new(area, n));
         let m = push(area, n, fault_of(number, kind, first))?;
         return push(area, m, fault_of(number, kind, second));

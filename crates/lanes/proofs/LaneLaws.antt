@@ -7,15 +7,19 @@ use borrow.Author.Tests.{eqb-false}
 use lib.Bits.{bit_and, bit_or, or_add_and, and_le_l, and_le_r, and_zero_r, or_zero_l, or_zero_r}
 use Rattle.characters.proofs.Tests.{le_or_lt}
 use Rattle.area.specs.Bytes.{field_from}
-use Rattle.area.specs.Records.{rule_at, rule_of, rule_width, nth_entry}
+use Rattle.area.specs.declared.Rule.{Rule}
+use Rattle.area.specs.Records.{rule_at, rule_of, rule_width, nth_rule, nth_entry}
+use Rattle.area.specs.Contents.{contents, rule_format}
+use Rattle.area.proofs.Contents.{contents_read}
 use Rattle.lanes.specs.declared.Lane.{Lane}
 use Rattle.lanes.specs.declared.Limits.{Limits}
+use Rattle.lanes.specs.declared.Bounds.{Bounds}
 use Rattle.lanes.specs.Lanes.{lane_count, lane_at, FieldsWithin, SumWithin, FieldsAt, SumAt, JoinedTo, Joined, AllZero}
 use Rattle.lanes.specs.Lanes.{RuleWithin, RulesWithin, EntriesWithin}
 
 -- ---- a lane
 
-or_none : (a b : ℕ) → bit_or a b ≡ 0 → (a ≡ 0) × (b ≡ 0)
+pub or_none : (a b : ℕ) → bit_or a b ≡ 0 → (a ≡ 0) × (b ≡ 0)
 or_none a b e = (omega (arith, e, or_add_and a b, and_le_r a b), omega (arith, e, or_add_and a b, and_le_l a b))
 
 module _ (x : Lane) where
@@ -78,10 +82,8 @@ bits_none a (x ∷ xs) e =
     at_each x xs here behind zero = here
     at_each x xs here behind (suc j) = behind j
 
-pub zero_all : {f t : List ℕ} {a b : ℕ} → a ≡ fold bit_or 0 f → b ≡ fold bit_or 0 t → eqb (bit_or a b) 0 ≡ true → AllZero f t
-zero_all {f} {t} {a} {b} p q e =
-    let o = or_none a b (eqb-true (bit_or a b) 0 e) in
-    record { each = λ j g. ((bits_none 0 f (sym p ∙ o.0)).1 j, (bits_none 0 t (sym q ∙ o.1)).1 j) }
+pub zero_all : {x : List ℕ} {a : ℕ} → a ≡ fold bit_or 0 x → eqb a 0 ≡ true → AllZero x
+zero_all {x} {a} p e = record { each = λ j g. (bits_none 0 x (sym p ∙ eqb-true a 0 e)).1 j }
 
 -- ---- the rules of an area
 
@@ -112,11 +114,11 @@ module _ {l : List ℕ} {limits : Limits} where
   pub rules_none : (f t : List ℕ) → length f ≡ lane_count → length t ≡ lane_count → RulesJoined l limits 0 f t
   rules_none f t hf ht = record { fields = passed_none _ f hf; totals = passed_none _ t ht }
 
-  pub rules_next : {k : ℕ} {f t f' t' : List ℕ} → RulesJoined l limits k f t → Joined l limits (k * rule_width) lane_count f t f' t'
-      → RulesJoined l limits (k + 1) f' t'
-  rules_next {k} {f} {t} {f'} {t'} before joined = record {
-    fields = passed_next _ k f f' before.fields joined.fields;
-    totals = passed_next _ k t t' before.totals joined.totals;
+  pub rules_next : {k : ℕ} {x y : List ℕ} → RulesJoined l limits k x x → Joined l limits (k * rule_width) lane_count x y
+      → RulesJoined l limits (k + 1) y y
+  rules_next {k} {x} {y} before joined = record {
+    fields = passed_next _ k x y before.fields joined.fields;
+    totals = passed_next _ k x y before.totals joined.totals;
   }
 
   pub rules_all : {k n : ℕ} {f t : List ℕ} → k ≡ n → RulesJoined l limits k f t → RulesJoined l limits n f t
@@ -161,76 +163,78 @@ module _ (a b place sums more n : ℕ) (small : n ≤ 65534) (keeps : min (a + b
 
 -- limits of lanes that are these limits of a rule: of its fields, and of its sums
 pub record RuleLimits (limits : Limits) (source highest entries text : ℕ) : Type 0 where
-  pub has_id : (get_or limits.heres.now 0 0 ≡ 1) × (get_or limits.order.now 0 0 ≡ 0)
-  pub named : (get_or limits.heres.now 2 0 ≡ 1) × (get_or limits.order.now 2 0 ≡ 0)
-  pub place : (get_or limits.heres.now 7 0 ≡ 1) × (get_or limits.order.now 7 0 ≡ 0)
-  pub span_start : get_or limits.heres.now 3 0 ≡ 0
-  pub span_end : (get_or limits.heres.now 4 0 ≡ source) × (get_or limits.order.now 4 0 ≡ 0)
-  pub operation : get_or limits.lasts.now 6 0 ≡ 3
-  pub target : get_or limits.lasts.now 7 0 ≡ highest
-  pub name : (get_or limits.sums.now 0 0 ≡ source) × (get_or limits.more.now 0 0 ≡ 0)
-  pub source_text_lem : get_or limits.sums.now 3 0 ≡ source
-  pub rewritten_text : (get_or limits.more.now 3 0 + get_or limits.sums.now 3 0) % 65536 ≡ text
-  pub list : (get_or limits.sums.now 5 0 ≡ entries) × (get_or limits.more.now 5 0 ≡ 0)
+  pub has_id : (get_or limits.heres 0 0 ≡ 1) × (get_or limits.order 0 0 ≡ 0)
+  pub named : (get_or limits.heres 2 0 ≡ 1) × (get_or limits.order 2 0 ≡ 0)
+  pub place : (get_or limits.heres 7 0 ≡ 1) × (get_or limits.order 7 0 ≡ 0)
+  pub span_start : get_or limits.heres 3 0 ≡ 0
+  pub span_end : (get_or limits.heres 4 0 ≡ source) × (get_or limits.order 4 0 ≡ 0)
+  pub operation : get_or limits.lasts 6 0 ≡ 3
+  pub target : get_or limits.lasts 7 0 ≡ highest
+  pub name : (get_or limits.sums 0 0 ≡ source) × (get_or limits.more 0 0 ≡ 0)
+  pub source_text_lem : get_or limits.sums 3 0 ≡ source
+  pub rewritten_text : (get_or limits.more 3 0 + get_or limits.sums 3 0) % 65536 ≡ text
+  pub list : (get_or limits.sums 5 0 ≡ entries) × (get_or limits.more 5 0 ≡ 0)
 
 -- limits of sums below 65,535
 abbrev pub Small : ℕ → ℕ → ℕ → Type 0
 Small source entries text = (source ≤ 65534) × (entries ≤ 65534) × (text ≤ 65534)
 
-module _ (l : List ℕ) (limits : Limits) (source highest entries text : ℕ) (small : Small source entries text)
-    (are : RuleLimits limits source highest entries text) (k : ℕ) (f : (j : ℕ) → j < lane_count → FieldsAt l limits (k * rule_width) j)
+module _ (l : List ℕ) (limits : Limits) (b : Bounds) (small : Small b.source b.entries b.text)
+    (are : RuleLimits limits b.source b.highest b.entries b.text) (k : ℕ) (f : (j : ℕ) → j < lane_count → FieldsAt l limits (k * rule_width) j)
     (s : (j : ℕ) → j < lane_count → SumAt l limits (k * rule_width) j) where
   abbrev at : ℕ → ℕ
   at j = field_from l (k * rule_width) j
 
-  field_limit : (j : ℕ) → j < lane_count → (n : ℕ) → (get_or limits.heres.now j 0 ≡ n) × (get_or limits.order.now j 0 ≡ 0) → at j ≤ n
+  field_limit : (j : ℕ) → j < lane_count → (n : ℕ) → (get_or limits.heres j 0 ≡ n) × (get_or limits.order j 0 ≡ 0) → at j ≤ n
   unfolding lane_at
-  field_limit j h n e = upper_limit (at j) (get_or limits.heres.now j 0) (get_or limits.order.now j 0) (at (j + 1)) n e (f j h).here
+  field_limit j h n e = upper_limit (at j) (get_or limits.heres j 0) (get_or limits.order j 0) (at (j + 1)) n e (f j h).here
 
-  last_limit : (j : ℕ) → j < lane_count → at (j + 6) ≤ get_or limits.lasts.now j 0
+  last_limit : (j : ℕ) → j < lane_count → at (j + 6) ≤ get_or limits.lasts j 0
   unfolding lane_at
   last_limit j h = (f j h).last
 
   span_ordered : at 3 ≤ at 4
   unfolding lane_at
-  span_ordered = next_limit (at 3) (get_or limits.heres.now 3 0) (get_or limits.order.now 3 0) (at 4) are.span_start (f 3 (omega arith)).here
+  span_ordered = next_limit (at 3) (get_or limits.heres 3 0) (get_or limits.order 3 0) (at 4) are.span_start (f 3 (omega arith)).here
 
-  range_inside : (j : ℕ) → j < lane_count → (n : ℕ) → n ≤ 65534 → (get_or limits.sums.now j 0 ≡ n) × (get_or limits.more.now j 0 ≡ 0)
+  range_inside : (j : ℕ) → j < lane_count → (n : ℕ) → n ≤ 65534 → (get_or limits.sums j 0 ≡ n) × (get_or limits.more j 0 ≡ 0)
       → at (j + 5) + at (j + 6) ≤ n
   unfolding lane_at
-  range_inside j h n g e = sum_limit (at (j + 5)) (at (j + 6)) (at (j + 4)) (get_or limits.sums.now j 0) (get_or limits.more.now j 0) n g (s j h).inside e
+  range_inside j h n g e = sum_limit (at (j + 5)) (at (j + 6)) (at (j + 4)) (get_or limits.sums j 0) (get_or limits.more j 0) n g (s j h).inside e
 
-  text_source : at 7 ≡ 0 → at 8 + at 9 ≤ source
+  text_source : at 7 ≡ 0 → at 8 + at 9 ≤ b.source
   unfolding lane_at
-  text_source none = source_limit (at 8) (at 9) (at 7) (get_or limits.sums.now 3 0) (get_or limits.more.now 3 0) source small.0
+  text_source none = source_limit (at 8) (at 9) (at 7) (get_or limits.sums 3 0) (get_or limits.more 3 0) b.source small.0
       (s 3 (omega arith)).inside are.source_text_lem none
 
-  text_rewritten : at 7 ≡ 1 → at 8 + at 9 ≤ text
+  text_rewritten : at 7 ≡ 1 → at 8 + at 9 ≤ b.text
   unfolding lane_at
-  text_rewritten one = text_limit (at 8) (at 9) (at 7) (get_or limits.sums.now 3 0) (get_or limits.more.now 3 0) text small.2
+  text_rewritten one = text_limit (at 8) (at 9) (at 7) (get_or limits.sums 3 0) (get_or limits.more 3 0) b.text small.2
       (s 3 (omega arith)).inside are.rewritten_text one
 
-  rule_within : RuleWithin source highest entries text (rule_at l k)
+  rule_within : RuleWithin b (rule_at l k)
   unfolding rule_at rule_of
   rule_within = record {
     has_id = field_limit 0 (omega arith) 1 are.has_id;
     named = field_limit 2 (omega arith) 1 are.named;
     place = field_limit 7 (omega arith) 1 are.place;
     span_ordered = span_ordered;
-    span_inside = field_limit 4 (omega arith) source are.span_end;
-    name_inside = range_inside 0 (omega arith) source small.0 are.name;
+    span_inside = field_limit 4 (omega arith) b.source are.span_end;
+    name_inside = range_inside 0 (omega arith) b.source small.0 are.name;
     text_source = text_source;
     text_rewritten = text_rewritten;
-    list_inside = range_inside 5 (omega arith) entries small.1 are.list;
+    list_inside = range_inside 5 (omega arith) b.entries small.1 are.list;
     operation = omega (arith, last_limit 6 (omega arith), are.operation);
     target = omega (arith, last_limit 7 (omega arith), are.target);
   }
 
-pub rules_within : (l : List ℕ) (limits : Limits) (count source highest entries text : ℕ) (f t : List ℕ) → RulesJoined l limits count f t
-    → AllZero f t → Small source entries text → RuleLimits limits source highest entries text → RulesWithin l count source highest entries text
-rules_within l limits count source highest entries text f t joined none small are = record {
-  each = λ k g. rule_within l limits source highest entries text small are k (λ j w. joined.fields.each k j g w (none.each j w).0)
-      (λ j w. joined.totals.each k j g w (none.each j w).1);
+pub rules_within : (l : List ℕ) (limits : Limits) (rules : List Rule) (b : Bounds) (x : List ℕ) → rules ≡ contents rule_format l (length rules)
+    → RulesJoined l limits (length rules) x x → AllZero x → Small b.source b.entries b.text
+    → RuleLimits limits b.source b.highest b.entries b.text → RulesWithin rules b
+rules_within l limits rules b x are joined none small limited = record {
+  each = λ k g. subst (RuleWithin b) (sym (ap (λ (xs : List Rule). nth_rule xs k) are ∙ contents_read rule_format l (length rules) k g))
+      (rule_within l limits b small limited k (λ j w. joined.fields.each k j g w (none.each j w))
+      (λ j w. joined.totals.each k j g w (none.each j w)));
 }
 
 -- ---- list entries

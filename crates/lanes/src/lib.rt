@@ -1,13 +1,11 @@
 // Quick tests of the rules and the list entries of a sheet, eight fields at a time. The compiler makes one vector of each eight, so every
 // lane does what every other does, and a field that is not asked for has no limit. Where a test passes, every record keeps the limits; where
-// it does not, nothing is known. The rules are lent as bytes, with a place or a count: a lane goes by the numbers of its fields, and a record of
-// the list that `area` has knows its fields by name.
+// it does not, nothing is known. A lane goes by the bytes of the rules, where its fields have numbers; a record has names for them.
 #![tactic(auto)]
 
 ghost use Rattle.std.specs.Prelude.{◌≡◌, ◌+◌, ◌*◌, ◌^◌, ◌≤◌, ◌<◌, true, length, bit_or};
 ghost use Rattle.std.specs.List.{fold};
 ghost use Rattle.area.specs.Records.{rule_width};
-ghost use Rattle.area.specs.Phrases.{before, after};
 ghost use Rattle.lanes.specs.Lanes.{lane_count, lane_at, FieldsWithin, SumWithin, Joined, AllZero, RulesWithin, EntriesWithin};
 
 use area::list::Records;
@@ -29,14 +27,24 @@ struct Lane {
 }
 
 // The limits of the lanes: what `field_excess` and `sum_excess` ask of lane j stands at place j of each. The limits of a kind are one array, so
-// that they become one vector; they are lent, since arrays that a struct holds are laid out in memory first.
+// that they become one vector.
+#[derive(Drop)]
+struct Limits {
+    heres: [u16; LANES],
+    order: [u16; LANES],
+    lasts: [u16; LANES],
+    sums: [u16; LANES],
+    more: [u16; LANES],
+}
+
+// The greatest numbers that a rule may have: the ends of a span, a name and a text in the source, a target, and the ends of a list and of a
+// rewritten text.
 #[derive(Clone, Copy)]
-struct Limits<'a> {
-    heres: &'a [u16; LANES],
-    order: &'a [u16; LANES],
-    lasts: &'a [u16; LANES],
-    sums: &'a [u16; LANES],
-    more: &'a [u16; LANES],
+pub struct Bounds {
+    pub source: u16,
+    pub highest: u16,
+    pub entries: u16,
+    pub text: u16,
 }
 
 // ---- a lane
@@ -73,22 +81,15 @@ fn sum_excess(x: Lane, sums: u16, more: u16) -> u16
 
 // ---- the lanes of a rule
 
-// The lanes of the rule at a place are joined to the numbers of those before: what is not 0 stays so. Fields and sums have a number each, in
-// one loop: with one number for both, or with two loops, the code is slower.
-fn join(
-    area: &[u8],
-    at: usize,
-    limits: Limits,
-    fields: &mut [u16; LANES],
-    totals: &mut [u16; LANES],
-)
+// What is above a limit in the rule at a place is joined to the number of its lane: what is not 0 stays so.
+fn join(area: &[u8], at: usize, limits: &Limits, excess: &mut [u16; LANES])
     requires { at + rule_width ≤ length area.now }
-    ensures { Joined area.now limits.entry at lane_count fields.old totals.old fields.new totals.new }
+    ensures { Joined area.now limits.now at lane_count excess.old excess.new }
 {
     for j in 0..LANES {
         let x = read_lane(area, at, j);
-        fields[j] |= field_excess(x, limits.heres[j], limits.order[j], limits.lasts[j]);
-        totals[j] |= sum_excess(x, limits.sums[j], limits.more[j]);
+        let fields = field_excess(x, limits.heres[j], limits.order[j], limits.lasts[j]);
+        excess[j] |= fields | sum_excess(x, limits.sums[j], limits.more[j]);
     }
 }
 
@@ -99,48 +100,46 @@ fn joint(xs: &[u16; LANES]) -> u16
     xs.iter().fold(0, |bits, x| bits | *x)
 }
 
-// Whether each number of both is 0.
-fn all_zero(fields: &[u16; LANES], totals: &[u16; LANES]) -> bool
-    ensures { result ≡ true → AllZero fields.now totals.now }
+// Whether each number is 0.
+fn all_zero(excess: &[u16; LANES]) -> bool
+    ensures { result ≡ true → AllZero excess.now }
 {
-    joint(fields) | joint(totals) == 0
+    joint(excess) == 0
 }
 
 // A rule's fields: 0 has_id, 1 id, 2 named, 3 span_start, 4 span_end, 5 name_from, 6 name_length, 7 place, 8 text_from, 9 text_length,
 // 10 list_from, 11 list_count, 12 operation, 13 target. Lane j asks field j (`heres`), field j + 6 (`lasts`) and the sum of the fields j + 5
 // and j + 6 (`sums`, a name, a text and a list). In lane 3 the start of a span is at most the next field, its end (`order`), and the limit of
 // a text is that of the source at place 0 and that of the rewritten text at place 1 (`more`). Limits of sums are below 65,535, where sums
-// are cut. It takes numbers, since the sizes as one value would go by memory.
-pub fn quick_rules(
-    area: &[u8],
-    count: u16,
-    source: u16,
-    highest: u16,
-    entries: u16,
-    text: u16,
-) -> bool
-    requires rule_width_in_bounds { count * rule_width ≤ length area.now }
-    requires source_bound { (source ≤ 65534) × (entries ≤ 65534) × (text ≤ 65534) }
-    ensures { result ≡ true → RulesWithin area.now count source highest entries text }
+// are cut.
+pub fn quick_rules(rules: &Records<Rule>, bounds: Bounds) -> bool
+    requires { (bounds.source ≤ 65534) × (bounds.entries ≤ 65534) × (bounds.text ≤ 65534) }
+    ensures { result ≡ true → RulesWithin rules.now bounds }
 {
+    let area = rules.bytes();
+    let Bounds {
+        source,
+        highest,
+        entries,
+        text,
+    } = bounds;
     let heres = [1, ANY, 1, 0, source, ANY, ANY, 1];
     let order = [0, 0, 0, ANY, 0, 0, 0, 0];
     let lasts = [ANY, ANY, ANY, ANY, ANY, ANY, 3, highest];
     let sums = [source, ANY, ANY, source, ANY, entries, ANY, ANY];
     let more = [0, 0, 0, text.wrapping_sub(source), 0, 0, 0, 0];
     let limits = Limits {
-        heres: &heres,
-        order: &order,
-        lasts: &lasts,
-        sums: &sums,
-        more: &more,
+        heres,
+        order,
+        lasts,
+        sums,
+        more,
     };
-    let mut fields = [0; LANES];
-    let mut totals = [0; LANES];
-    for k in 0..count as usize {
-        join(area, k * Rule::WIDTH, limits, &mut fields, &mut totals);
+    let mut excess = [0; LANES];
+    for k in 0..rules.count() {
+        join(area, k * Rule::WIDTH, &limits, &mut excess);
     }
-    all_zero(&fields, &totals)
+    all_zero(&excess)
 }
 
 // ---- list entries

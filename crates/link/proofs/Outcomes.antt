@@ -1,18 +1,21 @@
 -- The area of the linked rules is read back as the linked rules, so those without an id are the unmapped ones; then a law for each way out
 -- of the call.
 use Rattle.std.specs.Prelude.{Ok, Err}
+use Rattle.std.proofs.lemmas.Bool.{and_parts}
 use mathlib.Core.Path.{◌≡◌, refl, sym, ap, ◌∙◌}
 use mathlib.Core.Bool.{Bool, true, false, cond, ◌&&◌}
 use mathlib.Core.List.{List, map}
 use mathlib.Core.Option.{Option, none, some}
-use Prim.Native.Nat.{ℕ, ◌*◌, ◌≤◌}
+use Prim.Native.Nat.{ℕ, ◌*◌, ◌%◌, ◌≤◌}
+use borrow.Author.Tests.{leb-true}
+use lib.Dec.{eqb, leb}
 use lib.ListN.{length, get_or, length-map, get_or-map}
 use Rattle.area.specs.declared.Rule.{Rule}
 use Rattle.area.specs.Records.{rule_width, most_rules, rule_of, nth_rule}
 use Rattle.area.specs.Contents.{contents, rule_format, entry_format, relaid, laid}
 use Rattle.area.proofs.Contents.{rule_sound, contents_count}
 use Rattle.sheet_check.specs.SheetCheck.{SheetBytes, name_in, count, decoded, sheet_check}
-use Rattle.area.specs.Lists.{numbers}
+use Rattle.area.specs.Lists.{all, numbers}
 use Rattle.area.proofs.Relaid.{rule_local, relaid_contents}
 use Rattle.area.proofs.Numbers.{numbers_same}
 use Rattle.sheet_check.proofs.Checked.{checked_long, checked_counts}
@@ -20,7 +23,7 @@ use Rattle.link.specs.declared.LinkArea.{LinkArea}
 use Rattle.link.specs.declared.LinkArea.TheVariants.{Unmapped, Unused}
 use Rattle.link.specs.declared.LinkError.{LinkError}
 use Rattle.link.specs.declared.LinkError.TheVariants.{BrokenSheet, BrokenMap, AreaFull}
-use Rattle.name_map.specs.Map.{Entry, entries_of, id_of, map_check}
+use Rattle.name_map.specs.Map.{map_width, most_entries, map_format, entry_count, Entry, entries_of, id_of, name_inside, distinct, map_check}
 use Rattle.link.specs.Link.{is_named, with_id, with_found, link_rule, link_rules, is_none, is_unmapped, is_unlinked, unmapped, unlinked, unused, LinkAnswer, linked_answer, link_left, fits, room_for, link_all, link_checked, link_call}
 
 -- ---- linked rules
@@ -125,6 +128,20 @@ module _ (name : Rule → List ℕ) (xs : List Rule) (es : List Entry) (x2 x7 x8
         rw (room_left (unmapped name es xs) x7 m Unmapped missing u room, room_left (unused name es xs) x8 k Unused idle v q, ← missing, ← idle)
 
 -- ---- the call
+
+-- a map that passes its check has no more entries than a map may have
+pub map_few : (names entries : List ℕ) → map_check names entries ≡ true → entry_count entries ≤ most_entries
+unfolding map_check
+map_few names entries e =
+    let a1 : Bool = eqb (length entries % map_width) 0 in
+    let a2 : Bool = leb (entry_count entries) most_entries in
+    let a3 : Bool = all (name_inside (length names)) (contents map_format entries (entry_count entries)) in
+    let a4 : Bool = distinct (entries_of names entries) in
+    leb-true (entry_count entries) most_entries (and_parts a1 a2 (and_parts (a1 && a2) a3 (and_parts (a1 && a2 && a3) a4 e).0).0).1
+
+-- the same of an answer of the check
+pub call_entries : (names entries : List ℕ) (u : Bool) → u ≡ map_check names entries → u ≡ true → entry_count entries ≤ most_entries
+call_entries names entries u says g = map_few names entries (sym says ∙ g)
 
 module _ (b : SheetBytes) (t : Bool) (is : t ≡ sheet_check b) (h : t ≡ true) where
   passed : sheet_check b ≡ true

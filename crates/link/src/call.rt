@@ -2,6 +2,7 @@
 // interface; areas 7 and 8 stay parameters, for a struct of them would have one user, `link_checked`.
 ghost use Rattle.std.specs.Prelude.{◌≡◌, ◌*◌, ◌≤◌, length};
 ghost use Rattle.area.specs.Records.{rule_width, most_rules};
+ghost use Rattle.name_map.specs.Map.{most_entries};
 ghost use Rattle.link.specs.Link.{room_for, link_left, link_checked, link_call};
 ghost use Rattle.sheet_check.specs.Phrases.{sheet_in};
 ghost use Rattle.area.specs.Phrases.{before, after};
@@ -38,11 +39,12 @@ fn link_checked(
     area7: &mut [u8],
     area8: &mut [u8],
 ) -> Result<Linked, LinkError>
-    requires { (rules ≤ most_rules) × (rules * rule_width ≤ length area2.old) }
+    requires few_rules { (rules ≤ most_rules) × (rules * rule_width ≤ length area2.old) }
+    requires few_entries { length index.now.map.entries.now ≤ most_entries }
     ensures { link_left result area2.new area7.new area8.new
         ≡ link_checked (rule_names_in src.now) (rules_in area2.old rules) (map_in index.now.map) area2.old area7.old area8.old }
 {
-    let entries = index.map.entries.count() as u16;
+    let entries = index.map.entries.len() as u16;
     let lent = Records::new(area2, rules);
     let matches = match_rules(src, &lent, index);
     check_room(area7, matches.unmapped_count, LinkArea::Unmapped)?;

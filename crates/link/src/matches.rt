@@ -1,7 +1,7 @@
 // The entry of each rule, looked up once, and marks of the entries that a rule has: the numbers and the ids go by them.
 ghost use Rattle.std.specs.Prelude.{◌≡◌, ◌≤◌, length};
 ghost use Rattle.area.specs.Records.{most_rules};
-ghost use Rattle.name_map.specs.Map.{found_entry};
+ghost use Rattle.name_map.specs.Map.{most_entries, found_entry};
 ghost use Rattle.link.specs.Matches.{Matched};
 ghost use Rattle.area.specs.Phrases.{before, after};
 ghost use Rattle.name_map.specs.Phrases.{map_in};
@@ -31,7 +31,8 @@ pub struct Matches {
 
 // Each rule looked up.
 pub fn match_rules(src: &[u8], rules: &Records<Rule>, index: &NameIndex) -> Matches
-    requires { length rules.now ≤ most_rules }
+    requires few_rules { length rules.now ≤ most_rules }
+    requires few_entries { length index.now.map.entries.now ≤ most_entries }
     ensures { Matched (rule_names_in src.now) (map_in index.now.map) rules.now result }
 {
     let mut matches = Matches {

@@ -11,7 +11,6 @@ ghost use Rattle.area.specs.Phrases.{before, after};
 
 use area::list::Records;
 use area::{Record, Rule, clear};
-use name_map::MapEntry;
 
 // The numbers that an iterator gives, into an area, and zeros behind them.
 fn write_numbers<I: Iterator<Item = u16>>(numbers: I, into: &mut [u8])
@@ -48,8 +47,8 @@ pub fn write_unlinked(rules: &Records<Rule>, into: &mut [u8])
 // How many of so many entries have no mark. Each mark is added, with no branch, so that the compiler takes many at once; a filter and its count
 // go one by one.
 #[tactic(auto, using(area::proofs::Numbers::count_none))]
-pub fn count_unused(used: &[bool; MapEntry::MOST], most: u16) -> u16
-    requires { most ≤ most_entries }
+pub fn count_unused(used: &[bool], most: u16) -> u16
+    requires { (most ≤ most_entries) × (most ≤ length used.now) }
     ensures { result ≡ length (unmarked used.now most) }
 {
     let mut n = 0;
@@ -60,8 +59,8 @@ pub fn count_unused(used: &[bool; MapEntry::MOST], most: u16) -> u16
 }
 
 // Their numbers.
-pub fn write_unused(used: &[bool; MapEntry::MOST], most: u16, into: &mut [u8])
-    requires most_le_most_entries { most ≤ most_entries }
+pub fn write_unused(used: &[bool], most: u16, into: &mut [u8])
+    requires most_le_most_entries { (most ≤ most_entries) × (most ≤ length used.now) }
     requires room { fits (unmarked used.now most) into.old ≡ true }
     ensures { into.new ≡ laid entry_format (length into.old) (unmarked used.now most) }
 {

@@ -26,7 +26,7 @@ fn with_id(x: Rule, id: Option<u16>) -> Rule
 
 // A named rule gets the id of the entry that was found, or none.
 fn link_rule(map: &NameMap, found: Option<u16>, x: Rule) -> Rule
-    requires { (j : ℕ) → found ≡ Some j → j < length map.now.entries }
+    requires { (j : ℕ) → found ≡ Some j → j < length map.now.entries.now }
     ensures { result ≡ link_to (map_in map.now) found x }
 {
     if !x.is_named() {
@@ -34,7 +34,7 @@ fn link_rule(map: &NameMap, found: Option<u16>, x: Rule) -> Rule
     }
     // by `map` of the Option the closure's answer was not known to the proof
     match found {
-        Some(j) => with_id(x, Some(map.entries.get(j as usize).id)),
+        Some(j) => with_id(x, Some(map.entry(j as usize).id)),
         None => with_id(x, None),
     }
 }

@@ -1,5 +1,6 @@
--- The home of a name: a fold adds the numbers of a list one after the other, and each stands in the name at a known place.
-use Rattle.std.proofs.Common.{◌≡◌, ℕ, zero, suc, ◌<◌, ◌≤◌, [], ◌∷◌, ◌++◌, take, drop, get_or, ◌+◌, ◌*◌, ◌/◌, ◌%◌, ◌^◌, List, length, sym, refl, ap, ◌∙◌, ap₂, add-one, arith}
+-- The home of a name: a fold adds the numbers of a list one after the other, and each stands in the name at a known place. The home of a range of a
+-- text is that of its bytes as a list, whatever stands around them.
+use Rattle.std.proofs.Common.{◌≡◌, ℕ, zero, suc, ◌<◌, ◌≤◌, [], ◌∷◌, ◌++◌, take, drop, get_or, ◌+◌, ◌*◌, ◌/◌, ◌%◌, ◌^◌, ◌-◌, min, length-drop, length-take, List, length, sym, refl, ap, ◌∙◌, ap₂, add-one, arith}
 use Rattle.std.specs.List.{fold}
 use Rattle.std.specs.Int.{from_le_bytes, w32}
 use Rattle.std.specs.Simd.{first_chunks}
@@ -7,6 +8,7 @@ use Rattle.std.proofs.lemmas.List.{get_or-take, get_or-drop}
 use Rattle.std.proofs.lemmas.List.Sums.{fold-append, fold_more}
 use lib.Seq.{drop-drop, take-length}
 use Rattle.characters.specs.Whitespace.{byte}
+use Rattle.text.specs.Range.{part}
 use Rattle.area.specs.Bytes.{field_at}
 use Rattle.name_map.specs.declared.home.Checksum.{Checksum}
 use Rattle.name_map.specs.Home.{word_limit, add_number, add_numbers, word_at, add_words, add_bytes, checksum, mixed, home_by, home_of, Home}
@@ -88,12 +90,47 @@ bytes_added l a n bs is long start =
 
 -- ---- the home of a name
 
-pub home_made : (l : List ℕ) (n : ℕ) → n ≡ length l → (w c : Checksum) (h r : ℕ) → w ≡ add_words l 0 (n / 4) (record { sum = n % word_limit; sums = 0 })
+-- what is mixed from the checksum of a whole list is its home
+pub whole_home_made : (l : List ℕ) (n : ℕ) → n ≡ length l → (w c : Checksum) (h r : ℕ) → w ≡ add_words l 0 (n / 4) (record { sum = n % word_limit; sums = 0 })
     → c ≡ add_bytes l (0 + 4 * (n / 4)) (n % 4) w → h ≡ mixed c.sum c.sums → r ≡ mixed h 0 → Home l (r / 1048576)
 unfolding home_of home_by checksum
-home_made l n is w c h r ew ec eh er = record {
+whole_home_made l n is w c h r ew ec eh er = record {
   is =
       let whole : c ≡ checksum l 0 n = ec ∙ ap (add_bytes l (0 + 4 * (n / 4)) (n % 4)) ew in
       ap (λ (x : ℕ). x / 1048576) (er ∙ ap (λ (x : ℕ). mixed x 0) eh) ∙ ap home_by (whole ∙ ap (checksum l 0) is);
   small = omega (arith, er);
 }
+
+-- ---- a range of a text, and the list of its bytes
+
+module _ (s : List ℕ) (a e n : ℕ) (is : n ≡ min (e - a) (length s - a)) where
+  size : n ≡ length (part s a e)
+  unfolding part
+  size = is ∙ sym (simp (length-take, length-drop))
+
+  same_byte : (i j : ℕ) → i ≡ a + j → j < n → byte s i ≡ byte (part s a e) j
+  unfolding part
+  same_byte i j q h = ap (byte s) q ∙ sym (get_or-take (e - a) (drop a s) j 0 (omega (arith, h, is)) ∙ get_or-drop a s j 0)
+
+  same_word : (i j : ℕ) → i ≡ a + j → j + 4 ≤ n → word_at s i ≡ word_at (part s a e) j
+  unfolding field_at
+  same_word i j q h =
+      rw (
+        same_byte i j q (omega (arith, h)),
+        same_byte (i + 1) (j + 1) (omega (arith, q)) (omega (arith, h)),
+        same_byte (i + 2) (j + 2) (omega (arith, q)) (omega (arith, h)),
+        same_byte (i + 2 + 1) (j + 2 + 1) (omega (arith, q)) (omega (arith, h)),
+      )
+
+  same_words : (c : Checksum) → add_words s a (n / 4) c ≡ add_words (part s a e) 0 (n / 4) c
+  same_words c = numbers_alike _ _ c (n / 4) (λ j h. same_word (a + 4 * j) (0 + 4 * j) (omega arith) (omega (arith, h)))
+
+  same_bytes_behind : (c : Checksum) → add_bytes s (a + 4 * (n / 4)) (n % 4) c ≡ add_bytes (part s a e) (0 + 4 * (n / 4)) (n % 4) c
+  same_bytes_behind c =
+      numbers_alike _ _ c (n % 4) (λ j h. same_byte (a + 4 * (n / 4) + j) (0 + 4 * (n / 4) + j) (omega arith) (omega (arith, h)))
+
+  -- what is mixed from the checksum of a range, wherever it stands, is the home of the list of its bytes
+  pub home_made : (w c : Checksum) (h r : ℕ) → w ≡ add_words s a (n / 4) (record { sum = n % word_limit; sums = 0 })
+      → c ≡ add_bytes s (a + 4 * (n / 4)) (n % 4) w → h ≡ mixed c.sum c.sums → r ≡ mixed h 0 → Home (part s a e) (r / 1048576)
+  home_made w c h r ew ec eh er =
+      whole_home_made (part s a e) n size w c h r (ew ∙ same_words (record { sum = n % word_limit; sums = 0 })) (ec ∙ same_bytes_behind w) eh er

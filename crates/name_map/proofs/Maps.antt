@@ -1,20 +1,26 @@
 -- A map as a list of names and ids: entry j is what record j of the entries says. Then the entry that a search finds, and the map check.
-use Rattle.std.proofs.Common.{◌≡◌, ℕ, zero, suc, ◌%◌, ◌<◌, ◌≤◌, Bool, true, false, not, ◌&&◌, cond, eqb, leb, ltb, ◌⊎◌, List, [], map, length, get_or, Option, Some, None}
-use Rattle.std.proofs.Common.{sym, refl, ap, ◌∙◌, inl, inr, true≢false, eq-or-lt_of_le, arith, eq-eqb, ne_eqb, eqb-true, le-leb}
+use Rattle.std.proofs.Common.{◌≡◌, ℕ, zero, suc, ◌+◌, ◌*◌, ◌%◌, ◌<◌, ◌≤◌, Bool, true, false, not, ◌&&◌, cond, eqb, leb, ltb, ◌⊎◌, List, [], ◌∷◌, ◌++◌, map, length, get_or, take, drop, MatchOption, Option, Some, None}
+use Rattle.std.proofs.Common.{sym, refl, ap, ap₂, ◌∙◌, inl, inr, true≢false, eq-or-lt_of_le, arith, eq-eqb, ne_eqb, eqb-true, le-leb}
 use Rattle.std.specs.Option.{option_eq}
+use Rattle.std.specs.List.{AllWithin, HoldsAt}
+use Rattle.std.specs.Simd.{first_chunks}
+use Rattle.std.proofs.lemmas.List.{get_or_default, get_or-take, get_or-drop, map-append}
 use borrow.Author.Tests.{lt-leb, lt-ltb, le-ltb, ltb-true, ltb-false}
 use lib.ListN.{length-map, get_or-map}
-use Rattle.characters.specs.Walk.{first, Below}
+use lib.Seq.{drop-drop}
+use Rattle.characters.specs.Walk.{first}
 use Rattle.text.specs.Range.{part, same_bytes}
 use Rattle.characters.proofs.Tests.{le_or_lt}
 use Rattle.text.proofs.Ranges.{same_self}
-use Rattle.characters.proofs.Firsts.{first_passes, first_low}
+use Rattle.characters.proofs.Firsts.{first_passes, first_low, first_only}
+use Rattle.characters.proofs.Walks.{first_over, first_from}
+use Rattle.area.specs.Bytes.{field_at, field_from}
 use Rattle.area.specs.Contents.{contents}
 use Rattle.area.specs.Lists.{all, all_below}
-use Rattle.area.proofs.All.{below_at, below_same}
-use Rattle.area.proofs.Contents.{contents_count}
+use Rattle.area.proofs.All.{all_one_more, below_at, below_same}
+use Rattle.area.proofs.Contents.{list_of_is, contents_count}
 use Rattle.name_map.specs.declared.MapEntry.{MapEntry}
-use Rattle.name_map.specs.Map.{map_width, most_entries, map_entry_of, map_format, entry_count, Entry, entry, entry_of, entries_of, nth, find_entry, found_entry, option_of, id_at, distinct, name_inside, map_check}
+use Rattle.name_map.specs.Map.{map_width, most_entries, map_entry_of, map_entry_at, map_format, read_each, entry_count, Entry, entry, entry_of, entries_of, nth, find_entry, found_entry, option_of, id_at, distinct, name_inside, map_check}
 
 -- ---- an answer of the code
 
@@ -57,6 +63,70 @@ module _ (es : List Entry) (name : List ℕ) where
       by true q e = absurd (cc)
       by false q e = ltb-false (find_entry es name) (length es) q
 
+-- ---- the entries as chunks of six bytes
+
+-- the chunk at a place has the bytes from there on
+chunk_at : (n k : ℕ) (l : List ℕ) → k < n → get_or (first_chunks map_width n l) k [] ≡ take map_width (drop (k * map_width) l)
+chunk_at zero k l h = absurd (omega (arith, h))
+chunk_at (suc n) zero l h = refl
+chunk_at (suc n) (suc k) l h =
+    chunk_at n k (drop map_width l) (omega (arith, h))
+    ∙ ap (take map_width) (drop-drop (k * map_width) map_width l ∙ ap (λ (j : ℕ). drop j l) (omega arith))
+
+chunk_byte : (l : List ℕ) (i j : ℕ) → j < map_width → get_or (take map_width (drop i l)) j 0 ≡ get_or l (i + j) 0
+chunk_byte l i j h = get_or-take map_width (drop i l) j 0 h ∙ get_or-drop i l j 0
+
+chunk_field : (l : List ℕ) (i j : ℕ) → j + 1 < map_width → field_at (take map_width (drop i l)) j ≡ field_at l (i + j)
+unfolding field_at
+chunk_field l i j h =
+    let behind : i + (j + 1) ≡ i + j + 1 = omega arith in
+    ap₂ (λ (a b : ℕ). a + b * 256) (chunk_byte l i j (omega arith)) (chunk_byte l i (j + 1) h ∙ ap (λ (k : ℕ). get_or l k 0) behind)
+
+chunk_entry : (l : List ℕ) (k : ℕ) → map_entry_at (take map_width (drop (k * map_width) l)) 0 ≡ map_entry_at l k
+unfolding map_entry_at map_entry_of field_from
+chunk_entry l k =
+    let field : (j : ℕ) → j + 1 < map_width → field_at (take map_width (drop (k * map_width) l)) j ≡ field_at l (k * map_width + j) =
+    chunk_field l (k * map_width) in
+    λ i. record { name_from = field 0 (omega arith) i; name_length = field 2 (omega arith) i; id = field 4 (omega arith) i }
+
+module _ (chunks : List (List ℕ)) where
+  pub read-count : length (read_each chunks) ≡ length chunks
+  read-count = length-map chunks (λ bytes. map_entry_at bytes 0)
+
+  blank_bytes : map_format.blank ≡ map_entry_at [] 0
+  unfolding map_entry_at map_entry_of field_from field_at
+  blank_bytes = refl
+
+  read-at : (j : ℕ) → get_or (read_each chunks) j map_format.blank ≡ map_entry_at (get_or chunks j []) 0
+  read-at j = rw (blank_bytes) (get_or-map (λ bytes. map_entry_at bytes 0) chunks j [])
+
+  -- entry j is that of chunk j
+  pub entry_read : (j : ℕ) → j < length chunks → (x : MapEntry) (bytes : List ℕ) → x ≡ map_entry_at bytes 0 → (d : List ℕ) → bytes ≡ get_or chunks j d
+      → x ≡ get_or (read_each chunks) j map_format.blank
+  entry_read j h x bytes e d is =
+      e ∙ ap (λ (b : List ℕ). map_entry_at b 0) (is ∙ get_or_default chunks j d [] h) ∙ sym (read-at j)
+
+-- the entries of a map's bytes are those of their chunks
+pub chunks_read : (l : List ℕ) (n : ℕ) (chunks : List (List ℕ)) → chunks ≡ first_chunks map_width n l → length chunks ≡ n
+    → read_each chunks ≡ contents map_format l n
+unfolding contents
+chunks_read l n chunks is long =
+    sym (list_of_is (map_entry_at l) map_format.blank (read_each chunks) n (sym (read-count chunks ∙ long))
+    (λ k h. sym (read-at chunks k ∙ ap (λ (cs : List (List ℕ)). map_entry_at (get_or cs k []) 0) is ∙ ap (λ (b : List ℕ). map_entry_at b 0) (chunk_at n k l h)
+    ∙ chunk_entry l k)))
+
+-- whether the names lie inside: of no entries, and of one more
+pub inside_none : (n : ℕ) → true ≡ all (name_inside n) (read_each [])
+unfolding all
+inside_none n = refl
+
+pub inside_next : (n : ℕ) (chunks : List (List ℕ)) (bytes : List ℕ) (t u : Bool) → t ≡ all (name_inside n) (read_each chunks)
+    → u ≡ t && name_inside n (map_entry_at bytes 0) → u ≡ all (name_inside n) (read_each (chunks ++ (bytes ∷ [])))
+inside_next n chunks bytes t u before e =
+    e ∙ ap (λ (b : Bool). b && name_inside n (map_entry_at bytes 0)) before
+    ∙ sym (all_one_more (name_inside n) (read_each chunks) (map_entry_at bytes 0))
+    ∙ ap (all (name_inside n)) (sym (map-append (λ bytes. map_entry_at bytes 0) chunks (bytes ∷ [])))
+
 -- ---- the entries
 
 pub entries_count : (names entries : List ℕ) → length (entries_of names entries) ≡ entry_count entries
@@ -68,7 +138,7 @@ module _ (names : List ℕ) (xs : List MapEntry) where
   abbrev es : List Entry
   es = map (entry_of names) xs
 
-  pub named_count : length (map (entry_of names) xs) ≡ length xs
+  named_count : length (map (entry_of names) xs) ≡ length xs
   named_count = length-map xs (entry_of names)
 
   blank_entry : entry [] 0 ≡ entry_of names map_format.blank
@@ -103,22 +173,39 @@ module _ (names : List ℕ) (xs : List MapEntry) where
         ap (λ (y : Option ℕ). option_eq eqb y (Some j)) (q ∙ ap (found_entry es) (own ∙ name-at))
         ∙ found_is es (nth es j).name j (omega (arith, h, named_count))
 
-  -- ---- the first entry of a name
+-- a map has as many entries as it has chunks
+pub map_count : (names : List ℕ) (chunks : List (List ℕ)) → length (map (entry_of names) (read_each chunks)) ≡ length chunks
+map_count names chunks = named_count names (read_each chunks) ∙ read-count chunks
 
-  module _ (name : List ℕ) where
-    abbrev pub has : ℕ → Bool
-    has j = same_bytes (nth es j).name name
+-- ---- the first entry of a name
 
-    pub found_below : (r : Option ℕ) → Below (length xs) (first has 0 (length xs)) r → r ≡ found_entry (map (entry_of names) xs) name
-    unfolding find_entry
-    found_below r b = by r b
-      where
-        whole : first has 0 (length xs) ≡ find_entry es name
-        whole = ap (first has 0) (sym named_count)
+module _ (names : List ℕ) (chunks : List (List ℕ)) (name : List ℕ) where
+  -- whether the entry of a chunk has the name
+  abbrev pub chunk_has : List ℕ → Bool
+  chunk_has bytes = same_bytes (entry_of names (map_entry_at bytes 0)).name name
 
-        by : (o : Option ℕ) → Below (length xs) (first has 0 (length xs)) o → o ≡ found_entry es name
-        by (Some k) q = found_some es name k (omega (arith, q.0, named_count)) (q.1 ∙ whole)
-        by None q = found_none es name (omega (arith, q, whole, named_count))
+  -- the map that is lent
+  abbrev lent : List Entry
+  lent = map (entry_of names) (read_each chunks)
+
+  abbrev has : ℕ → Bool
+  has j = same_bytes (nth lent j).name name
+
+  has-at : (j : ℕ) → has j ≡ chunk_has (get_or chunks j [])
+  has-at j = sym (name_compared names (read_each chunks) j (map_entry_at (get_or chunks j []) 0) (sym (read-at chunks j)) name _ refl)
+
+  -- it is that of the first chunk that has it
+  pub first_chunk : (r : Option ℕ)
+      → MatchOption r (AllWithin (λ b. chunk_has b ≡ false) chunks 0 (length chunks))
+      (λ j. (j < length chunks) × HoldsAt (λ b. chunk_has b ≡ true) chunks j × AllWithin (λ b. chunk_has b ≡ false) chunks 0 j)
+      → r ≡ found_entry (map (entry_of names) (read_each chunks)) name
+  unfolding find_entry
+  first_chunk (Some j) q =
+      let inside : j < length lent = omega (arith, q.0, map_count names chunks) in
+      found_some lent name j inside (sym (first_only has 0 j (length lent) (omega arith) inside (has-at j ∙ q.1 []) (λ k a b. has-at k ∙ q.2 k [] a b)))
+  first_chunk None q =
+      let past = first_over has 0 (length lent) (length lent) (omega arith) (omega arith) (λ k a b. has-at k ∙ q k [] a (omega (arith, b, map_count names chunks))) in
+      found_none lent name (omega (arith, past, first_from has (length lent) (length lent)))
 
 -- ---- the map check
 

@@ -1,5 +1,4 @@
 pub mod Map
-pub mod Laws
 pub mod Home
 pub mod Index
 pub mod Phrases

@@ -31,6 +31,10 @@ map_entry_of f = record { name_from = f 0; name_length = f 1; id = f 2 }
 unfoldable pub map_entry_at : List ℕ → ℕ → MapEntry
 map_entry_at l k = map_entry_of (field_from l (k * map_width))
 
+-- the entries of chunks, each of so many bytes
+abbrev pub read_each : List (List ℕ) → List MapEntry
+read_each chunks = map (λ bytes. map_entry_at bytes 0) chunks
+
 -- a map is no area of a parse: its entries are never appended, so that no one asks which area is full
 abbrev pub map_format : Format MapEntry
 map_format = record { name = Entries; write = λ x. bytes two (map_entry_fields x); width = map_width; most = most_entries; read = map_entry_at; blank = map_entry_of (λ _. 0) }

@@ -3,14 +3,12 @@
 // slots end before that, all names are compared.
 ghost use Rattle.std.specs.Prelude.{◌≡◌, ◌<◌, ◌≤◌, length, replicate, None};
 ghost use Rattle.area.specs.Phrases.{before, after};
-ghost use Rattle.name_map.specs.Map.{found_entry};
+ghost use Rattle.name_map.specs.Map.{most_entries, found_entry};
 ghost use Rattle.name_map.specs.Index.{slot_count, EntrySlots, Probes, EntryIndexed, EntriesIndexed, EntryIndex};
 ghost use Rattle.name_map.specs.Phrases.{map_in, MapChecked};
 
 use crate::home::home_of;
 use crate::{MapEntry, NameMap};
-use area::Record;
-use area::list::Records;
 
 // How many slots there are. A home is below 4,096, so that few searches come to the end of the slots.
 pub const SLOTS: usize = 4608;
@@ -26,7 +24,7 @@ enum Probed {
 // fewer entries than the map has, so they are counted beside it. It is built into both callers, which saves a link a tenth of its instructions.
 #[inline(always)]
 fn probe(map: &NameMap, slots: &[Option<u16>; SLOTS], n: usize, name: &[u8]) -> Option<Probed>
-    requires n_bound { n ≤ length map.now.entries }
+    requires n_bound { n ≤ length map.now.entries.now }
     requires entry_slots { EntrySlots (map_in map.now) n slots.now }
     ensures { Probes (map_in map.now) n slots.now name.now result }
 {
@@ -35,7 +33,7 @@ fn probe(map: &NameMap, slots: &[Option<u16>; SLOTS], n: usize, name: &[u8]) -> 
         match slots[p] {
             None => return Some(Probed::Free(p)),
             Some(j) => {
-                if map.entries.get(j as usize).has_name(map.names, name) {
+                if map.entry(j as usize).has_name(map.names, name) {
                     return Some(Probed::Found(j as usize));
                 }
             }
@@ -48,11 +46,12 @@ fn probe(map: &NameMap, slots: &[Option<u16>; SLOTS], n: usize, name: &[u8]) -> 
 
 // Whether entry j is the first of its name, by the slots of those before it. If it is, it gets the free slot that the search came to.
 fn index_entry(map: &NameMap, slots: &mut [Option<u16>; SLOTS], j: usize) -> bool
-    requires j_bound { j < length map.now.entries }
+    requires few { length map.now.entries.now ≤ most_entries }
+    requires j_bound { j < length map.now.entries.now }
     requires entry_slots { EntrySlots (map_in map.now) j slots.old }
     ensures { EntryIndexed (map_in map.now) j result slots.new }
 {
-    let name = map.entries.get(j).name(map.names);
+    let name = map.entry(j).name(map.names);
     match probe(map, slots, j, name) {
         Some(Probed::Free(p)) => {
             slots[p] = Some(j as u16);
@@ -66,11 +65,12 @@ fn index_entry(map: &NameMap, slots: &mut [Option<u16>; SLOTS], j: usize) -> boo
 // Whether no two entries have the same name. If so, the slots are those of all entries. They are lent: as a part of the answer their bytes were
 // copied on the way, and a link took an eighth more instructions.
 fn index_entries(map: &NameMap, slots: &mut [Option<u16>; SLOTS]) -> bool
-    requires { slots.old ≡ replicate slot_count None }
+    requires few { length map.now.entries.now ≤ most_entries }
+    requires free { slots.old ≡ replicate slot_count None }
     ensures { EntriesIndexed (map_in map.now) result slots.new }
 {
     // by `all`, whose closure writes the slots, the proof knew nothing of the slots afterwards
-    for j in 0..map.entries.count() {
+    for j in 0..map.entries.len() {
         if !index_entry(map, slots, j) {
             return false;
         }
@@ -88,18 +88,18 @@ pub fn check_map<'a>(
     requires { slots.old ≡ replicate slot_count None }
     ensures { MapChecked names.now entries.now result slots.new }
 {
-    if entries.len() % MapEntry::WIDTH != 0 {
+    let (chunks, rest) = entries.as_chunks::<{ MapEntry::WIDTH }>();
+    if !rest.is_empty() {
         return None;
     }
-    let n = entries.len() / MapEntry::WIDTH;
-    if n > MapEntry::MOST {
+    if chunks.len() > MapEntry::MOST {
         return None;
     }
     let map = NameMap {
         names,
-        entries: Records::new(entries, n as u16),
+        entries: chunks,
     };
-    if !map.names_inside() {
+    if !map.names_inside(names.len()) {
         return None;
     }
     if index_entries(&map, slots) {
@@ -123,7 +123,7 @@ impl<'a> NameIndex<'a> {
     pub fn find(&self, name: &[u8]) -> Option<usize>
         ensures { result ≡ found_entry (map_in self.now.map) name.now }
     {
-        match probe(&self.map, self.slots, self.map.entries.count(), name) {
+        match probe(&self.map, self.slots, self.map.entries.len(), name) {
             Some(Probed::Free(_)) => None,
             Some(Probed::Found(j)) => Some(j),
             None => self.map.find_entry(name),

@@ -5,14 +5,11 @@ mod map; // the entry of a name, and the tests that ask all entries
 mod home; // where the search for a name begins
 pub mod index; // the index of names, and the map check
 
-ghost use Rattle.std.specs.Prelude.{◌≡◌, ◌+◌, ◌≤◌, length};
+ghost use Rattle.std.specs.Prelude.{◌≡◌, ◌+◌};
 ghost use Rattle.text.specs.Range.{same_bytes};
-ghost use Rattle.area.specs.declared.AreaName.TheVariants.{Entries};
-ghost use Rattle.name_map.specs.Map.{map_width, most_entries, map_format, entry_of, name_inside};
-ghost use Rattle.name_map.specs.Laws.{map_entry_sized};
+ghost use Rattle.name_map.specs.Map.{map_entry_at, entry_of, name_inside};
 
-use area::list::Records;
-use area::{AreaName, Record, read_field, write_field};
+use area::read_field;
 use text::range::part;
 
 // Where an entry's name stands in the names of the map, and its id.
@@ -23,44 +20,27 @@ pub struct MapEntry {
     pub id: u16,
 }
 
-// A map is the host's and no area of a sheet. Nothing is appended to it, so that its name and `write` are not used.
-impl Record for MapEntry {
-    ghost format = { map_format };
-
-    ghost NAME = { Entries };
-
-    ghost WIDTH = { map_width };
-
-    ghost MOST = { most_entries };
-
-    ghost sized = { map_entry_sized };
-
-    const NAME: AreaName = AreaName::Entries;
-
-    const WIDTH: usize = 6;
-
-    const MOST: usize = 2048;
+// An entry is read from its bytes. A map is the host's and no area of a sheet, so that none is ever written, and `Record` asks more than a map has.
+impl From<[u8; MapEntry::WIDTH]> for MapEntry {
+    ghost from_gives = { λ bytes entry. entry ≡ map_entry_at bytes 0 };
 
     #[tactic(auto, unfolding(crate::specs::Map::map_entry_at, crate::specs::Map::map_entry_of, area::specs::Bytes::field_from))]
-    fn read(area: &[u8], k: usize) -> MapEntry {
-        let at = k * Self::WIDTH;
+    fn from(bytes: [u8; MapEntry::WIDTH]) -> MapEntry {
         MapEntry {
-            name_from: read_field(area, at),
-            name_length: read_field(area, at + 2),
-            id: read_field(area, at + 4),
+            name_from: read_field(&bytes, 0),
+            name_length: read_field(&bytes, 2),
+            id: read_field(&bytes, 4),
         }
-    }
-
-    #[tactic(auto, unfolding(area::specs::Bytes::two, area::specs::Bytes::bytes, crate::specs::Map::map_entry_fields))]
-    fn write(self, area: &mut [u8], k: usize) {
-        let at = k * Self::WIDTH;
-        write_field(area, at, self.name_from);
-        write_field(area, at + 2, self.name_length);
-        write_field(area, at + 4, self.id);
     }
 }
 
 impl MapEntry {
+    // How many bytes an entry has.
+    pub const WIDTH: usize = 6;
+
+    // How many entries a map may have: the map check says so, and `NameMap` takes any number.
+    pub const MOST: usize = 2048;
+
     // Where its name ends.
     fn name_end(self) -> usize
         ensures { result ≡ self.name_from + self.name_length }
@@ -77,7 +57,7 @@ impl MapEntry {
     }
 
     #[tactic(auto, using(text::proofs::Ranges::slices_compared))]
-    fn has_name(self, names: &[u8], name: &[u8]) -> bool
+    pub fn has_name(self, names: &[u8], name: &[u8]) -> bool
         ensures { result ≡ same_bytes (entry_of names.now self).name name.now }
     {
         self.name(names) == name
@@ -92,10 +72,9 @@ impl MapEntry {
     }
 }
 
-// A map as it is lent: the names, and the entries that say where a name stands in them.
+// A map as it is lent: the names, and the bytes of the entries that say where a name stands in them.
 #[derive(Drop)]
 pub struct NameMap<'a> {
     pub names: &'a [u8],
-    pub entries: Records<'a, MapEntry>,
-    pub ghost few: { length entries ≤ most_entries },
+    pub entries: &'a [[u8; MapEntry::WIDTH]],
 }

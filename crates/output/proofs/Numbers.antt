@@ -10,8 +10,10 @@ use Rattle.std.specs.Fmt.{decimal as digits}
 use Rattle.std.proofs.Common.{inl, inr, mod-eq_of_lt}
 use Rattle.std.proofs.lemmas.Bool.{cases_lt}
 use Rattle.std.proofs.lemmas.Fmt.{decimal_digit, decimal_step}
-use Rattle.output.specs.Output.{appended, digit_at, tens, decimal, printed_field}
-use Rattle.output.proofs.Appending.{appended_next}
+use Rattle.output.specs.declared.Text.{Text}
+use Rattle.output.specs.Output.{digit_at, tens, decimal, printed_field}
+use Rattle.output.specs.Text.{Appends}
+use Rattle.output.proofs.Appending.{appends_same, appends_then}
 
 -- ---- the library's digits of a number below 100,000
 
@@ -60,11 +62,10 @@ decimal_printed x h = elim (cases_lt x 10) [
 ]
 
 -- a blank, then the number
-pub field_printed : (n : ℕ) (t : List ℕ) (x : ℕ) {a d e : List ℕ} → x < 100000 → a ≡ appended n t (32 ∷ []) → d ≡ digits x → e ≡ appended n a d
-    → e ≡ appended n t (printed_field x)
+pub field_printed : (x : ℕ) {a b c : Text} {d : List ℕ} → x < 100000 → d ≡ digits x → Appends a b (32 ∷ []) → Appends b c d
+    → Appends a c (printed_field x)
 unfolding printed_field
-field_printed n t x {a} {d} {e} h p q r =
-    appended_next n t (32 ∷ []) (decimal x) (r ∙ ap (λ (u : List ℕ). appended n a u) (q ∙ decimal_printed x h)) p
+field_printed x h e p q = appends_then (appends_same (e ∙ decimal_printed x h) q) p
 
 -- ---- what is printed is the number: its digits spell it, for every number below 100,000
 

@@ -1,6 +1,16 @@
 -- What a text of limited length is when more is appended to it.
-use Rattle.std.specs.Prelude.{ℕ, zero, suc, ◌+◌, ◌-◌, ◌/◌, ◌%◌, cond, List, [], ◌∷◌, ◌++◌, ltb, length, take}
+use Rattle.std.specs.Prelude.{ℕ, zero, suc, ◌+◌, ◌-◌, ◌/◌, ◌%◌, min, ◌≡◌, cond, List, [], ◌∷◌, ◌++◌, ltb, length, take}
 use Rattle.area.specs.Bytes.{bytes, field_from}
+
+-- the first n bytes of the buffer l are the text t, or as much of it as l has room for
+pub record Written (t l : List ℕ) (n : ℕ) : Type 0 where
+  pub count : n ≡ min (length t) (length l)
+  pub is : take n l ≡ take n t
+
+-- the first n bytes of the buffer l are the text t, all of it
+pub record AllWritten (t l : List ℕ) (n : ℕ) : Type 0 where
+  pub count : n ≡ length t
+  pub is : take n l ≡ t
 
 -- the text v behind the text t, as much of it as n bytes have room for
 unfoldable pub appended : ℕ → List ℕ → List ℕ → List ℕ

@@ -1,7 +1,8 @@
 // The two-byte fields of an area, read and appended as numbers. An area is lent with a place, since it may end before the fields do.
 ghost use Rattle.std.specs.Prelude.{◌≡◌, ◌≤◌};
 ghost use Rattle.area.specs.Bytes.{field_at};
-ghost use Rattle.output.specs.Output.{appended, printed_fields_at};
+ghost use Rattle.output.specs.Output.{printed_fields_at};
+ghost use Rattle.output.specs.Text.{Appends};
 
 use crate::Text;
 use characters::whitespace::byte_at;
@@ -17,12 +18,12 @@ pub fn field_at(area: &[u8], at: usize) -> u16
     u16::from_le_bytes([byte_at(area, at), byte_at(area, at + 1)])
 }
 
-impl<const N: usize> Text<N> {
+impl Text<'_> {
     // The m fields from a place on. Every record that a count of 16 bits tells starts below 65,536 × 28.
     #[tactic(auto, using(crate::proofs::AreaFields::field_printing))]
     pub fn push_fields(&mut self, area: &[u8], at: usize, m: usize)
         requires { (at ≤ 1835008) × (m ≤ 14) }
-        ensures { self.new ≡ appended N self.old (printed_fields_at area.now at m) }
+        ensures { Appends self.old self.new (printed_fields_at area.now at m) }
     {
         for j in 0..m {
             self.push_field(field_at(area, at + 2 * j));

@@ -1,87 +1,90 @@
-// Text in a buffer. What does not fit is cut off, so that no function here asks for room.
+// Text in a buffer that is lent. What does not fit is cut off, so that no function here asks for room.
 #![tactic(auto)]
 
 pub mod fields;
 
-ghost use Rattle.std.specs.Prelude.{◌≡◌, ◌∷◌, [], ◌≤◌};
-ghost use Rattle.text.specs.Range.{part};
-ghost use Rattle.output.specs.Output.{appended, newline, printed_field};
+ghost use Rattle.std.specs.Prelude.{◌≤◌, length};
 
-use arrayvec::ArrayVec;
 use itoa::Buffer;
-use std::io::Write;
-use std::marker::Model;
 use text::range::part;
 
-// At most N bytes of text.
+// The first `count` bytes of a buffer.
 #[derive(Drop)]
-pub struct Text<const N: usize> {
-    bytes: ArrayVec<u8, N>,
+pub struct Text<'a> {
+    pub bytes: &'a mut [u8],
+    pub count: usize,
+    ghost within: { count ≤ length bytes.now },
 }
 
-impl<const N: usize> Model for Text<N> {
-    ghost use Rattle.std.specs.Prelude.{ℕ, List};
+impl<'a> Text<'a> {
+    ghost use Rattle.std.specs.Prelude.{◌≡◌, ◌∷◌, [], take};
+    ghost use Rattle.text.specs.Range.{part};
+    ghost use Rattle.output.specs.Output.{newline, printed_field};
+    ghost use Rattle.output.specs.Text.{text_in, Holds, Appends};
 
-    ghost Value = { List ℕ };
-
-    ghost view = { λ t. t.bytes.items };
-}
-
-impl<const N: usize> Text<N> {
-    pub fn new() -> Self
-        ensures { result ≡ [] }
+    pub fn new(bytes: &'a mut [u8]) -> Self
+        ensures { Holds bytes.entry result [] }
     {
-        Text {
-            bytes: ArrayVec::new(),
-        }
+        Text { bytes, count: 0 }
+    }
+
+    // The text that stands at the front already, of so many bytes, or as many as there are.
+    pub fn front(bytes: &'a mut [u8], count: usize) -> Self
+        ensures { Holds bytes.entry result (take count bytes.old) }
+    {
+        let count = count.min(bytes.len());
+        Text { bytes, count }
     }
 
     pub fn as_slice(&self) -> &[u8]
-        ensures { result.now ≡ self.now }
+        ensures { result.now ≡ text_in self.now }
     {
-        self.bytes.as_slice()
+        &self.bytes[..self.count]
     }
 
     pub fn clear(&mut self)
-        ensures { self.new ≡ [] }
+        ensures { Holds self.old.bytes self.new [] }
     {
-        self.bytes.clear();
+        self.count = 0;
     }
 
     pub fn push_text(&mut self, s: &[u8])
-        ensures { self.new ≡ appended N self.old s.now }
+        ensures { Appends self.old self.new s.now }
     {
-        let _count = self.bytes.write(s);
+        let n = s.len().min(self.bytes.len() - self.count);
+        let end = self.count + n;
+        self.bytes[self.count..end].copy_from_slice(&s[..n]);
+        self.count = end;
     }
 
     // The bytes of s from a place up to another, as far as s has them.
     pub fn push_part(&mut self, s: &[u8], from: usize, to: usize)
-        ensures { self.new ≡ appended N self.old (part s.now from to) }
+        ensures { Appends self.old self.new (part s.now from to) }
     {
         self.push_text(part(s, from, to));
     }
 
     pub fn push_byte(&mut self, b: u8)
-        ensures { self.new ≡ appended N self.old (b ∷ []) }
+        ensures { Appends self.old self.new (b ∷ []) }
     {
         self.push_text(&[b]);
     }
 
     pub fn push_line_end(&mut self)
-        ensures { self.new ≡ appended N self.old newline }
+        ensures { Appends self.old self.new newline }
     {
         self.push_byte(b'\n');
     }
 
     pub fn push_blank(&mut self)
-        ensures { self.new ≡ appended N self.old (32 ∷ []) }
+        ensures { Appends self.old self.new (32 ∷ []) }
     {
         self.push_byte(b' ');
     }
 
     // A number as a field: a blank and the number.
     pub fn push_field(&mut self, x: u16)
-        ensures { self.new ≡ appended N self.old (printed_field x) }
+        ensures { Appends self.old self.new (printed_field x) }
     {
         self.push_blank();
         self.push_text(Buffer::new().format(x).as_bytes());

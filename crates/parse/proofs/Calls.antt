@@ -10,7 +10,7 @@ use Rattle.area.specs.Bytes.{bytes, pad, zeros}
 use Rattle.area.specs.Contents.{Format, list_of, contents, Held, laid}
 use Rattle.area.proofs.Contents.{state_sound, rule_sound, entry_sound, text_sound, expected_sound, fault_sound, contents-length}
 use Rattle.section.specs.Options.{options}
-use Rattle.section.specs.Request.{request, asked}
+use Rattle.section.specs.Request.{known_request, asked}
 use Rattle.parse.specs.declared.FileCounts.{FileCounts}
 use Rattle.std.specs.Prelude.{Result, Ok, Err}
 use Rattle.parse.specs.declared.ParseError.{ParseError}
@@ -126,7 +126,7 @@ module _ (source : List ℕ) (flags : ℕ) (verdicts : List ℕ) (c1 c2 c3 c4 c5
         zeros_left (Err UnknownFlag) z ∙ rw (le-ltb 65535 (length source) within, lt-ltb 3 flags h)
 
     module _ (known : flags ≤ 3) (t : Bool) (is : t ≡ utf8 source) where
-      known_asked : asked source flags verdicts ≡ request source (options flags) verdicts
+      known_asked : asked source flags verdicts ≡ known_request source (options flags) verdicts
       known_asked = λ i. record { source = source; options = options flags; unknown_flags = le-ltb 3 flags known i; verdicts = verdicts }
 
       pub call_invalid_utf8 : t ≡ false → Leaves (Err InvalidUtf8)
@@ -136,7 +136,7 @@ module _ (source : List ℕ) (flags : ℕ) (verdicts : List ℕ) (c1 c2 c3 c4 c5
 
       -- the text is parsed, with areas of as many bytes
       pub call_text : t ≡ true → {m1 m2 m3 m4 m5 m6 : ℕ} → m1 ≡ c1 → m2 ≡ c2 → m3 ≡ c3 → m4 ≡ c4 → m5 ≡ c5 → m6 ≡ c6 → {x : Left}
-          → x ≡ leaves (caps m1 m2 m3 m4 m5 m6) (file (request source (options flags) verdicts) (caps m1 m2 m3 m4 m5 m6)) → x ≡ parse_call (asked source flags verdicts) (caps c1 c2 c3 c4 c5 c6)
+          → x ≡ leaves (caps m1 m2 m3 m4 m5 m6) (file (known_request source (options flags) verdicts) (caps m1 m2 m3 m4 m5 m6)) → x ≡ parse_call (asked source flags verdicts) (caps c1 c2 c3 c4 c5 c6)
       unfolding parse_call outcome
       call_text h e1 e2 e3 e4 e5 e6 q =
           q

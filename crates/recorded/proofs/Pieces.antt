@@ -1,36 +1,30 @@
 -- The pieces of a source, one behind the other.
-use mathlib.Core.Path.{◌≡◌, refl, ap, ◌∙◌}
-use mathlib.Core.List.{List, []}
+use mathlib.Core.Path.{◌≡◌, refl, ◌∙◌}
+use mathlib.Core.List.{List}
 use Prim.Native.Nat.{ℕ, zero, suc, ◌+◌, ◌≤◌, ◌<◌}
 use native.Mathlib.Omega.{arith}
-use native.Mathlib.Nat.{sub-zero}
 use native.Mathlib.Numerals.{add-one}
-use lib.ListN.{length, take}
-use Rattle.output.specs.Output.{appended}
-use Rattle.output.proofs.Appending.{appended_none, appended_then}
+use lib.ListN.{length}
+use Rattle.output.specs.declared.Text.{Text}
+use Rattle.output.specs.Text.{Appends}
+use Rattle.output.proofs.Appending.{appends_none, appends_same, appends_then}
 use Rattle.recorded.specs.Records.{number_at, skip_to, bytes_at, bytes_end, repeated, piece_end, pieces, pieces_end, source_end}
 
-module _ (n : ℕ) (l : List ℕ) (start : ℕ) where
-  pub pieces_none : [] ≡ appended n [] (pieces l 0 start)
+module _ (l : List ℕ) (start : ℕ) where
+  pub pieces_none : {a : Text} → Appends a a (pieces l 0 start)
   unfolding pieces
-  pieces_none = appended_none n []
+  pieces_none {a} = appends_none a
 
-  pub pieces_next : (i at : ℕ) (text text' piece : List ℕ) (times : ℕ) → at ≡ pieces_end l i start
+  pub pieces_next : (i at times : ℕ) (piece : List ℕ) {a b c : Text} → at ≡ pieces_end l i start
       → times ≡ number_at l at → piece ≡ bytes_at l (skip_to l at 4)
-      → text' ≡ appended n text (repeated times piece) → text ≡ appended n [] (pieces l i start)
-      → text' ≡ appended n [] (pieces l (i + 1) start)
+      → Appends b c (repeated times piece) → Appends a b (pieces l i start) → Appends a c (pieces l (i + 1) start)
   unfolding pieces
-  pieces_next i at text text' piece times z qt qp e r =
-      e ∙ rw (qt, qp, z, r, add-one) (appended_then n [] (pieces l i start) _)
+  pieces_next i at times piece z qt qp p q = rw add-one (appends_then (appends_same (rw (qt, qp, z) refl) p) q)
 
 module _ (l : List ℕ) (start : ℕ) where
   pub pieces_on : (i at next : ℕ) → at ≡ pieces_end l i start → next ≡ bytes_end l (skip_to l at 4) → next ≡ pieces_end l (i + 1) start
   unfolding pieces_end piece_end
   pieces_on i at next z e = e ∙ rw (z, add-one) refl
-
-pub all_taken : (n : ℕ) (v : List ℕ) → appended n [] v ≡ take n v
-unfolding appended
-all_taken n v = ap (λ (m : ℕ). take m v) (sub-zero n)
 
 -- ---- a source ends behind its start
 

@@ -1,9 +1,9 @@
 -- What a cursor reads, and where it then stands.
 use mathlib.Core.Path.{◌≡◌, sym, ap, ◌∙◌}
 use mathlib.Core.List.{List}
-use Prim.Native.Nat.{ℕ, ◌+◌, ◌-◌, ◌≤◌, ◌<◌}
+use Prim.Native.Nat.{ℕ, ◌+◌, ◌-◌, ◌≤◌}
 use native.Mathlib.Omega.{arith}
-use lib.ListN.{length, get_or, drop, length-take, get_or-eq_default}
+use lib.ListN.{length, drop, length-take, get_or-eq_default}
 use Rattle.std.proofs.Common.{inl, inr}
 use Rattle.std.proofs.lemmas.List.{get_or-take, get_or-drop}
 use Rattle.std.proofs.lemmas.Bool.{cases_lt}
@@ -12,7 +12,7 @@ use Rattle.text.specs.Range.{part}
 use Rattle.characters.specs.Whitespace.{byte}
 use Rattle.area.specs.Bytes.{field_at}
 use Rattle.area.specs.Contents.{list_of}
-use Rattle.recorded.specs.Records.{skip_to, bytes_end, next_bytes, front_at, number_at, long_at}
+use Rattle.recorded.specs.Records.{skip_to, bytes_end, front_at, number_at, long_at}
 
 -- ---- places
 
@@ -48,16 +48,15 @@ skip_step l m start at next k n same here goes j z =
 
 -- ---- bytes
 
-module _ (l : List ℕ) (at : ℕ) (within : at ≤ length l) where
-  -- of the bytes that are left, or 0, the one k places on
-  pub front_byte : (n : ℕ) (v : List ℕ) (k : ℕ) → k < n → v ≡ next_bytes n l at → (b : ℕ) → b ≡ get_or v k 0 → byte l (at + k) ≡ b
-  unfolding next_bytes part skip_to
-  front_byte n v k h is b z = elim (cases_lt k (skip_to l at n - at)) [
-    | inl g ↦ sym (z ∙ ap (λ (u : List ℕ). get_or u k 0) is ∙ get_or-take _ (drop at l) k 0 g ∙ get_or-drop at l k 0)
-    | inr g ↦
-        let e = ap length is in
-        get_or-eq_default l 0 (omega arith) ∙ sym (z ∙ get_or-eq_default v 0 (omega (arith, length-take {A = ℕ}, e)))
-  ]
+-- of the bytes from a place on, or 0, the one k places on
+pub front_byte : (l : List ℕ) (at : ℕ) (v : List ℕ) (k : ℕ) → v ≡ part l at (length l) → (b : ℕ) → b ≡ byte v k → byte l (at + k) ≡ b
+unfolding part
+front_byte l at v k is b z = elim (cases_lt k (length l - at)) [
+  | inl h ↦ sym (z ∙ ap (λ (u : List ℕ). byte u k) is ∙ get_or-take _ (drop at l) k 0 h ∙ get_or-drop at l k 0)
+  | inr h ↦
+      let e = ap length is in
+      get_or-eq_default l 0 (omega arith) ∙ sym (z ∙ get_or-eq_default v 0 (omega (arith, length-take {A = ℕ}, e)))
+]
 
 -- ---- numbers, which are so many bytes
 

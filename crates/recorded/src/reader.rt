@@ -1,7 +1,26 @@
 // Reading the recorded answers from a place on. A place past the end is the end, and a byte there counts as 0, so that no file breaks a reader.
-ghost use Rattle.std.specs.Prelude.{◌≤◌, length};
+ghost use Rattle.std.specs.Prelude.{◌≡◌, ◌≤◌, length};
+ghost use Rattle.area.specs.Bytes.{field_at};
+ghost use Rattle.recorded.specs.Records.{next_bytes, front_at, number_at, long_at, bytes_at, bytes_end};
 
+use characters::whitespace::byte_at;
 use std::array;
+use text::range::part;
+
+// The N bytes from a place on; those past the end count as 0.
+fn front<const N: usize>(answers: &[u8], at: usize) -> [u8; N]
+    ensures { result ≡ front_at N answers.now at }
+{
+    let bytes = part(answers, at, answers.len());
+    array::from_fn(|i| byte_at(bytes, i))
+}
+
+// A number of four bytes, low byte first, at any place, also one past the end, where no cursor stands.
+pub fn number(answers: &[u8], at: usize) -> u32
+    ensures { result ≡ number_at answers.now at }
+{
+    u32::from_le_bytes(front(answers, at))
+}
 
 // A place of the answers.
 #[derive(Clone, Copy)]
@@ -12,9 +31,6 @@ pub struct Cursor<'a> {
 }
 
 impl<'a> Cursor<'a> {
-    ghost use Rattle.std.specs.Prelude.{◌≡◌, ◌≤◌, length};
-    ghost use Rattle.area.specs.Bytes.{field_at};
-    ghost use Rattle.recorded.specs.Records.{next_bytes, front_at, number_at, long_at, bytes_at, bytes_end};
     ghost use Rattle.recorded.specs.Cursor.{behind, GoesTo, Reads};
 
     // All of the answers and a place in them, no part of them: the definitions count from the file's start.
@@ -45,8 +61,9 @@ impl<'a> Cursor<'a> {
     fn front<const N: usize>(&mut self) -> [u8; N]
         ensures { Reads (front_at N) (behind N) self.old self.new result }
     {
-        let bytes = self.take(N);
-        array::from_fn(|i| bytes.get(i).copied().unwrap_or(0))
+        let bytes = front(self.answers, self.at);
+        self.skip(N);
+        bytes
     }
 
     // A number of two bytes, low byte first.
@@ -60,7 +77,9 @@ impl<'a> Cursor<'a> {
     pub fn number(&mut self) -> u32
         ensures { Reads number_at (behind 4) self.old self.new result }
     {
-        u32::from_le_bytes(self.front())
+        let n = number(self.answers, self.at);
+        self.skip(4);
+        n
     }
 
     // A number of eight bytes, low byte first.

@@ -5,7 +5,12 @@ use mathlib.Core.Bool.{Bool}
 use mathlib.Core.List.{List, [], ◌∷◌}
 use native.Mathlib.Omega.{arith}
 use lib.ListN.{length, take}
+use Rattle.std.specs.Borrow.{MutBor}
 use Rattle.area.proofs.Contents.{list_of_is}
+use Rattle.output.specs.declared.Text.{Text}
+use Rattle.output.specs.Output.{appended}
+use Rattle.output.specs.Text.{Holds, Appends, text_in, room_in}
+use Rattle.output.proofs.Appending.{appended_first}
 use Rattle.section.specs.Request.{Request, asked}
 use Rattle.parse.specs.Parse.{parse_call}
 use Rattle.troymantle.specs.Words.{left_in_words, in_words}
@@ -69,17 +74,24 @@ module _ (src : List ℕ) (p p1 p2 p3 : Cursor) (flags word : ℕ) (verdicts cou
 
 -- ---- the source
 
-module _ (p p1 p2 : Cursor) (s t : List ℕ) (n : ℕ) (r : Bool) where
-  pub record_read : Reads (λ l at. take n (source_at l at)) source_end p p1 s → t ≡ s
+-- a new text in a buffer of n bytes, and the source in it
+pub source_read : (v : List ℕ) (n : ℕ) {lent : MutBor (List ℕ)} {a b : Text} {t : List ℕ} → length lent.now ≡ n
+    → Holds lent a [] → Appends a b v → t ≡ text_in b → t ≡ take n v
+source_read v n {lent} {a} long h p e =
+    let room : room_in a ≡ n = h.area.long ∙ long in
+    e ∙ p.is ∙ (λ i. appended (room i) (h.is i) v) ∙ appended_first n v
+
+module _ (p p1 p2 : Cursor) (t : List ℕ) (n : ℕ) (r : Bool) where
+  pub record_read : GoesTo source_end p p1 → t ≡ take n (source_at p.answers.now p.at)
       → Compares (Agrees t p1.answers.now p1.at buffers) record_end p1 p2 r
       → Compares (Agrees (take n (source_at p.answers.now p.at)) p.answers.now (source_end p.answers.now p.at) buffers)
       (λ l at. record_end l (source_end l at)) p p2 r
-  record_read d q x = record {
-    equal = subst (λ (P : Type 0). WhenTrue P r) (λ i. Agrees ((q ∙ d.is) i) (d.goes.same i) (d.goes.at_is i) buffers) x.equal;
+  record_read goes q x = record {
+    equal = subst (λ (P : Type 0). WhenTrue P r) (λ i. Agrees (q i) (goes.same i) (goes.at_is i) buffers) x.equal;
     goes = record {
-      at_is = x.goes.at_is ∙ (λ i. record_end (d.goes.same i) (d.goes.at_is i));
-      same = x.goes.same ∙ d.goes.same;
-      on = omega (arith, x.goes.on, d.goes.on);
+      at_is = x.goes.at_is ∙ (λ i. record_end (goes.same i) (goes.at_is i));
+      same = x.goes.same ∙ goes.same;
+      on = omega (arith, x.goes.on, goes.on);
     };
   }
 

@@ -4,7 +4,8 @@ ghost use Rattle.recorded.specs.Comparison.{Compares};
 ghost use Rattle.recorded.specs.Records.{source_at, source_end};
 ghost use Rattle.replay.specs.Records.{buffers, Agrees, record_end};
 
-use crate::call::parse;
+use crate::call::{parse, zeros};
+use output::Text;
 use recorded::reader::Cursor;
 
 // A record from behind its source on.
@@ -33,7 +34,9 @@ fn replay(cursor: &mut Cursor) -> bool
         (Agrees (take 65536 (source_at cursor.old.answers.now cursor.old.at)) cursor.old.answers.now (source_end cursor.old.answers.now cursor.old.at) buffers)
         (λ l at. record_end l (source_end l at)) cursor.old cursor.new result }
 {
-    let src = cursor.source::<65536>();
+    let mut buffer = zeros::<65536>();
+    let mut src = Text::new(&mut buffer);
+    cursor.source(&mut src);
     replay_rest(cursor, src.as_slice())
 }
 

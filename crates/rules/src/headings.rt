@@ -1,6 +1,6 @@
-// A rule's line but for its pattern: the last blank, and behind it the target and the name (01, Rules). A line and a target go by places of the
+// A rule's line but for its pattern: the last blank, and behind it the target and the name (01, Rules). A target goes by places of the
 // source, and what stands behind the target is a `Span`, as in the definitions.
-ghost use Rattle.std.specs.Prelude.{◌≡◌, ◌+◌, ◌-◌, ◌≤◌, ◌<◌, length};
+ghost use Rattle.std.specs.Prelude.{◌≡◌, ◌+◌, ◌≤◌, ◌<◌, length};
 ghost use Rattle.rules.specs.Heading.{operation_of, mark_length, target_of, label_of, head_unnamed, head_named};
 ghost use Rattle.rules.specs.Heading.{heading_named, heading_behind, heading_of};
 
@@ -11,10 +11,11 @@ use characters::whitespace::byte_at;
 use fault::{LexError, LexErrorKind, Span};
 use names::{NamedRules, get_start_state_by_name};
 use section::LexFile;
+use section::reader::FileLine;
 use text::range::part;
 use text::scan::{find_byte, last_blank};
 
-// ---- the target, behind the blank at r of a line trimmed at t
+// ---- the target, behind the blank at r of a line
 
 #[tactic(auto, unfolding(crate::specs::Heading::operation_of))]
 fn parse_start_state_ops(x: u8) -> StartStateOperation
@@ -41,18 +42,19 @@ fn mark_len(operation: StartStateOperation) -> usize
 
 // Its state's name starts behind the `<`, or behind the `+` or `-` that follows.
 #[tactic(auto, unfolding(crate::proofs::Targets::targets))]
-fn target_of(file: LexFile, r: usize, t: usize, states: &Records<State>) -> Result<Target, LexError>
-    requires { (r < t) × (t ≤ length file.source.now) }
-    ensures { result ≡ target_of file.entry.source.now r t states.now }
+fn target_of(at: FileLine, r: usize, states: &Records<State>) -> Result<Target, LexError>
+    requires { r < at.line.end }
+    ensures { result ≡ target_of at.entry.file.source.now r at.entry.line.end states.now }
 {
+    let FileLine { file, line } = at;
     if byte_at(file.source, r + 1) != b'<' {
         return Ok(Target {
             state: None,
             end: r + 1,
         });
     }
-    let g = find_byte(file.source, r + 1, t, b'>');
-    if t <= g {
+    let g = find_byte(file.source, r + 1, line.end, b'>');
+    if line.end <= g {
         return Err(LexErrorKind::InvalidStartState.at(r as u16));
     }
     let operation = parse_start_state_ops(byte_at(file.source, r + 2));
@@ -84,96 +86,94 @@ fn label_of(src: &[u8], q: Span) -> Label
 
 // ---- the heading
 
-fn head_unnamed(r: usize, target_state: Option<TargetState>) -> Head
-    requires { r < 65535 }
-    ensures { result ≡ head_unnamed r target_state }
+// What stands behind a rule's pattern, before its name is read: the last blank, the target's state, and where the name part is.
+#[derive(Clone, Copy)]
+struct NamePart {
+    blank: usize,
+    target_state: Option<TargetState>,
+    span: Span,
+    ghost behind: { (blank < span.start) × (span.start ≤ span.end) },
+}
+
+fn head_unnamed(part: NamePart) -> Head
+    ensures { result ≡ head_unnamed part.blank part.target_state }
 {
-    let at = (r + 1) as u16;
+    let at = (part.blank + 1) as u16;
     Head {
         name: None,
         name_span: Span { start: at, end: at },
-        target_state,
+        target_state: part.target_state,
     }
 }
 
-// The name with its quotes stands at q.
-fn head_named(r: usize, q: Span, target_state: Option<TargetState>) -> Head
-    requires { (r < q.start) × (q.start + 2 < q.end) }
-    ensures { result ≡ head_named r q target_state }
+// The name part is the name with its quotes.
+fn head_named(part: NamePart) -> Head
+    requires { part.span.start + 2 < part.span.end }
+    ensures { result ≡ head_named part.blank part.span part.target_state }
 {
-    let size = q.end - q.start;
+    let size = part.span.end - part.span.start;
     Head {
         name: Some(Name {
-            from: q.start + 1,
+            from: part.span.start + 1,
             length: size - 2,
         }),
         name_span: Span {
-            start: r as u16 + 2,
-            end: r as u16 + size,
+            start: part.blank as u16 + 2,
+            end: part.blank as u16 + size,
         },
-        target_state,
+        target_state: part.target_state,
     }
 }
 
-// A quoted name stands at q: a rule has it already, or none.
+// The name part is a quoted name: a rule has it already, or none.
 #[tactic(auto, unfolding(crate::specs::Heading::heading_named, crate::specs::Heading::rule_named))]
-fn heading_named(
-    r: usize,
-    target_state: Option<TargetState>,
-    q: Span,
-    rules: &NamedRules,
-) -> Heading
-    requires { (r < q.start) × (q.start + 2 < q.end) }
-    ensures { result ≡ heading_named rules.now.source.now r target_state q rules.now.rules }
+fn heading_named(part: NamePart, rules: &NamedRules) -> Heading
+    requires { part.span.start + 2 < part.span.end }
+    ensures { result ≡ heading_named rules.now.source.now part.blank part.target_state part.span rules.now.rules }
 {
-    let h = head_named(r, q, target_state);
-    let Some(j) = rules.find((q.start + 1) as usize, (q.end - 1) as usize) else {
-        return Heading::Fresh(r, h);
+    let h = head_named(part);
+    let Some(j) = rules.find((part.span.start + 1) as usize, (part.span.end - 1) as usize) else {
+        return Heading::Fresh(part.blank, h);
     };
     Heading::Repeated(rules.get(j).into(), h.name_span)
 }
 
-// What stands at q behind the target.
+// What the name part says.
 #[tactic(auto, using(crate::proofs::Heads::heading), unfolding(crate::specs::Heading::heading_behind))]
-fn heading_behind(
-    file: LexFile,
-    r: usize,
-    target_state: Option<TargetState>,
-    q: Span,
-    rules: &NamedRules,
-) -> Result<Heading, LexError>
-    requires r_lt_start { r < q.start }
-    requires q_inside { (q.start ≤ q.end) × (q.end ≤ length file.source.now) }
+fn heading_behind(file: LexFile, part: NamePart, rules: &NamedRules) -> Result<Heading, LexError>
+    requires inside { part.span.end ≤ length file.source.now }
     requires source { rules.now.source.now ≡ file.source.now }
-    ensures { result ≡ heading_behind file.entry.source.now r target_state q rules.now.rules }
+    ensures { result ≡ heading_behind file.entry.source.now part.blank part.target_state part.span rules.now.rules }
 {
-    match label_of(file.source, q) {
-        Label::Unnamed => Ok(Heading::Fresh(r, head_unnamed(r, target_state))),
-        Label::Named => Ok(heading_named(r, target_state, q, rules)),
-        Label::Misnamed => Err(LexErrorKind::InvalidName.at((r + 1) as u16)),
+    match label_of(file.source, part.span) {
+        Label::Unnamed => Ok(Heading::Fresh(part.blank, head_unnamed(part))),
+        Label::Named => Ok(heading_named(part, rules)),
+        Label::Misnamed => Err(LexErrorKind::InvalidName.at((part.blank + 1) as u16)),
     }
 }
 
-// The line from i, trimmed at t. The last blank splits pattern from name.
+// The line, trimmed at its end. The last blank splits pattern from name.
 #[tactic(auto, using(crate::proofs::Heads::heading), unfolding(crate::specs::Heading::heading_of))]
 pub fn heading_of(
-    file: LexFile,
-    i: usize,
-    t: usize,
+    at: FileLine,
     states: &Records<State>,
     rules: &NamedRules,
 ) -> Result<Heading, LexError>
-    requires i_le_t { (i ≤ t) × (t ≤ length file.source.now) }
-    requires source { rules.now.source.now ≡ file.source.now }
-    ensures { result ≡ heading_of file.entry.source.now i t states.now rules.now.rules }
+    requires source { rules.now.source.now ≡ at.file.source.now }
+    ensures { result ≡ heading_of at.entry.file.source.now at.entry.line.start at.entry.line.end states.now rules.now.rules }
 {
-    let Some(r) = last_blank(file.source, i, t) else {
-        return Err(LexErrorKind::MissingSpace.at(i as u16));
+    let FileLine { file, line } = at;
+    let Some(r) = last_blank(file.source, line.start, line.end) else {
+        return Err(LexErrorKind::MissingSpace.at(line.start as u16));
     };
-    let target = target_of(file, r, t, states)?;
-    let behind = Span {
-        start: target.end as u16,
-        end: t as u16,
+    let target = target_of(at, r, states)?;
+    let part = NamePart {
+        blank: r,
+        target_state: target.state,
+        span: Span {
+            start: target.end as u16,
+            end: line.end as u16,
+        },
     };
-    heading_behind(file, r, target.state, behind, rules)
+    heading_behind(file, part, rules)
 }

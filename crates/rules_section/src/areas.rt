@@ -1,5 +1,6 @@
 // The areas of the rules section, which it is lent for writing, with the counts of their records. Each function that takes them says that they stay
-// the areas that were lent.
+// the areas that were lent. That they hold what the counts say each function asks, and it is no invariant of the type: an area is written before its
+// count is, and of a text that does not fit, the pieces that did stay behind the counted ones.
 ghost use Rattle.std.specs.Prelude.{◌≡◌};
 ghost use Rattle.area.specs.Contents.{rule_format, contents, Held};
 

@@ -15,7 +15,7 @@ use names::NamedRules;
 use names::marks::MARKS;
 use rules::Heading;
 use rules::headings::heading_of;
-use section::reader::FileLine;
+use section::reader::{FileLine, Line};
 use text::scan::{trim_end, trim_end_unescaped};
 
 // The rule in the line.
@@ -32,9 +32,15 @@ fn parse_rule(
     ensures does { DoesRuled (λ k c6. rule (asked_by at.entry.file) states.now k c6 at.entry.line.start at.entry.line.end) areas result }
 {
     let FileLine { file, line } = at;
-    let t = trim_end(file.source, line.start, line.end);
+    let trimmed = FileLine {
+        file,
+        line: Line {
+            start: line.start,
+            end: trim_end(file.source, line.start, line.end),
+        },
+    };
     let rules = NamedRules::new(file.source, areas.rule_records(), marks);
-    match heading_of(file, line.start, t, states, &rules)? {
+    match heading_of(trimmed, states, &rules)? {
         Heading::Repeated(first, again) => {
             let kind = LexErrorKind::DuplicateName;
             let count = areas.counts.faults;

@@ -109,7 +109,8 @@ fn list_since(before: u16, now: u16) -> StateList
 
 // ---- the pattern
 
-// The pattern of the line up to c, and the rule.
+// The pattern of the line up to c, and the rule. The line, what stands behind the pattern, the pattern's end and the states come from four callees,
+// and no two of them go on together, so they stay parameters.
 #[tactic(auto, using(crate::proofs::Patterns::patterning))]
 pub fn parse_pattern(
     at: FileLine,

@@ -1,5 +1,5 @@
 // The numbers of a line as two-byte fields.
-use output::Text;
+use arrayvec::ArrayVec;
 
 // The low half of each byte is a digit, whatever the byte is; the number is taken modulo 65,536.
 fn number_of(word: &[u8]) -> u16 {
@@ -8,11 +8,11 @@ fn number_of(word: &[u8]) -> u16 {
     })
 }
 
-// The numbers behind the first word of a line; as many as fit.
-pub fn numbers_of(line: &[u8]) -> Text<128> {
-    let mut numbers = Text::new();
+// The numbers behind the first word of a line; what does not fit is left out.
+pub fn numbers_of(line: &[u8]) -> ArrayVec<u8, 128> {
+    let mut numbers = ArrayVec::new();
     for word in line.split(|byte| *byte == b' ').skip(1) {
-        numbers.push_text(&number_of(word).to_le_bytes());
+        let _ = numbers.try_extend_from_slice(&number_of(word).to_le_bytes());
     }
     numbers
 }

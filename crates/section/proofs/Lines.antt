@@ -4,11 +4,11 @@ use mathlib.Core.Path.{◌≡◌, refl, sym, ap, ◌∙◌}
 use mathlib.Core.Bool.{Bool, true, false, cond, false≢true, and-false}
 use mathlib.Core.List.{List}
 use mathlib.Core.Logic.{⊎_elim}
-use Prim.Native.Nat.{ℕ, ◌+◌, ◌-◌, ◌≤◌, ◌<◌, max}
+use Prim.Native.Nat.{ℕ, ◌+◌, ◌-◌, ◌%◌, ◌≤◌, ◌<◌, max}
 use native.Mathlib.Nat.{eq-zero-or-pos}
 use native.Mathlib.Omega.{arith}
 use borrow.Author.Rules.{rules}
-use borrow.Author.Tests.{eqb-true, eqb-false}
+use borrow.Author.Tests.{eq-eqb, ne_eqb, eqb-true, eqb-false}
 use lib.Dec.{eqb}
 use lib.ListN.{length, drop, length-take, length-drop}
 use lib.Seq.{get_or-take, get_or-drop}
@@ -25,6 +25,7 @@ use Rattle.characters.proofs.Spaces.{end_one, white_inside, end_inside}
 use Rattle.text.proofs.Ranges.{ahead_short, same_equal}
 use Rattle.std.proofs.lemmas.Option.{none-some}
 use Rattle.section.specs.declared.options.Options.{Options}
+use Rattle.section.specs.Options.{comments}
 use Rattle.section.specs.Section.{percents, slashes, is_comment, past_comment, past_both, past_line, to_declaration, past_rule_line, to_rule, in_section}
 
 -- ---- a word that stands at i: its bytes, and that it ends within the text
@@ -47,6 +48,19 @@ pub ahead_within : (s w : List ℕ) (i j : ℕ) → lookahead_is s w i ≡ Some 
 unfolding lookahead_is
 ahead_within s w i j e =
     (cond_both (same_bytes (part s i (i + length w)) w) (Some (i + length w)) None (λ f. f ≡ Some j → i + length w ≡ j) (λ _ z. cc) (λ _ z. absurd (none-some j z)) e, word_within s w i (ap is_some e))
+
+-- ---- the tests
+
+module _ (s : List ℕ) (flags i : ℕ) where
+  -- with flag 1, a line that it skips starts where two slashes stand
+  pub comment_on : (f : Option ℕ) (r : Bool) → flags % 2 ≡ 1 → f ≡ lookahead_is s slashes i → r ≡ is_some f → r ≡ is_comment s (comments flags) i
+  unfolding is_comment comments
+  comment_on f r o e q = q ∙ ap is_some e ∙ sym (rw (eq-eqb (flags % 2) 1 o))
+
+  -- without it no such line starts anywhere
+  pub comment_off : (flags % 2 ≡ 1 → ⊥) → false ≡ is_comment s (comments flags) i
+  unfolding is_comment comments
+  comment_off o = rw (ne_eqb (flags % 2) 1 o)
 
 -- ---- the end of a section
 

@@ -12,8 +12,8 @@ pub record Request : Type 0 where
   pub verdicts : List ℕ
 
 -- what is asked with known flags that choose this
-abbrev pub request : List ℕ → Options → List ℕ → Request
-request s o verdicts = record { source = s; options = o; unknown_flags = false; verdicts = verdicts }
+abbrev pub known_request : List ℕ → Options → List ℕ → Request
+known_request s o verdicts = record { source = s; options = o; unknown_flags = false; verdicts = verdicts }
 
 -- what these parameters ask: the flags are known up to 3
 abbrev pub asked : List ℕ → ℕ → List ℕ → Request
@@ -21,4 +21,4 @@ asked source flags verdicts = record { source = source; options = options flags;
 
 -- what is asked of a file that is lent
 abbrev pub asked_by : LexFile → Request
-asked_by x = request x.source.now x.options x.verdicts.now
+asked_by x = known_request x.source.now x.options x.verdicts.now

@@ -1,7 +1,6 @@
 // Reads a lex file from standard input and prints its sheet (01, Files to try, the end).
 #![tactic(auto)]
 
-use output::Text;
 use sheet_print::{SHEET_ROOM, sheet};
 use streams::{fail, read_source};
 
@@ -13,9 +12,9 @@ fn main(rt: HostRuntime) {
         fail(&rt, "standard input", error);
         return;
     }
-    let mut out = Text::<SHEET_ROOM>::new();
-    sheet(source.text, &mut out);
-    if let Err(error) = rt.write_all(out.as_slice()) {
+    let mut out = [0u8; SHEET_ROOM];
+    let n = sheet(source.text, &mut out);
+    if let Err(error) = rt.write_all(&out[..n]) {
         fail(&rt, "standard output", error);
     }
 }

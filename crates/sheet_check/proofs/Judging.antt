@@ -1,12 +1,11 @@
 -- What the tests of a sheet come to when they are joined: those of an area one record at a time, those of the sizes as their code joins them.
-use mathlib.Core.Path.{◌≡◌, sym, ap, ◌∙◌}
-use mathlib.Core.Bool.{Bool, true, false, ◌&&◌}
+use mathlib.Core.Path.{◌≡◌, refl, sym, ap, ◌∙◌}
+use mathlib.Core.Bool.{Bool, true, false, ◌&&◌, true≢false}
 use mathlib.Core.List.{List}
-use Prim.Native.Nat.{ℕ, ◌*◌, ◌≤◌, ◌<◌}
+use Prim.Native.Nat.{ℕ, ◌+◌, ◌*◌, ◌≤◌, ◌<◌}
 use native.Mathlib.Nat.{mul-one}
 use native.Mathlib.Omega.{arith}
 use lib.Dec.{leb}
-use lib.ListN.{get_or}
 use borrow.Author.Tests.{leb-true}
 use Rattle.std.proofs.lemmas.Bool.{and_parts}
 use Rattle.area.specs.declared.State.{State}
@@ -18,7 +17,7 @@ use Rattle.sheet_check.specs.declared.Sizes.{Sizes}
 use Rattle.sheet_check.specs.SheetCheck.{SheetBytes, sizes_of, long_enough, good_counts, good_sizes, declared}
 use Rattle.sheet_check.specs.SheetCheck.{good_state, good_rule, good_expected, good_records, decoded, sheet_check}
 use Rattle.area.specs.Lists.{all}
-use Rattle.area.proofs.All.{all-at, all_from}
+use Rattle.area.proofs.All.{all-at, all_next}
 use Rattle.area.proofs.Contents.{contents_count, contents_read}
 
 -- ---- the records of an area
@@ -29,12 +28,18 @@ module _ {A : Type 0} (F : Format A) (test : A → Bool) (l : List ℕ) where
     pub record_at : (k : ℕ) → all test (contents F l n) ≡ true → k < n → test (F.read l k) ≡ true
     record_at k e h = ap test (sym (contents_read F l n k h)) ∙ all-at test (contents F l n) F.blank k e (omega (arith, contents_count F l n))
 
-    -- records that pass one by one all pass
-    pub records_pass : ((k : ℕ) → k < n → test (F.read l k) ≡ true) → all test (contents F l n) ≡ true
-    records_pass f = all_from test (contents F l n) F.blank (λ k h. at k (omega (arith, h, contents_count F l n)))
+  module _ (k : ℕ) (x : A) (t : Bool) (is : x ≡ F.read l k) (judged : t ≡ test x) where
+    -- where the first k records pass and record k does, the first k + 1 pass
+    pub goes_on_at_good : true ≡ all test (contents F l k) → t ≡ true → true ≡ all test (contents F l (k + 1))
+    goes_on_at_good g good = sym good ∙ all_next F test l k true t x g is judged
+
+    -- where record k does not pass, more than k records do not all pass
+    pub leaves_at_bad : (n : ℕ) → k < n → t ≡ false → false ≡ all test (contents F l n)
+    leaves_at_bad n h bad = by (all test (contents F l n)) refl
       where
-        at : (k : ℕ) → k < n → test (get_or (contents F l n) k F.blank) ≡ true
-        at k h = ap test (contents_read F l n k h) ∙ f k h
+        by : (b : Bool) → all test (contents F l n) ≡ b → false ≡ all test (contents F l n)
+        by true q = absurd (true≢false (sym (record_at n k q h) ∙ sym (judged ∙ ap test is) ∙ bad))
+        by false q = sym q
 
 -- ---- the sizes
 

@@ -5,7 +5,7 @@ use Rattle.std.specs.Prelude.{Option, Some, None}
 use mathlib.Core.Path.{◌≡◌, refl, sym, ap, subst, ◌∙◌}
 use mathlib.Core.Bool.{Bool, true, false, cond}
 use mathlib.Core.List.{List, [], ◌∷◌}
-use Prim.Native.Nat.{ℕ, zero, suc, ◌+◌, ◌-◌, ◌≤◌, ◌<◌}
+use Prim.Native.Nat.{ℕ, zero, suc, ◌+◌, ◌*◌, ◌-◌, ◌≤◌, ◌<◌}
 use native.Mathlib.Nat.{zero-add}
 use native.Mathlib.Omega.{arith}
 use lib.Dec.{ltb}
@@ -13,7 +13,7 @@ use lib.ListN.{length, get_or, take, drop}
 use lib.Seq.{length-take-le, get_or-take, take-take}
 use borrow.Author.Tests.{ltb-true, lt-ltb, le-ltb, eq-eqb, ne_eqb}
 use Rattle.area.specs.declared.Rule.{Rule}
-use Rattle.area.specs.Records.{rule_at, nth_rule}
+use Rattle.area.specs.Records.{rule_width, rule_at, nth_rule}
 use Rattle.area.specs.Contents.{contents, rule_format}
 use Rattle.area.proofs.Contents.{list_of_is, contents_read}
 use Rattle.area.specs.declared.RuleText.{RuleText}
@@ -43,6 +43,10 @@ module _ (b : SheetBytes) (k : ℕ) {t : Bool} (is : t ≡ sheet_check b) where
   pub sheet_broken : t ≡ false → None ≡ pattern_part b k
   unfolding pattern_part
   sheet_broken e = rw (sym is ∙ e)
+
+-- where the check passed, the bytes of a rule that is counted lie in area 2
+pub rule_bytes_lem : (b : SheetBytes) (k : ℕ) (t : Bool) → t ≡ sheet_check b → t ≡ true → k < count b 2 → k * rule_width + rule_width ≤ length b.area2
+rule_bytes_lem b k t is e h = omega (arith, (checked_long b (sym is ∙ e)).long2)
 
 -- ---- a part that was answered
 

@@ -9,20 +9,18 @@ use lib.Dec.{eqb}
 use lib.ListN.{length}
 use Rattle.std.proofs.lemmas.Bool.{cond_both}
 use Rattle.area.specs.declared.Rule.{Rule}
-use Rattle.area.specs.Records.{rule_at, nth_entry}
-use Rattle.area.specs.Contents.{contents, rule_format}
+use Rattle.area.specs.Records.{rule_of, nth_rule, nth_entry}
 use Rattle.area.specs.Lists.{all}
 use Rattle.area.proofs.All.{all_from}
+use Rattle.lanes.specs.declared.Bounds.{Bounds}
 use Rattle.lanes.specs.Lanes.{RuleWithin, RulesWithin, EntriesWithin}
 use Rattle.sheet_check.specs.declared.Sizes.{Sizes}
 use Rattle.sheet_check.specs.SheetCheck.{declared, good_rule}
-use Rattle.sheet_check.proofs.Judging.{records_pass}
 use Rattle.sheet_check.proofs.Checked.{GoodRule, rule_passes}
 
--- limits that are inside those of a sheet
-module _ (z : Sizes) (l : List ℕ) (source highest entries text : ℕ) (hn : source ≤ z.source) (hs : highest < z.states) (he : entries ≤ z.entries)
-    (ht : text ≤ z.text) where
-  rule_good : (x : Rule) → RuleWithin source highest entries text x → GoodRule z x
+-- bounds that are inside the sizes of a sheet
+module _ (z : Sizes) (b : Bounds) (hn : b.source ≤ z.source) (hs : b.highest < z.states) (he : b.entries ≤ z.entries) (ht : b.text ≤ z.text) where
+  rule_good : (x : Rule) → RuleWithin b x → GoodRule z x
   rule_good x w = record {
     has_id = w.has_id;
     named = w.named;
@@ -41,9 +39,9 @@ module _ (z : Sizes) (l : List ℕ) (source highest entries text : ℕ) (hn : so
     target = omega (arith, hs, w.target);
   }
 
-  pub rules_good : (count : ℕ) → RulesWithin l count source highest entries text → all (good_rule z) (contents rule_format l count) ≡ true
-  rules_good count within =
-      records_pass rule_format (good_rule z) l count (λ k h. rule_passes z (rule_at l k) (rule_good (rule_at l k) (within.each k h)))
+  pub rules_good : (rules : List Rule) → RulesWithin rules b → all (good_rule z) rules ≡ true
+  rules_good rules within =
+      all_from (good_rule z) rules (rule_of (λ _. 0)) (λ k h. rule_passes z (nth_rule rules k) (rule_good (nth_rule rules k) (within.each k h)))
 
 pub entries_declared : (ids : List ℕ) (highest states : ℕ) → highest < states → EntriesWithin ids 0 (length ids) highest
     → all (declared states) ids ≡ true

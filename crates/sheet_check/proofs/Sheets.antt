@@ -12,10 +12,9 @@ use Rattle.area.specs.declared.Rule.{Rule}
 use Rattle.area.specs.declared.Expected.{Expected}
 use Rattle.area.specs.Records.{state_width, rule_width, entry_width, expected_width}
 use Rattle.area.specs.Contents.{contents, state_format, rule_format, entry_format, expected_format}
-use Rattle.area.specs.Lists.{all}
 use Rattle.sheet_check.specs.declared.Sheet.{Sheet}
 use Rattle.sheet_check.specs.declared.Sizes.{Sizes}
-use Rattle.sheet_check.specs.SheetCheck.{decoded, sizes_of, good_rule, sheet_check}
+use Rattle.sheet_check.specs.SheetCheck.{decoded, sizes_of, sheet_check}
 use Rattle.sheet_check.specs.Phrases.{lent_sheet, GoodSizes}
 use Rattle.sheet_check.proofs.Checked.{checked_sizes}
 use Rattle.sheet_check.proofs.Judging.{Long, sizes_long, sizes_counts}
@@ -47,10 +46,6 @@ module _ (s : Sheet) (z : Sizes) (of : z ≡ sizes_of (lent_sheet s)) where
   pub rules_are : (xs : List Rule) → xs ≡ contents rule_format s.rules.now z.rules → xs ≡ (decoded (lent_sheet s)).rules
   unfolding decoded
   rules_are xs e = e ∙ ap (λ (y : Sizes). contents rule_format s.rules.now y.rules) of
-
-  pub rules_asked : all (good_rule z) (contents rule_format s.rules.now z.rules) ≡ all (good_rule (sizes_of (lent_sheet s))) (decoded (lent_sheet s)).rules
-  unfolding decoded
-  rules_asked = ap (λ (y : Sizes). all (good_rule y) (contents rule_format s.rules.now y.rules)) of
 
   pub entries_are : (xs : List ℕ) → xs ≡ contents entry_format s.entries.now z.entries → xs ≡ (decoded (lent_sheet s)).lists
   unfolding decoded

@@ -1,17 +1,15 @@
 // The sheet check (01, Linking, the end). The run asks for it at each step, and mostly of a sheet that passes: the tests of a record are
 // joined without a branch, and the rules, the longest of the records, go by a quick test of eight fields at a time first.
-ghost use Rattle.std.specs.Prelude.{◌≡◌, true, ◌*◌, ◌≤◌, min, leb, length};
-ghost use Rattle.area.specs.Records.{state_width, rule_width, entry_width, expected_width};
-ghost use Rattle.area.specs.Contents.{contents, state_format, rule_format, entry_format, expected_format};
+ghost use Rattle.std.specs.Prelude.{◌≡◌, true, ◌*◌, ◌≤◌, min, leb};
 ghost use Rattle.area.specs.Lists.{all};
-ghost use Rattle.sheet_check.specs.SheetCheck.{sizes_of, decoded, good_counts, good_sizes, ordered, within, declared, text_bytes};
+ghost use Rattle.sheet_check.specs.SheetCheck.{good_counts, good_sizes, ordered, within, declared, text_bytes};
 ghost use Rattle.sheet_check.specs.SheetCheck.{good_state, good_rule, good_expected, good_records, sheet_check};
 ghost use Rattle.sheet_check.specs.Phrases.{lent_sheet, GoodSizes};
 
 use crate::{Sheet, Sizes};
 use area::list::Records;
 use area::{Expected, Record, Rule, State};
-use lanes::{entries_within, quick_rules};
+use lanes::{Bounds, entries_within, quick_rules};
 
 // ---- a record
 
@@ -112,30 +110,26 @@ fn sum_limit(n: usize) -> u16
     n.min(MOST_SUM as usize) as u16
 }
 
-// The quick test of the rules: where it passes, every rule is good. It goes by the bytes of area 2, and the limits go as numbers, for `sizes`
-// would be laid out in memory to be lent; so would the sheet, as the parameter in place of the area (measured: 7 instructions of a step).
-fn rules_within(sizes: Sizes, area: &[u8]) -> bool
-    requires rule_width_in_bounds { sizes.rules * rule_width ≤ length area.now }
-    requires le_states { 1 ≤ sizes.states }
-    ensures { result ≡ true → all (good_rule sizes) (contents rule_format area.now sizes.rules) ≡ true }
+// The quick test of the rules: where it passes, every rule is good.
+fn rules_within(sizes: Sizes, rules: &Records<Rule>) -> bool
+    requires { 1 ≤ sizes.states }
+    ensures { result ≡ true → all (good_rule sizes) rules.now ≡ true }
 {
-    quick_rules(
-        area,
-        sizes.rules,
-        sum_limit(sizes.source),
-        sizes.states - 1,
-        sum_limit(sizes.entries as usize),
-        sum_limit(sizes.text as usize),
-    )
+    let bounds = Bounds {
+        source: sum_limit(sizes.source),
+        highest: sizes.states - 1,
+        entries: sum_limit(sizes.entries as usize),
+        text: sum_limit(sizes.text as usize),
+    };
+    quick_rules(rules, bounds)
 }
 
 // The quick test first, which the rules of a sheet mostly pass.
-fn rules_pass(sizes: Sizes, area: &[u8]) -> bool
-    requires rule_width_in_bounds { sizes.rules * rule_width ≤ length area.now }
-    requires le_states { 1 ≤ sizes.states }
-    ensures { result ≡ all (good_rule sizes) (contents rule_format area.now sizes.rules) }
+fn rules_pass(sizes: Sizes, rules: &Records<Rule>) -> bool
+    requires { 1 ≤ sizes.states }
+    ensures { result ≡ all (good_rule sizes) rules.now }
 {
-    rules_within(sizes, area) || good_rules(sizes, &Records::new(area, sizes.rules))
+    rules_within(sizes, rules) || good_rules(sizes, rules)
 }
 
 // ---- the sheet
@@ -175,7 +169,7 @@ fn good_records(sheet: Sheet) -> bool
 {
     let sizes = sheet.sizes();
     good_states(sizes, &sheet.state_records())
-        && rules_pass(sizes, sheet.rules)
+        && rules_pass(sizes, &sheet.rule_records())
         && good_entries(&sheet.entry_records(), sizes.states)
         && good_names(sizes, &sheet.expected_records())
 }
@@ -198,7 +192,7 @@ fn quick_records(sheet: Sheet) -> bool
 {
     let sizes = sheet.sizes();
     good_states(sizes, &sheet.state_records())
-        && rules_within(sizes, sheet.rules)
+        && rules_within(sizes, &sheet.rule_records())
         && entries_within(&sheet.entry_records(), sizes.states - 1)
         && good_names(sizes, &sheet.expected_records())
 }

@@ -12,16 +12,17 @@ use area::list::Records;
 use area::{Expected, Rule, State};
 
 // What a host hands in as a sheet: the source, areas 1 to 5, and the counts of the areas. It has no `new`: of seven arguments the first six would
-// all be slices of bytes, told apart by their place alone, and here each has its name.
+// all be slices of bytes, told apart by their place alone, and here each has its name. The text of a rule is of the source or of area 4: while it
+// is kept, the host may write the others, so that these have a lifetime of their own.
 #[derive(Clone, Copy)]
-pub struct Sheet<'a> {
+pub struct Sheet<'a, 'b> {
     pub source: &'a [u8],
-    pub states: &'a [u8],
-    pub rules: &'a [u8],
-    pub entries: &'a [u8],
+    pub states: &'b [u8],
+    pub rules: &'b [u8],
+    pub entries: &'b [u8],
     pub text: &'a [u8],
-    pub expected: &'a [u8],
-    pub counts: &'a [u16; 6],
+    pub expected: &'b [u8],
+    pub counts: &'b [u16; 6],
 }
 
 // The lengths of the source and of areas 1 to 5, and the counts of the areas. They are handed on by value, so that products of counts are
@@ -41,7 +42,7 @@ pub struct Sizes {
     pub expected: u16,
 }
 
-impl<'a> Sheet<'a> {
+impl<'b> Sheet<'_, 'b> {
     pub fn sizes(self) -> Sizes
         ensures { result ≡ sizes_of (lent_sheet self.entry) }
     {
@@ -62,7 +63,7 @@ impl<'a> Sheet<'a> {
 
     // The records of an area, as many as are counted. Of broken sizes an area may be too short for them.
     #[tactic(auto, using(crate::proofs::Sheets::records_of))]
-    pub fn state_records(self) -> Records<'a, State>
+    pub fn state_records(self) -> Records<'b, State>
         requires { GoodSizes self }
         ensures { result ≡ (decoded (lent_sheet self.entry)).states }
     {
@@ -70,7 +71,7 @@ impl<'a> Sheet<'a> {
     }
 
     #[tactic(auto, using(crate::proofs::Sheets::records_of))]
-    pub fn rule_records(self) -> Records<'a, Rule>
+    pub fn rule_records(self) -> Records<'b, Rule>
         requires { GoodSizes self }
         ensures { result ≡ (decoded (lent_sheet self.entry)).rules }
     {
@@ -78,7 +79,7 @@ impl<'a> Sheet<'a> {
     }
 
     #[tactic(auto, using(crate::proofs::Sheets::records_of))]
-    pub fn entry_records(self) -> Records<'a, u16>
+    pub fn entry_records(self) -> Records<'b, u16>
         requires { GoodSizes self }
         ensures { result ≡ (decoded (lent_sheet self.entry)).lists }
     {
@@ -86,7 +87,7 @@ impl<'a> Sheet<'a> {
     }
 
     #[tactic(auto, using(crate::proofs::Sheets::records_of))]
-    pub fn expected_records(self) -> Records<'a, Expected>
+    pub fn expected_records(self) -> Records<'b, Expected>
         requires { GoodSizes self }
         ensures { result ≡ (decoded (lent_sheet self.entry)).expected }
     {

@@ -29,7 +29,7 @@ pub fn locate(sheet: Sheet, rule: u64) -> Option<RuleText>
 }
 
 // The text of a rule; an empty part of the source where number 6 holds.
-pub fn pattern<'a>(sheet: Sheet<'a>, rule: u64) -> &'a [u8]
+pub fn pattern<'a>(sheet: Sheet<'a, '_>, rule: u64) -> &'a [u8]
     ensures { handed result.ref_ptr result.now
         ≡ pattern_call sheet.entry.source.ref_ptr sheet.entry.text.ref_ptr (lent_sheet sheet.entry) rule }
 {

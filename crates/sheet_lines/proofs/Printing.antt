@@ -12,8 +12,10 @@ use Rattle.area.specs.Contents.{list_of}
 use Rattle.area.specs.Records.{state_at, rule_at, fault_at, rule_of, fault_of, rule_fields, fault_fields}
 use Rattle.area.proofs.Decode.{state_made}
 use Rattle.area.proofs.Fields.{bytes-append, bytes_single}
-use Rattle.output.specs.Output.{appended, joined, newline, printed_field, printed_fields, printed_fields_at}
-use Rattle.output.proofs.Appending.{appended_next}
+use Rattle.output.specs.declared.Text.{Text}
+use Rattle.output.specs.Output.{joined, newline, printed_field, printed_fields, printed_fields_at}
+use Rattle.output.specs.Text.{Appends}
+use Rattle.output.proofs.Appending.{appends_same, appends_then}
 use Rattle.sheet_lines.specs.Lines.{state_word, rule_word, fault_word, refused_word, initial_name}
 use Rattle.sheet_lines.specs.Lines.{state_name, state_head, state_line, rule_line, fault_line, refused_head, refused_line, full_line}
 use Rattle.sheet_lines.specs.Lines.{state_lines, rule_lines, sheet_lines}
@@ -38,47 +40,42 @@ fault_fields_lem l k = joined_fields (field_from l (k * 8)) 4
 
 -- ---- lines
 
-module _ (n : ℕ) (t s : List ℕ) (k start end : ℕ) {e : List ℕ} where
-  pub name_first : k ≡ 0 → e ≡ appended n t initial_name → e ≡ appended n t (state_name s k start end)
+module _ (s : List ℕ) (k start end : ℕ) {a e : Text} where
+  pub name_first : k ≡ 0 → Appends a e initial_name → Appends a e (state_name s k start end)
   unfolding state_name
   name_first z p = rw (eq-eqb k 0 z) p
 
-  pub name_part : (k ≡ 0 → ⊥) → e ≡ appended n t (part s start end) → e ≡ appended n t (state_name s k start end)
+  pub name_part : (k ≡ 0 → ⊥) → Appends a e (part s start end) → Appends a e (state_name s k start end)
   unfolding state_name
   name_part z p = rw (ne_eqb k 0 z) p
 
 pub ruleset name_printing = (rules, name_first, name_part)
 
-module _ (n : ℕ) (t l : List ℕ) (k : ℕ) {a b e : List ℕ} where
-  pub rule_line_lem : {c : List ℕ} → a ≡ appended n t rule_word → b ≡ appended n a (printed_field k)
-      → c ≡ appended n b (printed_fields_at l (k * 28) 14) → e ≡ appended n c newline → e ≡ appended n t (rule_line k (rule_at l k))
+module _ (l : List ℕ) (k : ℕ) {t a b e : Text} where
+  pub rule_line_lem : {c : Text} → Appends t a rule_word → Appends a b (printed_field k) → Appends b c (printed_fields_at l (k * 28) 14)
+      → Appends c e newline → Appends t e (rule_line k (rule_at l k))
   unfolding rule_line
-  rule_line_lem {c} p q r z =
-      let y = rw (rule_fields_lem l k) at r in
-      appended_next n t _ _ z (appended_next n t _ _ y (appended_next n t _ _ q p))
+  rule_line_lem p q r z = appends_then z (appends_then (appends_same (rule_fields_lem l k) r) (appends_then q p))
 
-  pub fault_line_lem : a ≡ appended n t fault_word → b ≡ appended n a (printed_fields_at l (k * 8) 4) → e ≡ appended n b newline
-      → e ≡ appended n t (fault_line (fault_at l k))
+  pub fault_line_lem : Appends t a fault_word → Appends a b (printed_fields_at l (k * 8) 4) → Appends b e newline → Appends t e (fault_line (fault_at l k))
   unfolding fault_line
-  fault_line_lem p q z =
-      let y = rw (fault_fields_lem l k) at q in
-      appended_next n t _ _ z (appended_next n t _ _ y p)
+  fault_line_lem p q z = appends_then z (appends_then (appends_same (fault_fields_lem l k) q) p)
 
-module _ (n : ℕ) (t : List ℕ) {a e : List ℕ} where
-  pub refused_head_lem : (number : ℕ) → a ≡ appended n t refused_word → e ≡ appended n a (printed_field number) → e ≡ appended n t (refused_head number)
+module _ {t a e : Text} where
+  pub refused_head_lem : (number : ℕ) → Appends t a refused_word → Appends a e (printed_field number) → Appends t e (refused_head number)
   unfolding refused_head
-  refused_head_lem number p z = appended_next n t _ _ z p
+  refused_head_lem number p z = appends_then z p
 
-  pub refused_line_lem : (number : ℕ) → a ≡ appended n t (refused_head number) → e ≡ appended n a newline → e ≡ appended n t (refused_line number)
+  pub refused_line_lem : (number : ℕ) → Appends t a (refused_head number) → Appends a e newline → Appends t e (refused_line number)
   unfolding refused_line
-  refused_line_lem number p z = appended_next n t _ _ z p
+  refused_line_lem number p z = appends_then z p
 
-  pub full_line_lem : (area : ℕ) {b : List ℕ} → a ≡ appended n t (refused_head area_full_number) → b ≡ appended n a (printed_field area)
-      → e ≡ appended n b newline → e ≡ appended n t (full_line area)
+  pub full_line_lem : (area : ℕ) {b : Text} → Appends t a (refused_head area_full_number) → Appends a b (printed_field area) → Appends b e newline
+      → Appends t e (full_line area)
   unfolding full_line
-  full_line_lem area {b} p q z = appended_next n t _ _ z (appended_next n t _ _ q p)
+  full_line_lem area p q z = appends_then z (appends_then q p)
 
-pub ruleset line_printing = (rules, rule_line_lem, fault_line_lem, refused_head_lem, refused_line_lem, full_line_lem)
+pub ruleset line_printing = (rules, fault_line_lem, refused_head_lem, refused_line_lem, full_line_lem)
 
 -- ---- a state
 
@@ -87,22 +84,28 @@ pub state_read : (l : List ℕ) (k a b c : ℕ) → a ≡ field_at l (k * 6) →
 unfolding state_at
 state_read l k a b c e1 e2 e3 = state_made l (k * 6) a b c e1 e2 e3
 
-module _ (n : ℕ) (t s : List ℕ) (k : ℕ) {a b c d f g h e : List ℕ} where
-  pub state_line_lem : (x : State) → a ≡ appended n t state_word → b ≡ appended n a (printed_field k) → c ≡ appended n b (32 ∷ [])
-      → d ≡ appended n c (state_name s k x.start x.end) → f ≡ appended n d (printed_field x.exclusive) → g ≡ appended n f (printed_field x.start)
-      → h ≡ appended n g (printed_field x.end) → e ≡ appended n h newline → e ≡ appended n t (state_line s k x)
-  unfolding state_line state_head
-  state_line_lem x p1 p2 p3 p4 p5 p6 p7 p8 =
-      let head = appended_next n t _ _ p4 (appended_next n t _ _ p3 (appended_next n t _ _ p2 p1)) in
-      appended_next n t _ _ p8 (appended_next n t _ _ p7 (appended_next n t _ _ p6 (appended_next n t _ _ p5 head)))
+module _ (s : List ℕ) (k : ℕ) {t a b c e : Text} where
+  -- the word, the number, a space and the name, one behind the other, are the head of a state's line
+  pub state_head_lem : (start end : ℕ) → Appends t a state_word → Appends a b (printed_field k) → Appends b c (32 ∷ [])
+      → Appends c e (state_name s k start end) → Appends t e (state_head s k start end)
+  unfolding state_head
+  state_head_lem start end p q r z = appends_then z (appends_then r (appends_then q p))
 
-pub ruleset state_printing = (rules, state_read, state_line_lem)
+module _ (s : List ℕ) (k : ℕ) {t a b c d f g h e : Text} where
+  pub state_line_lem : (x : State) → Appends t a state_word → Appends a b (printed_field k) → Appends b c (32 ∷ [])
+      → Appends c d (state_name s k x.start x.end) → Appends d f (printed_field x.exclusive) → Appends f g (printed_field x.start)
+      → Appends g h (printed_field x.end) → Appends h e newline → Appends t e (state_line s k x)
+  unfolding state_line
+  state_line_lem x p1 p2 p3 p4 p5 p6 p7 p8 =
+      appends_then p8 (appends_then p7 (appends_then p6 (appends_then p5 (state_head_lem s k x.start x.end p1 p2 p3 p4))))
+
+pub ruleset state_printing = (rules, state_read)
 
 -- ---- the states, then the rules
 
-pub sheet_lines_lem : (n : ℕ) (t s l1 l2 : List ℕ) (states rules : ℕ) {a e : List ℕ} → a ≡ appended n t (state_lines s l1 states)
-    → e ≡ appended n a (rule_lines l2 rules) → e ≡ appended n t (sheet_lines s l1 states l2 rules)
+pub sheet_lines_lem : (s l1 l2 : List ℕ) (states rules : ℕ) {t a e : Text} → Appends t a (state_lines s l1 states) → Appends a e (rule_lines l2 rules)
+    → Appends t e (sheet_lines s l1 states l2 rules)
 unfolding sheet_lines
-sheet_lines_lem n t s l1 l2 states rules p q = appended_next n t _ _ q p
+sheet_lines_lem s l1 l2 states rules p q = appends_then q p
 
 pub ruleset sheet_printing = (rules, sheet_lines_lem)

@@ -7,7 +7,8 @@
 ghost use Rattle.std.specs.Prelude.{◌≡◌, ℕ, List};
 ghost use Rattle.answers.specs.Numbers.{number_of};
 ghost use Rattle.area.specs.Records.{state_at, rule_at, fault_at};
-ghost use Rattle.output.specs.Output.{appended, joined};
+ghost use Rattle.output.specs.Output.{joined};
+ghost use Rattle.output.specs.Text.{Appends};
 ghost use Rattle.sheet_lines.specs.Lines.{state_name, state_line, rule_line, fault_line, refused_head, refused_line, full_line};
 ghost use Rattle.sheet_lines.specs.Lines.{state_lines, rule_lines, fault_lines, sheet_lines};
 
@@ -18,8 +19,8 @@ use output::fields::field_at;
 
 // INITIAL is not in the source.
 #[tactic(auto, using(crate::proofs::Printing::name_printing))]
-fn put_name<const N: usize>(out: &mut Text<N>, src: &[u8], k: u16, x: State)
-    ensures { out.new ≡ appended N out.old (state_name src.now k x.start x.end) }
+fn put_name(out: &mut Text, src: &[u8], k: u16, x: State)
+    ensures { Appends out.old out.new (state_name src.now k x.start x.end) }
 {
     if k == 0 {
         out.push_text(b"INITIAL");
@@ -41,9 +42,8 @@ fn state_at(area: &[u8], k: u16) -> State
     }
 }
 
-#[tactic(auto, using(crate::proofs::Printing::state_printing))]
-fn put_state<const N: usize>(out: &mut Text<N>, src: &[u8], k: u16, x: State)
-    ensures { out.new ≡ appended N out.old (state_line src.now k x) }
+fn put_state(out: &mut Text, src: &[u8], k: u16, x: State)
+    ensures { Appends out.old out.new (state_line src.now k x) }
 {
     out.push_text(b"state");
     out.push_field(k);
@@ -55,12 +55,12 @@ fn put_state<const N: usize>(out: &mut Text<N>, src: &[u8], k: u16, x: State)
     out.push_line_end();
 }
 
-// The records of an area, each of which is a line.
-trait Records<const N: usize> {
+// The records of an area, each of which is a line. Each implementation has the parameters of the one method.
+trait Records {
     ghost line: { Self → ℕ → List ℕ };
 
-    fn put_line(&self, out: &mut Text<N>, k: u16)
-        ensures { out.new ≡ appended N out.old (line self.now k) };
+    fn put_line(&self, out: &mut Text, k: u16)
+        ensures { Appends out.old out.new (line self.now k) };
 }
 
 // The states of area 1, whose names stand in the source.
@@ -80,19 +80,18 @@ struct Faults<'a> {
     area: &'a [u8],
 }
 
-impl<'a, const N: usize> Records<N> for States<'a> {
+impl<'a> Records for States<'a> {
     ghost line = { λ x k. state_line x.src.now k (state_at x.area.now k) };
 
-    fn put_line(&self, out: &mut Text<N>, k: u16) {
+    fn put_line(&self, out: &mut Text, k: u16) {
         put_state(out, self.src, k, state_at(self.area, k));
     }
 }
 
-impl<'a, const N: usize> Records<N> for Rules<'a> {
+impl<'a> Records for Rules<'a> {
     ghost line = { λ x k. rule_line k (rule_at x.area.now k) };
 
-    #[tactic(auto, using(crate::proofs::Printing::line_printing))]
-    fn put_line(&self, out: &mut Text<N>, k: u16) {
+    fn put_line(&self, out: &mut Text, k: u16) {
         out.push_text(b"rule");
         out.push_field(k);
         out.push_fields(self.area, k as usize * Rule::WIDTH, Rule::WIDTH / 2);
@@ -100,19 +99,19 @@ impl<'a, const N: usize> Records<N> for Rules<'a> {
     }
 }
 
-impl<'a, const N: usize> Records<N> for Faults<'a> {
+impl<'a> Records for Faults<'a> {
     ghost line = { λ x k. fault_line (fault_at x.area.now k) };
 
     #[tactic(auto, using(crate::proofs::Printing::line_printing))]
-    fn put_line(&self, out: &mut Text<N>, k: u16) {
+    fn put_line(&self, out: &mut Text, k: u16) {
         out.push_text(b"fault");
         out.push_fields(self.area, k as usize * Fault::WIDTH, Fault::WIDTH / 2);
         out.push_line_end();
     }
 }
 
-fn put_lines<const N: usize, R: Records<N>>(out: &mut Text<N>, records: &R, count: u16)
-    ensures { out.new ≡ appended N out.old (joined (R.line records.now) count) }
+fn put_lines<R: Records>(out: &mut Text, records: &R, count: u16)
+    ensures { Appends out.old out.new (joined (R.line records.now) count) }
 {
     for k in 0..count {
         records.put_line(out, k);
@@ -120,46 +119,46 @@ fn put_lines<const N: usize, R: Records<N>>(out: &mut Text<N>, records: &R, coun
 }
 
 #[tactic(auto, unfolding(crate::specs::Lines::state_lines))]
-pub fn put_states<const N: usize>(out: &mut Text<N>, src: &[u8], area: &[u8], count: u16)
-    ensures { out.new ≡ appended N out.old (state_lines src.now area.now count) }
+pub fn put_states(out: &mut Text, src: &[u8], area: &[u8], count: u16)
+    ensures { Appends out.old out.new (state_lines src.now area.now count) }
 {
     put_lines(out, &States { src, area }, count);
 }
 
 #[tactic(auto, unfolding(crate::specs::Lines::rule_lines))]
-pub fn put_rules<const N: usize>(out: &mut Text<N>, area: &[u8], count: u16)
-    ensures { out.new ≡ appended N out.old (rule_lines area.now count) }
+pub fn put_rules(out: &mut Text, area: &[u8], count: u16)
+    ensures { Appends out.old out.new (rule_lines area.now count) }
 {
     put_lines(out, &Rules { area }, count);
 }
 
 #[tactic(auto, unfolding(crate::specs::Lines::fault_lines))]
-pub fn put_faults<const N: usize>(out: &mut Text<N>, area: &[u8], count: u16)
-    ensures { out.new ≡ appended N out.old (fault_lines area.now count) }
+pub fn put_faults(out: &mut Text, area: &[u8], count: u16)
+    ensures { Appends out.old out.new (fault_lines area.now count) }
 {
     put_lines(out, &Faults { area }, count);
 }
 
 // The word that both lines of a refusal start with, and its number.
 #[tactic(auto, using(crate::proofs::Printing::line_printing))]
-fn put_number<const N: usize>(out: &mut Text<N>, number: Number)
-    ensures { out.new ≡ appended N out.old (refused_head (number_of number)) }
+fn put_number(out: &mut Text, number: Number)
+    ensures { Appends out.old out.new (refused_head (number_of number)) }
 {
     out.push_text(b"refused");
     out.push_field(u16::from(number));
 }
 
 #[tactic(auto, using(crate::proofs::Printing::line_printing))]
-pub fn put_refused<const N: usize>(out: &mut Text<N>, number: Number)
-    ensures { out.new ≡ appended N out.old (refused_line (number_of number)) }
+pub fn put_refused(out: &mut Text, number: Number)
+    ensures { Appends out.old out.new (refused_line (number_of number)) }
 {
     put_number(out, number);
     out.push_line_end();
 }
 
 #[tactic(auto, using(crate::proofs::Printing::line_printing))]
-pub fn put_full<const N: usize>(out: &mut Text<N>, area: u16)
-    ensures { out.new ≡ appended N out.old (full_line area) }
+pub fn put_full(out: &mut Text, area: u16)
+    ensures { Appends out.old out.new (full_line area) }
 {
     put_number(out, Number::AreaFull);
     out.push_field(area);
@@ -167,15 +166,8 @@ pub fn put_full<const N: usize>(out: &mut Text<N>, area: u16)
 }
 
 #[tactic(auto, using(crate::proofs::Printing::sheet_printing))]
-pub fn put_sheet<const N: usize>(
-    out: &mut Text<N>,
-    src: &[u8],
-    states: u16,
-    area1: &[u8],
-    rules: u16,
-    area2: &[u8],
-)
-    ensures { out.new ≡ appended N out.old (sheet_lines src.now area1.now states area2.now rules) }
+pub fn put_sheet(out: &mut Text, src: &[u8], states: u16, area1: &[u8], rules: u16, area2: &[u8])
+    ensures { Appends out.old out.new (sheet_lines src.now area1.now states area2.now rules) }
 {
     put_states(out, src, area1, states);
     put_rules(out, area2, rules);

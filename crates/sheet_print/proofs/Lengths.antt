@@ -1,10 +1,12 @@
--- How long the text of a file can be: each line has a bound beside the name in it, and the areas bound how many lines there are. A text with that
--- room has all of it.
+-- How long the text of a file can be: each line has a bound beside the name in it, and the areas bound how many lines there are. In a buffer with
+-- that room the text stands whole.
 use Prim.Native.Nat.{ℕ, zero, suc, ◌+◌, ◌*◌, ◌≤◌}
-use mathlib.Core.Path.{◌≡◌, refl}
+use mathlib.Core.Path.{◌≡◌, refl, ap, subst, ◌∙◌}
 use mathlib.Core.List.{List, []}
 use native.Mathlib.Omega.{arith}
-use lib.ListN.{length, length-append}
+use lib.ListN.{length, take, length-append}
+use lib.Seq.{take-length}
+use Rattle.std.specs.Borrow.{MutBor}
 use Rattle.answers.specs.Numbers.{long_file_number, unknown_flag_number, invalid_utf8_number}
 use Rattle.area.specs.declared.State.{State}
 use Rattle.area.specs.declared.Rule.{Rule}
@@ -15,8 +17,10 @@ use Rattle.parse.specs.Parse.{Outcome, long_file, unknown_flag, invalid_utf8, ar
 use Rattle.parsed_sheet.proofs.Accepting.{accepted_holds, accepted_short}
 use Rattle.parsed_sheet.proofs.Bounds.{Bounded, outcome_bounded}
 use Rattle.parsed_sheet.proofs.Totals.{total, total_plus, name_length, name_bytes}
-use Rattle.output.specs.Output.{appended, joined}
-use Rattle.output.proofs.Appending.{appended_whole}
+use Rattle.output.specs.declared.Text.{Text}
+use Rattle.output.specs.Output.{Written, AllWritten, joined}
+use Rattle.output.specs.Text.{Holds, Appends}
+use Rattle.output.proofs.Appending.{written_none, written_then}
 use Rattle.output.proofs.Lengths.{joined_most}
 use Rattle.sheet_lines.specs.Lines.{state_line, rule_line, fault_line}
 use Rattle.sheet_lines.proofs.Lengths.{state_most, rule_most, fault_most, refused_most, full_most}
@@ -66,6 +70,15 @@ pub text_most : (s : List ℕ) → length (sheet_text s) ≤ sheet_room
 unfolding sheet_text sheet_caps
 text_most s = outcome_most s (outcome (sheet_request s) sheet_caps) refl (outcome_bounded (sheet_request s) sheet_caps)
 
--- so a text with that room has all of it
-pub all_appended : (n : ℕ) (s : List ℕ) → sheet_room ≤ n → appended n [] (sheet_text s) ≡ sheet_text s
-all_appended n s h = appended_whole n [] (sheet_text s) (omega (arith, text_most s))
+-- so a buffer with that room has the whole text
+pub all_written : (s : List ℕ) {l : List ℕ} {n : ℕ} → sheet_room ≤ length l → Written (sheet_text s) l n → AllWritten (sheet_text s) l n
+all_written s {l} {n} h w =
+    let z : n ≡ length (sheet_text s) = omega (arith, w.count, text_most s) in
+    record { count = z; is = w.is ∙ ap (λ (k : ℕ). take k (sheet_text s)) z ∙ take-length (sheet_text s) }
+
+-- a new text in a buffer, then the lines: what was lent ends as the bytes l
+pub lines_written : (s : List ℕ) {lent : MutBor (List ℕ)} {a b : Text} {v l : List ℕ} → l ≡ b.bytes.now → Holds lent a [] → Appends a b v
+    → v ≡ sheet_text s → sheet_room ≤ length lent.now → AllWritten (sheet_text s) l b.count
+lines_written s {b = b} z p q e h =
+    let w = subst (λ (t : List ℕ). Written t b.bytes.now b.count) e (written_then [] q (written_none p)) in
+    rw z (all_written s (omega (arith, h, p.area.long, q.area.long)) w)

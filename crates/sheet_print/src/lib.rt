@@ -1,8 +1,9 @@
 // What the parse call makes of a file, as lines of text (01, Files to try, the end). The areas are parameters, as the call fills them.
 #![tactic(auto)]
 
-ghost use Rattle.std.specs.Prelude.{◌≡◌, ◌≤◌, get_or};
-ghost use Rattle.output.specs.Output.{appended};
+ghost use Rattle.std.specs.Prelude.{◌≤◌, length, get_or};
+ghost use Rattle.output.specs.Output.{AllWritten};
+ghost use Rattle.output.specs.Text.{Appends};
 ghost use Rattle.parse.specs.Answers.{answered, counts_left};
 ghost use Rattle.sheet_print.specs.Lines.{answer_text, sheet_text, sheet_room};
 
@@ -17,15 +18,15 @@ pub const SHEET_ROOM: usize = 262527;
 
 // The lines that an answer and the areas come to.
 #[tactic(auto, unfolding(crate::specs::Lines::answer_text, parse::specs::Parse::parse_fields))]
-fn put_answer<const N: usize>(
-    out: &mut Text<N>,
+fn put_answer(
+    out: &mut Text,
     src: &[u8],
     answer: Result<FileCounts, ParseError>,
     area1: &[u8],
     area2: &[u8],
     area6: &[u8],
 )
-    ensures { out.new ≡ appended N out.old
+    ensures { Appends out.old out.new
         (answer_text src.now (answered answer) (get_or (counts_left answer) 0 0) (get_or (counts_left answer) 1 0)
         area1.now area2.now area6.now) }
 {
@@ -37,10 +38,10 @@ fn put_answer<const N: usize>(
     }
 }
 
-// All lines of a file with flags 0 and no verdicts.
-pub fn sheet<const N: usize>(src: &[u8], out: &mut Text<N>)
-    requires { sheet_room ≤ N }
-    ensures { out.new ≡ sheet_text src.now }
+// All lines of a file with flags 0 and no verdicts, and how many bytes they have.
+pub fn sheet(src: &[u8], out: &mut [u8]) -> usize
+    requires { sheet_room ≤ length out.old }
+    ensures { AllWritten (sheet_text src.now) out.new result }
 {
     let mut area1 = [0u8; 384];
     let mut area2 = [0u8; 57344];
@@ -51,6 +52,7 @@ pub fn sheet<const N: usize>(src: &[u8], out: &mut Text<N>)
     let answer = parse(
         src, 0, b"", &mut area1, &mut area2, &mut area3, &mut area4, &mut area5, &mut area6,
     );
-    out.clear();
-    put_answer(out, src, answer, &area1, &area2, &area6);
+    let mut text = Text::new(out);
+    put_answer(&mut text, src, answer, &area1, &area2, &area6);
+    text.count
 }

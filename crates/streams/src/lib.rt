@@ -1,7 +1,9 @@
 // What the programs share: reading an input or a file into a buffer, its texts one by one, and saying what is printed and what failed.
 #![tactic(auto)]
 
-ghost use Rattle.std.specs.Prelude.{◌≤◌, length, IfSome};
+ghost use Rattle.std.specs.Prelude.{◌≡◌, ◌≤◌, ◌<◌, ◌∷◌, eqb, length, IfSome};
+ghost use Rattle.std.specs.List.{position};
+ghost use Rattle.streams.specs.Texts.{texts, Shown};
 
 use std::fs::{File, Files};
 use std::io;
@@ -59,16 +61,40 @@ pub fn read_file<'a, R: Files + Eprint>(
     }
 }
 
-// Shows each text of an input, where a byte ends a text: a zero byte, or a line feed.
-pub fn show_texts<F: FnMut(&[u8])>(input: &[u8], end: u8, mut show: F)
-    requires { F.IsAlwaysCallable show }
+// Where the first text of these bytes ends.
+fn text_end(bytes: &[u8], end: u8) -> Option<usize>
+    ensures { result ≡ position (λ b. eqb b end) bytes.now }
 {
-    for ended in input.split_inclusive(|byte| *byte == end) {
-        show(ended.strip_suffix(&[end]).unwrap_or(ended));
+    bytes.iter().position(|byte| *byte == end)
+}
+
+// The first text of these bytes, and what stands behind the byte that ends it.
+fn split_first_text(bytes: &[u8], end: u8) -> (&[u8], &[u8])
+    requires { 0 < length bytes.now }
+    ensures texts { texts end bytes.now ≡ result.0.now ∷ texts end result.1.now }
+    ensures shorter { length result.1.now < length bytes.now }
+{
+    match text_end(bytes, end) {
+        Some(n) => (&bytes[..n], &bytes[n + 1..]),
+        None => (bytes, &[]),
     }
 }
 
-// What cannot be written is left out.
+// Shows each text of an input, where a byte ends a text: a zero byte, or a line feed. By a `for` over `split_inclusive` nothing of the calls is proved:
+// the check stops at an invariant of such a loop (tried).
+pub fn show_texts<F: FnMut(&[u8])>(input: &[u8], end: u8, mut show: F)
+    requires { F.IsAlwaysCallable show }
+    ensures { (last : F) × Shown F.step (texts end input.now) show last }
+{
+    let mut left = input;
+    while !left.is_empty() {
+        let (text, behind) = split_first_text(left, end);
+        show(text);
+        left = behind;
+    }
+}
+
+// What cannot be written is left out. Printing promises nothing beyond coming to an end, so neither this nor `fail` has an `ensures`.
 pub fn say(rt: &impl Print, text: &[u8]) {
     let _ = rt.write_all(text);
 }

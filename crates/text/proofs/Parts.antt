@@ -1,8 +1,14 @@
 -- A part of a text, as code has it in its hands: its length, its bytes, and what is left of it behind its first ones, all by places of the text.
 use Rattle.std.proofs.Common.{◌≡◌, ap, ◌∙◌, List, ℕ, ◌+◌, ◌-◌, ◌≤◌, ◌<◌, length, take, drop, arith}
+use Rattle.std.specs.Prelude.{min}
 use Rattle.std.proofs.lemmas.List.{drop-take, drop-drop, get_or-take, get_or-drop, length-take, length-drop}
 use Rattle.text.specs.Range.{part}
 use Rattle.characters.specs.Whitespace.{byte}
+
+-- a part has the bytes from a to before e, as far as the text has them
+pub part_size : (s : List ℕ) (a e : ℕ) → length (part s a e) ≡ min (e - a) (length s - a)
+unfolding part
+part_size s a e = length-take (e - a) (drop a s) ∙ ap (min (e - a)) (length-drop a s)
 
 module _ (s : List ℕ) (a e : ℕ) (cut : List ℕ) (is : cut ≡ part s a e) (fits : e ≤ length s) where
   pub part_length : length cut ≡ e - a

@@ -1,15 +1,18 @@
--- Equal ranges: the comparison says equality of lists, and the library's test of two slices is the same.
+-- Equal ranges: the comparison says equality of lists, and the library's test of two slices is the same. Ranges that are split at the same place are
+-- compared by their parts.
 use mathlib.Core.Path.{◌≡◌, refl, sym, ap, ap₂, ◌∙◌}
-use mathlib.Core.Bool.{Bool, true, false, ◌&&◌, false≢true}
-use mathlib.Core.List.{List, [], ◌∷◌}
-use Prim.Native.Nat.{ℕ, ◌+◌, ◌-◌, ◌<◌, min}
+use mathlib.Core.Bool.{Bool, true, false, ◌&&◌, false≢true, and-true, and_assoc}
+use mathlib.Core.List.{List, [], ◌∷◌, ◌++◌}
+use Prim.Native.Nat.{ℕ, suc, ◌+◌, ◌-◌, ◌≤◌, ◌<◌, min}
 use native.Mathlib.Omega.{arith}
 use borrow.Author.Rules.{rules}
 use borrow.Author.Tests.{eq-eqb, eqb-true}
 use lib.Dec.{eqb}
 use lib.ListN.{length, get_or, take, drop, length-take, length-drop}
-use lib.Seq.{take_all}
-use Rattle.text.specs.Range.{part, same_bytes, lookahead_is}
+use lib.Seq.{take_all, take-add, drop-drop, drop-cons}
+use Rattle.characters.specs.Whitespace.{byte}
+use Rattle.text.specs.Range.{part, same_bytes, same_range, lookahead_is}
+use Rattle.text.proofs.Parts.{part_length}
 use Rattle.std.specs.Prelude.{Some, None}
 use Rattle.std.specs.Cmp.Lexicographic.{pointwise}
 use Rattle.std.proofs.lemmas.Cmp.{nat_list_eq_equiv}
@@ -79,6 +82,70 @@ module _ (s : List ℕ) (a e r : ℕ) (fits : r ≡ min e (length s)) where
   part_outside h = sym (no_bytes (part s a e) (part_size s a e ∙ omega arith))
 
 pub ruleset cutting = (rules, part_inside, part_outside)
+
+-- ---- ranges that are split at the same place: the parts are compared, each by itself
+
+-- what stands behind lists of one length is compared by itself
+same-append : (xs ys us vs : List ℕ) → length xs ≡ length ys → same_bytes (xs ++ us) (ys ++ vs) ≡ same_bytes xs ys && same_bytes us vs
+unfolding same_bytes
+same-append [] [] us vs q = refl
+same-append [] (b ∷ ys) us vs q = absurd (omega arith)
+same-append (a ∷ xs) [] us vs q = absurd (omega arith)
+same-append (a ∷ xs) (b ∷ ys) us vs q =
+    rw (same-append xs ys us vs (omega arith)) (sym (and_assoc (eqb a b) (same_bytes xs ys) (same_bytes us vs)))
+
+part_none : (s : List ℕ) (a e : ℕ) → e ≤ a → part s a e ≡ []
+part_none s a e h = no_bytes (part s a e) (omega (arith, part_size s a e))
+
+part_split : (s : List ℕ) (a m e : ℕ) → a ≤ m → m ≤ e → part s a e ≡ part s a m ++ part s m e
+unfolding part
+part_split s a m e h l =
+    let q : e - a ≡ m - a + (e - m) = omega arith in
+    let z : a + (m - a) ≡ m = omega arith in
+    rw (q, take-add (m - a) (e - m) (drop a s), drop-drop (m - a) a s, z)
+
+part_one : (s : List ℕ) (a e : ℕ) → e ≡ a + 1 → e ≤ length s → part s a e ≡ byte s a ∷ []
+unfolding part
+part_one s a e h l =
+    let q : e - a ≡ suc 0 = omega arith in
+    rw (q, drop-cons s a 0 (omega arith))
+
+module _ (s : List ℕ) (a e : ℕ) (t : List ℕ) (c d : ℕ) where
+  -- ranges split at m and p, as far behind their starts, are the same where both their parts are
+  pub range_split :
+      (m p : ℕ)
+      → (a ≤ m) × (m ≤ e) × (m ≤ length s)
+      → (c ≤ p) × (p ≤ d) × (p ≤ length t)
+      → m - a ≡ p - c
+      → same_range s a e t c d ≡ same_range s a m t c p && same_range s m e t p d
+  unfolding same_range
+  range_split m p x y q =
+      rw (part_split s a m e x.0 x.1, part_split t c p d y.0 y.1)
+      (same-append (part s a m) (part t c p) (part s m e) (part t p d) (part_length s a m (part s a m) refl x.2 ∙ q ∙ sym (part_length t c p (part t c p) refl y.2)))
+
+  range_one : e ≡ a + 1 → d ≡ c + 1 → e ≤ length s → d ≤ length t → same_range s a e t c d ≡ eqb (byte s a) (byte t c)
+  unfolding same_range same_bytes
+  range_one x y ls lt = rw (part_one s a e x ls, part_one t c d y lt) (and-true (eqb (byte s a) (byte t c)))
+
+module _ (s : List ℕ) (a : ℕ) (t : List ℕ) (c : ℕ) where
+  -- k + 1 bytes are the same where k bytes are, and the next one
+  pub range_more :
+      (k : ℕ)
+      → a + k < length s
+      → c + k < length t
+      → same_range s a (a + k) t c (c + k) && eqb (byte s (a + k)) (byte t (c + k)) ≡ same_range s a (a + (k + 1)) t c (c + (k + 1))
+  range_more k h l =
+      let one = range_one s (a + k) (a + (k + 1)) t (c + k) (c + (k + 1)) (omega arith) (omega arith) (omega arith) (omega arith) in
+      rw (← one) (sym (range_split s a (a + (k + 1)) t c (c + (k + 1)) (a + k) (c + k) (omega arith) (omega arith) (omega arith)))
+
+-- n bytes behind the first i are the same where a comparison of those behind the first j answers the same and no byte is left
+pub bytes_end_lem :
+    (s : List ℕ) (a : ℕ) (t : List ℕ) (c n i j : ℕ)
+    → same_range s (a + i) (a + n) t (c + i) (c + n) ≡ same_range s (a + j) (a + n) t (c + j) (c + n)
+    → n ≤ j
+    → true ≡ same_range s (a + i) (a + n) t (c + i) (c + n)
+unfolding same_range same_bytes
+bytes_end_lem s a t c n i j before h = sym (before ∙ rw (part_none s (a + j) (a + n) (omega arith), part_none t (c + j) (c + n) (omega arith)))
 
 -- ---- two texts
 

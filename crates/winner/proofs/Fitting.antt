@@ -75,9 +75,14 @@ module _ (left rules : ℕ) (row : List ℕ) (top : ℕ) (is : top ≡ greatest 
       by true e = absurd (omega (arith, lengths_low e, h))
       by false e = refl
 
-  pub row_within : length row ≡ rules * entry_width → top ≤ left → good_row (λ l. leb l left) rules row ≡ true
-  row_within long h = row_good (λ l. leb l left) rules row long
-      (λ k g. le-leb (entry_at row k) left (omega (arith, below_greatest (length_in row) rules k g, is, h)))
+  -- a row whose greatest length is at most what is left fits, and that length is its greatest
+  pub row_within : length row ≡ rules * entry_width → top ≤ left
+      → (good_row (λ l. leb l left) rules row ≡ true) × (top ≡ greatest (length_in row) rules)
+  row_within long h = (
+    row_good (λ l. leb l left) rules row long
+        (λ k g. le-leb (entry_at row k) left (omega (arith, below_greatest (length_in row) rules k g, is, h))),
+    is,
+  )
 
 pub top_low : (left rules : ℕ) (row : List ℕ) (x : Row) → RowFits (λ l. leb l left) rules row x → x.top ≤ left
 top_low left rules row x h = lengths_low left rules row x.top h.greatest_is h.good

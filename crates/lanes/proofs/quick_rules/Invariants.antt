@@ -3,4 +3,4 @@ use Rattle.lanes.proofs.LaneLaws.{RulesJoined}
 use Rattle.lanes.proofs.quick_rules.Given as goal
 
 abbrev pub invariant-loop-k : goal.invariant-loop-k
-invariant-loop-k l = RulesJoined l.area l.limits l.k l.fields l.totals
+invariant-loop-k l = RulesJoined l.area l.limits l.k l.excess l.excess

@@ -3,7 +3,7 @@ use Rattle.output.proofs.Appending.{joined_none, joined_next}
 use Rattle.sheet_lines.proofs.put_lines.Goals as goal
 
 pub loop-k-init : goal.loop-k-init
-loop-k-init g c = joined_none g.row.N c.args.out.now (g.R.Records.line c.args.records.now)
+loop-k-init g c = joined_none (g.R.Records.line c.args.records.now)
 
 pub loop-k-preserved : goal.loop-k-preserved
-loop-k-preserved g c = joined_next g.row.N c.args.out.now (g.R.Records.line c.args.records.now) c.loop-k.k c.put_line.ensures c.loop-k.invariant
+loop-k-preserved g c = joined_next (g.R.Records.line c.args.records.now) {k = c.loop-k.k} c.put_line.ensures c.loop-k.invariant

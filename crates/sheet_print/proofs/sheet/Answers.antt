@@ -2,15 +2,14 @@
 -- for all of them.
 use Prim.Native.Nat.{ℕ}
 use lib.ListN.{length-replicate}
-use Rattle.std.proofs.Common.{ap₂, ◌∙◌, List}
+use Rattle.std.proofs.Common.{rules}
 use Rattle.parse.specs.Answers.{answered, counts_left}
-use Rattle.output.specs.Output.{appended}
 use Rattle.sheet_print.proofs.Answering.{sheet_written}
-use Rattle.sheet_print.proofs.Lengths.{all_appended}
+use Rattle.sheet_print.proofs.Lengths.{lines_written}
 use Rattle.sheet_print.proofs.sheet.Goals as goal
 
 pub returns : goal.returns
-returns g c =
+returns c =
     let src = c.args.src.now in
     let call = c.parse-answer in
     let printed = sheet_written src (answered call.result) (counts_left call.result) _ _ _ _ _ _ _ _ _ _ _ _
@@ -21,9 +20,7 @@ returns g c =
     (length-replicate {A = ℕ} 32768 0)
     (length-replicate {A = ℕ} 32768 0)
     (length-replicate {A = ℕ} 32768 0)
-    c.parse-answer.auto.area1
-    c.parse-answer.auto.area2
-    c.parse-answer.auto.area6 in
-    c.put_answer.ensures
-    ∙ ap₂ (λ (t v : List ℕ). appended g.row.N t v) c.clear.ensures printed
-    ∙ all_appended g.row.N src c.requires
+    call.auto.area1
+    call.auto.area2
+    call.auto.area6 in
+    lines_written src (search rules) c.new-text.ensures c.put_answer.ensures printed c.requires

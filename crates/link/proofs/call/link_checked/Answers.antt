@@ -9,7 +9,7 @@ use Rattle.area.specs.Contents.{rule_format, entry_format, laid}
 use Rattle.area.proofs.Contents.{contents_count}
 use Rattle.names.specs.Names.{name_of}
 use Rattle.name_map.specs.Phrases.{map_in}
-use Rattle.name_map.proofs.Maps.{named_count}
+use Rattle.name_map.proofs.Maps.{map_count}
 use Rattle.link.specs.declared.LinkArea.TheVariants.{Unmapped, Unused}
 use Rattle.link.specs.Link.{unused, unlinked, fits}
 use Rattle.link.specs.Matches.{EntriesFound, Matched, unmarked}
@@ -28,11 +28,11 @@ matched c =
 
 -- the numbers that are written to area 8
 idle : (c : After-match_rules-matches)
-    → unmarked c.match_rules-matches.result.used c.count-entries.result
+    → unmarked c.match_rules-matches.result.used (length c.args.index.now.map.entries.now)
     ≡ unused (name_of c.args.src.now) (map_in c.args.index.now.map) (rules_in c.args.area2.now c.args.rules)
 idle c =
     let map = c.args.index.now.map in
-    ap (unmarked c.match_rules-matches.result.used) (c.count-entries.ensures ∙ sym (named_count map.names.now map.entries)) ∙ (matched c).without_mark
+    ap (unmarked c.match_rules-matches.result.used) (sym (map_count map.names.now map.entries.now)) ∙ (matched c).without_mark
 
 -- the rules that were found, by the number of rules
 kept : (c : After-match_rules-matches)
@@ -62,13 +62,13 @@ returns-in_err-check_room-2 c =
     _ free _ (sym c.in_err-check_room-2.was ∙ c.check_room-2.ensures) in
     rw (p.1, p.2) short
 
-pub match_rules-matches-requires : goal.match_rules-matches-requires
-match_rules-matches-requires c =
-    omega (arith, ap length c.new-lent.ensures, contents_count rule_format c.args.area2.now c.args.rules, c.requires.0)
+pub match_rules-matches-requires-clause-few_rules : goal.match_rules-matches-requires-clause-few_rules
+match_rules-matches-requires-clause-few_rules c =
+    omega (arith, ap length c.new-lent.ensures, contents_count rule_format c.args.area2.now c.args.rules, c.requires.few_rules.0)
 
 pub write_unlinked-requires-clause-rules_le_most_rules : goal.write_unlinked-requires-clause-rules_le_most_rules
 write_unlinked-requires-clause-rules_le_most_rules c =
-    omega (arith, ap length c.new-linked.ensures, contents_count rule_format c.link_rules.new.area c.args.rules, c.requires.0)
+    omega (arith, ap length c.new-linked.ensures, contents_count rule_format c.link_rules.new.area c.args.rules, c.requires.few_rules.0)
 
 pub write_unused-requires-clause-room : goal.write_unused-requires-clause-room
 write_unused-requires-clause-room c =

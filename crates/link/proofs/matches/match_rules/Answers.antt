@@ -3,7 +3,7 @@ use mathlib.Core.Path.{sym, ◌∙◌}
 use Prim.Native.Nat.{◌<◌}
 use native.Mathlib.Omega.{arith}
 use Rattle.name_map.specs.Map.{most_entries}
-use Rattle.name_map.proofs.Maps.{some_found, named_count}
+use Rattle.name_map.proofs.Maps.{some_found, map_count}
 use Rattle.link.proofs.Matching.{matching_none, matching_unnamed, matching_found, matching_missing, matched}
 use Rattle.link.proofs.matches.match_rules.Goals.{In-Some}
 use Rattle.link.proofs.matches.match_rules.Goals as goal
@@ -29,7 +29,7 @@ inside : (c : In-Some) → c.in-Some.j < most_entries
 inside c =
     let map = c.args.index.now.map in
     let at = some_found _ _ _ (sym c.in-Some.is ∙ c.entry_of.ensures) in
-    omega (arith, at.0, named_count map.names.now map.entries, map.few)
+    omega (arith, at.0, map_count map.names.now map.entries.now, c.requires.few_entries)
 
 pub overflow_cast-matches : goal.overflow_cast-matches
 overflow_cast-matches c = record { fits = omega (arith, inside (goal.at.overflow_cast-matches c).In-Some) }
@@ -42,7 +42,7 @@ loop-k-preserved c = (
   omega arith,
   matching_found _ _ _ c.loop-k.invariant.1 (omega (arith, c.loop-k-test.true, c.count-k-end.ensures)) _ c.get-x.ensures c.args.index.now.index.different
       (sym c.is_named.ensures ∙ c.if-not-is_named.false) _ (sym c.in-Some.is ∙ c.entry_of.ensures)
-      (omega (arith, c.loop-k-test.true, c.count-k-end.ensures, c.requires)) (omega (arith, inside (goal.at.loop-k-preserved c).In-Some)),
+      (omega (arith, c.loop-k-test.true, c.count-k-end.ensures, c.requires.few_rules)) (omega (arith, inside (goal.at.loop-k-preserved c).In-Some)),
 )
 
 pub returns : goal.returns

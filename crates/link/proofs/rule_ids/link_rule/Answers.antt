@@ -1,7 +1,9 @@
 -- `link::rule_ids::link_rule` meets its contract: an unnamed rule is kept, a named one gets the id of the entry that was found or none.
 use Rattle.std.specs.Prelude.{Some, None}
 use mathlib.Core.Path.{sym, ap, ◌∙◌}
-use Rattle.name_map.proofs.Maps.{id_read}
+use native.Mathlib.Omega.{arith}
+use Rattle.name_map.proofs.Maps.{read-count, id_read}
+use Rattle.name_map.specs.Map.{read_each}
 use Rattle.name_map.specs.Phrases.{map_in}
 use Rattle.link.specs.Matches.{found_id}
 use Rattle.link.proofs.LinkedRules.{link_unnamed, link_named}
@@ -13,8 +15,8 @@ returns-then-not-is_named c = link_unnamed _ _ _ (sym c.is_named.ensures ∙ c.i
 pub returns-in-Some : goal.returns-in-Some
 returns-in-Some c =
     let map = c.args.map.now in
-    let id = id_read map.names.now map.entries c.in-Some.j _ c.get.ensures (c.requires c.in-Some.j c.in-Some.is) in
-    link_named (map_in map) c.args.found _ (sym c.is_named.ensures ∙ c.if-not-is_named.false) (Some c.get.result.id) (id ∙ ap (found_id (map_in map)) (sym c.in-Some.is)) _ c.with_id.ensures
+    let id = id_read map.names.now (read_each map.entries.now) c.in-Some.j _ c.entry.ensures (omega (arith, c.requires c.in-Some.j c.in-Some.is, read-count map.entries.now)) in
+    link_named (map_in map) c.args.found _ (sym c.is_named.ensures ∙ c.if-not-is_named.false) (Some c.entry.result.id) (id ∙ ap (found_id (map_in map)) (sym c.in-Some.is)) _ c.with_id.ensures
 
 pub returns-in-None : goal.returns-in-None
 returns-in-None c =

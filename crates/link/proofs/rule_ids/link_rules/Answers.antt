@@ -1,7 +1,7 @@
 -- `link::rule_ids::link_rules` meets its contract: the rules so far are linked and written back, whatever gives the names.
 use native.Mathlib.Omega.{arith}
 use Rattle.name_map.specs.Phrases.{map_in}
-use Rattle.name_map.proofs.Maps.{named_count}
+use Rattle.name_map.proofs.Maps.{map_count}
 use Rattle.link.proofs.LinkedRules.{rules_none, rules_next, rules_all}
 use Rattle.link.proofs.rule_ids.link_rules.Goals as goal
 
@@ -11,7 +11,7 @@ loop-at-init c = λ name found. rules_none name _ _
 pub link_rule-requires : goal.link_rule-requires
 link_rule-requires c = λ j is.
     let map = c.args.map.now in
-    omega (arith, c.requires.found_inside.each _ j is, named_count map.names.now map.entries)
+    omega (arith, c.requires.found_inside.each _ j is, map_count map.names.now map.entries.now)
 
 pub loop-at-preserved : goal.loop-at-preserved
 loop-at-preserved c = λ name found.

@@ -6,7 +6,7 @@ use Rattle.std.proofs.lemmas.Fn.{fold_over}
 use Rattle.std.proofs.lemmas.Iterator.{YieldsList-from_slice}
 use Rattle.name_map.specs.declared.home.Checksum.{Checksum}
 use Rattle.name_map.specs.Home.{add_number, word_limit}
-use Rattle.name_map.proofs.Homes.{fold_push, word_value, words_added, bytes_added, home_made}
+use Rattle.name_map.proofs.Homes.{fold_push, word_value, words_added, bytes_added, whole_home_made}
 use Rattle.name_map.proofs.home.home_of.Goals as goal
 
 pub returns : goal.returns
@@ -22,7 +22,7 @@ returns c =
     (λ bs x b y f before k. (fold_push _ c.fold-c.result bs b.now x y before (search rules), search rules)) c.iter-2.result _ c.fold-c.result _
     (YieldsList-from_slice {s = c.iter-2.result} _ c.iter-2.ensures.rest).runs refl c.fold-c-2.ensures.ran in
     let behind : length name / 4 * 4 ≡ 0 + 4 * (length name / 4) = omega arith in
-    home_made name _ refl c.fold-c.result c.fold-c-2.result _ _
+    whole_home_made name _ refl c.fold-c.result c.fold-c-2.result _ _
     (words ∙ words_added name _ _ c.as_chunks.ensures.front c.as_chunks.ensures.front_len start)
     (bytes ∙ bytes_added name _ _ _ (c.as_chunks.ensures.back ∙ ap (λ j. drop j name) behind) c.as_chunks.ensures.back_len c.fold-c.result)
     c.mix.ensures c.mix-2.ensures

@@ -1,5 +1,6 @@
 -- `name_map::index::probe` meets its contract: the slots that it has passed are taken by entries of other names.
 use Rattle.std.proofs.Common.{sym, ◌∙◌}
+use Rattle.name_map.specs.Map.{read_each}
 use Rattle.name_map.proofs.Maps.{name_compared}
 use Rattle.name_map.proofs.Probing.{probe_free}
 use Rattle.name_map.proofs.index.probe.Goals as goal
@@ -10,4 +11,4 @@ returns-in-None c = probe_free _ _ _ _ c.loop-p.invariant _ c.requires.entry_slo
 pub returns-then-has_name : goal.returns-then-has_name
 returns-then-has_name c =
     let map = c.args.map.now in
-    (c.requires.entry_slots.low _ _ c.in-Some.is, sym (name_compared map.names.now map.entries _ _ c.get.ensures _ _ c.has_name.ensures) ∙ c.if-has_name.true)
+    (c.requires.entry_slots.low _ _ c.in-Some.is, sym (name_compared map.names.now (read_each map.entries.now) _ _ c.entry.ensures _ _ c.has_name.ensures) ∙ c.if-has_name.true)

@@ -4,5 +4,4 @@ use Rattle.output.proofs.Numbers.{field_printed}
 use Rattle.output.proofs.Text.push_field.Goals as goal
 
 pub returns : goal.returns
-returns g c =
-    field_printed g.row.N c.args.self.now c.args.x (omega arith) c.push_blank.ensures (c.as_bytes.ensures.value ∙ c.format.ensures.text) c.push_text.ensures
+returns c = field_printed c.args.x (omega arith) (c.as_bytes.ensures.value ∙ c.format.ensures.text) c.push_blank.ensures c.push_text.ensures

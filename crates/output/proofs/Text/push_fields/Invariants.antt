@@ -1,7 +1,7 @@
 -- `output::fields::Text::push_fields` meets its contract: the first j fields are appended.
-use Rattle.std.proofs.Common.{◌≡◌}
-use Rattle.output.specs.Output.{appended, printed_fields_at}
+use Rattle.output.specs.Output.{printed_fields_at}
+use Rattle.output.specs.Text.{Appends}
 use Rattle.output.proofs.Text.push_fields.Given as goal
 
 abbrev pub invariant-loop-j : goal.invariant-loop-j
-invariant-loop-j g l = l.self ≡ appended g.row.N l.initial.self (printed_fields_at l.area l.at l.j)
+invariant-loop-j l = Appends l.initial.self l.self (printed_fields_at l.area l.at l.j)

@@ -1,11 +1,10 @@
--- `output::Text::push_text` meets its contract: the vector's write appends what there is room for, and the text is what the vector holds.
-use Rattle.std.proofs.Common.{ap, ◌∙◌}
-use Rattle.output.specs.Output.{appended}
-use Rattle.output.proofs.Appending.{written_appended}
+-- `output::Text::push_text` meets its contract: as much is copied as there is room for.
+use Rattle.std.proofs.Common.{refl, arith}
+use Rattle.output.proofs.Appending.{copied}
 use Rattle.output.proofs.Text.push_text.Goals as goal
 
 pub returns : goal.returns
-returns g c =
-    written_appended g.row.N c.self.inside.bytes.items c.write-count.new.self.items c.args.s.now c.write-count.result c.write-count.ensures.bytes
-    c.write-count.ensures.count
-    ∙ ap (λ t. appended g.row.N t c.args.s.now) c.self.view_is
+returns c = record {
+  area = record { lent = refl; long = omega (arith, c.copy_from_slice.ensures.len) };
+  is = copied c.args.self.now.bytes.now c.args.s.now _ c.args.self.now.count c.min-n.result _ c.args.self.now.within c.min-n.ensures c.copy_from_slice.ensures.after;
+}

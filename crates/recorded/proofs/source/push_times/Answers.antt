@@ -5,8 +5,8 @@ use Rattle.recorded.proofs.source.push_times.Goals as goal
 
 pub loop-init : goal.loop-init
 unfolding repeated
-loop-init g c = joined_none _ _ _
+loop-init c = joined_none _
 
 pub loop-preserved : goal.loop-preserved
 unfolding repeated
-loop-preserved g c = joined_next _ _ _ _ c.push_text.ensures c.loop.invariant
+loop-preserved c = joined_next _ {k = c.loop.counter} c.push_text.ensures c.loop.invariant

@@ -6,7 +6,6 @@ use Rattle.sheet_check.specs.declared.Sheet.{Sheet}
 use Rattle.sheet_check.specs.SheetCheck.{decoded, sizes_of, declared, good_state, good_rule, good_expected, good_records}
 use Rattle.sheet_check.specs.Phrases.{lent_sheet}
 use Rattle.sheet_check.proofs.Judging.{next_asked, none_asked, records_asked}
-use Rattle.sheet_check.proofs.Sheets.{rules_asked}
 use Rattle.sheet_check.proofs.check.good_records.Goals as goal
 use Rattle.sheet_check.proofs.check.good_records.Goals.{then-good_states, else-good_states, then-rules_pass, else-rules_pass}
 use Rattle.sheet_check.proofs.check.good_records.Goals.{Joined-good_states, Joined-rules_pass}
@@ -30,7 +29,9 @@ two_asked c =
     let states : c.good_states.result ≡ states_good c.args.sheet =
     c.good_states.ensures ∙ (λ i. all (good_state (c.sizes-sizes.ensures i)) (c.state_records.ensures i)) in
     elim c.if-good_states.branch [
-      | then-good_states w ↦ next_asked states w.if-good_states.true (w.value-is ∙ w.rules_pass.ensures ∙ rules_asked c.args.sheet _ c.sizes-sizes.ensures)
+      | then-good_states w ↦
+          next_asked states w.if-good_states.true
+          (w.value-is ∙ w.rules_pass.ensures ∙ (λ i. all (good_rule (c.sizes-sizes.ensures i)) (w.rule_records.ensures i)))
       | else-good_states w ↦ none_asked (rules_good c.args.sheet) states w.if-good_states.false w.value-is
     ]
 

@@ -6,7 +6,7 @@ use Rattle.sheet_check.specs.SheetCheck.{decoded, sizes_of, declared, good_state
 use Rattle.sheet_check.specs.Phrases.{lent_sheet}
 use Rattle.sheet_check.proofs.Judging.{records_good, records_asked}
 use Rattle.sheet_check.proofs.Quick.{entries_declared}
-use Rattle.sheet_check.proofs.Sheets.{some_states, rules_asked}
+use Rattle.sheet_check.proofs.Sheets.{some_states}
 use Rattle.sheet_check.proofs.check.quick_records.Goals as goal
 use Rattle.sheet_check.proofs.check.quick_records.Goals.{then-good_states, else-good_states, then-rules_within, else-rules_within}
 
@@ -24,7 +24,9 @@ returns-then-entries_within c named =
     ] in
     let two : (c.good_states.result ≡ true) × (all (good_rule (sizes_of b)) (decoded b).rules ≡ true) =
     elim c.if-good_states.branch [
-      | then-good_states w ↦ (w.if-good_states.true, sym (rules_asked c.args.sheet _ of) ∙ w.rules_within.ensures (sym w.value-is ∙ three.0))
+      | then-good_states w ↦
+          let within = w.rules_within.ensures (sym w.value-is ∙ three.0) in
+          (w.if-good_states.true, sym (λ i. all (good_rule (of i)) (w.rule_records.ensures i)) ∙ within)
       | else-good_states w ↦ absurd (false≢true (sym w.if-good_states.false ∙ sym w.value-is ∙ three.0))
     ] in
     let states = sym (c.good_states.ensures ∙ (λ i. all (good_state (of i)) (c.state_records.ensures i))) ∙ two.0 in

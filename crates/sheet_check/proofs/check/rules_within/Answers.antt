@@ -4,4 +4,4 @@ use Rattle.sheet_check.proofs.Quick.{rules_good}
 use Rattle.sheet_check.proofs.check.rules_within.Goals as goal
 
 pub returns : goal.returns
-returns c passed = rules_good _ _ _ _ _ _ (omega arith) (omega arith) (omega arith) (omega arith) _ (c.quick_rules.ensures passed)
+returns c passed = rules_good _ _ (omega arith) (omega arith) (omega arith) (omega arith) _ (c.quick_rules.ensures passed)

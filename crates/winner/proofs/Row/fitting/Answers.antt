@@ -15,4 +15,4 @@ pub returns : goal.returns
 returns c =
     row_fits _ _ _ c.new-row.result c.new-row.ensures
     (row_within _ _ _ _ c.new-row.result.greatest_is (long_row _ _ c.new-row.result c.new-row.ensures c.if-bytes-rules.false)
-    (omega (arith, c.if-left-row.false)))
+    (omega (arith, c.if-left-row.false))).0

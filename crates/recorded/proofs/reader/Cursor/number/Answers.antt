@@ -1,10 +1,8 @@
--- Four bytes make the number.
-use Rattle.std.proofs.Common.{◌∙◌}
-use Rattle.recorded.proofs.Reading.{number_read}
+-- The number is read, and the cursor goes behind it.
 use Rattle.recorded.proofs.reader.Cursor.number.Goals as goal
 
 pub returns : goal.returns
 returns c = record {
-  is = c.from_le_bytes.ensures ∙ number_read _ _ _ c.front.ensures.is;
-  goes = c.front.ensures.goes;
+  is = c.number-n.ensures;
+  goes = c.skip.ensures;
 }
