@@ -54,7 +54,7 @@ module _ {A : Type 0} (f : A → List ℕ) (w : ℕ) (wide : (x : A) → length 
 
 -- ---- fields
 
-two_wide : (v : ℕ) → length (two v) ≡ 2
+pub two_wide : (v : ℕ) → length (two v) ≡ 2
 unfolding two
 two_wide v = refl
 

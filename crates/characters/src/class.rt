@@ -283,7 +283,7 @@ pub const CLASS: [u8; 256] = [
 ];
 
 // A constant array has no place of its own, which a `static` would have: each look into it lays it out anew on the stack. A byte of 128 or more has
-// no class and is told before, so that half of the table is enough.
+// no class, and is told before the table is looked into.
 pub fn class(b: u8) -> u8
     ensures { Classes b result }
 {
@@ -403,6 +403,8 @@ pub fn is_whitespace_byte(b: u8) -> bool
     let mask = class(b);
     (mask & LINE_END != 0) | ((mask & BLANK != 0) | (mask & OTHER_WHITESPACE != 0))
 }
+
+// ---- not a class of its own: the library's test
 
 // What `split_ascii_whitespace` splits at: vertical tab is not in it.
 #[tactic(auto, using(crate::proofs::Shortcuts::ascii_whitespace_tested))]

@@ -18,7 +18,7 @@ fn all_alphanumeric(bytes: &[u8]) -> bool
     bytes.iter().all(u8::is_ascii_alphanumeric)
 }
 
-// Whether the word is `%`, the letter in either case, and letters or digits.
+// Whether the word is `%`, the letter in either case, and letters or digits. The letter chooses no step: it is compared with the word's.
 #[tactic(auto, using(crate::proofs::Words::words))]
 fn declares_with(letter: u8, word: FileLine) -> bool
     ensures { result ≡ declares (to_ascii_lowercase letter) (to_ascii_uppercase letter) word.entry.file.source.now word.entry.line }
@@ -29,7 +29,7 @@ fn declares_with(letter: u8, word: FileLine) -> bool
     }
 }
 
-// The names in the rest of a line, trimmed. Without names it is no declaration of states.
+// The names in the rest of a line, trimmed. Without names it is no declaration of states. What is exclusive is written into their records.
 #[tactic(auto, using(crate::proofs::Words::stating))]
 fn states_from(exclusive: u16, rest: FileLine) -> Declaration
     ensures { result ≡ states_of exclusive (trimmed rest.entry.file.source.now rest.entry.line) }

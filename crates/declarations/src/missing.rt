@@ -1,4 +1,5 @@
-// The expected names of a line: in double quotes, split at ASCII whitespace (01, Declarations).
+// The expected names of a line: in double quotes, split at ASCII whitespace (01, Declarations). They write one area, which stays beside its count: of
+// all areas of the section each function would have to promise that the others stay.
 ghost use Rattle.std.specs.Prelude.{◌≡◌, ◌+◌, ◌≤◌, ◌<◌, length};
 ghost use Rattle.text.specs.Scan.{find_ascii_whitespace};
 ghost use Rattle.area.specs.Contents.{expected_format, Held};

@@ -3,12 +3,13 @@ use mathlib.Core.Path.{◌≡◌, refl, sym, ap, ◌∙◌}
 use mathlib.Core.Bool.{Bool, true, false, true≢false}
 use mathlib.Core.List.{List, [], ◌∷◌, ◌++◌, append_assoc, append-nil}
 use mathlib.Core.Option.{some}
-use Prim.Native.Nat.{ℕ, ◌+◌, ◌-◌, ◌≤◌}
+use Prim.Native.Nat.{ℕ, ◌+◌, ◌≤◌}
 use native.Mathlib.Omega.{arith}
 use lib.ListN.{length, length-append}
 use Rattle.std.specs.Prelude.{Result, Ok, Err}
 use Rattle.characters.specs.Walk.{Between}
 use Rattle.text.specs.Range.{part}
+use Rattle.text.proofs.Ranges.{part_none}
 use Rattle.area.specs.declared.AreaFull.{AreaFull}
 use Rattle.area.specs.Areas.{room, PushedText, TextArea}
 use Rattle.area.specs.Records.{most_others}
@@ -105,12 +106,6 @@ module _ {whole l : List ℕ} {n : ℕ} {rest a : List ℕ} {m : ℕ} (w : Writi
             }
 
 -- ---- the rewritten text from p on, as the list of escapes has it
-
-part_none : (s : List ℕ) (a e : ℕ) → e ≤ a → part s a e ≡ []
-unfolding part
-part_none s a e h =
-    let z : e - a ≡ 0 = omega arith in
-    rw z
 
 module _ (s : List ℕ) (posix_escapes : Bool) (c p : ℕ) where
   text_next : (e : Escape) → escapes s p c ≡ e ∷ escapes s e.end c

@@ -173,7 +173,7 @@ pub fn is_rewritten(src: &[u8], i: usize, c: usize) -> bool
 
 // ---- the rewritten text
 
-// What `\b` becomes: by flag 2.
+// What `\b` becomes: `\x08` by the option `posix_escapes`, which is the caller's choice of what is written and is handed on to here alone.
 #[tactic(auto, unfolding(crate::specs::Escape::backspace))]
 fn push_backspace(posix_escapes: bool, area: &mut [u8], n: u16) -> Result<u16, AreaFull>
     ensures { PushedText (backspace posix_escapes) area.old n result area.new }

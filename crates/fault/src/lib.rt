@@ -51,6 +51,7 @@ pub struct Span {
     pub end: u16,
 }
 
+// Where the name of a state stands, and that of a rule; and the span of a fault. Each names fields of its own.
 impl From<State> for Span {
     ghost from_gives = { λ state span. span ≡ record { start = state.start; end = state.end } };
 

@@ -58,7 +58,8 @@ fn all_at_edge(text: &[u8], position: u16, row: Row) -> bool
 }
 
 // The row, where it fits. Every length is at most the bytes left where the greatest is; then the edges.
-// Its five parameters come from three sides: text and row from the host (C interface), the numbers from the run and the sheet.
+// Its five parameters are the text and the row as they are lent, what is left and where the position is in a run, and how many rules a sheet has; run
+// and sheet are no part of this crate.
 pub fn row_top<'a>(
     text: &[u8],
     left: u16,

@@ -26,8 +26,8 @@ struct Lane {
     last: u16,
 }
 
-// The limits of the lanes: what `field_excess` and `sum_excess` ask of lane j stands at place j of each. The limits of a kind are one array, so
-// that they become one vector.
+// The limits of the lanes: what `field_excess` and `sum_excess` ask of lane j stands at place j of each. The limits of a kind are one array, a
+// row of the table of fields below; a value for each lane, of five limits, would hide the table in eight places.
 #[derive(Drop)]
 struct Limits {
     heres: [u16; LANES],

@@ -44,6 +44,7 @@ pub enum PlaceError {
     NoSuchPlace,
 }
 
+// Each error names cases of its own, so that each crate has its own list.
 impl From<PlaceError> for Number {
     ghost from_gives = { λ error number. number_of number ≡ refusal_number error };
 

@@ -44,13 +44,14 @@ fn link_checked(
     ensures { link_left result area2.new area7.new area8.new
         ≡ link_checked (rule_names_in src.now) (rules_in area2.old rules) (map_in index.now.map) area2.old area7.old area8.old }
 {
-    let entries = index.map.entries.len() as u16;
+    let entries = index.map.entries.len();
     let lent = Records::new(area2, rules);
     let matches = match_rules(src, &lent, index);
     check_room(area7, matches.unmapped_count, LinkArea::Unmapped)?;
-    let unused_count = count_unused(&matches.used, entries);
+    let used = &matches.used[..entries];
+    let unused_count = count_unused(used);
     check_room(area8, unused_count, LinkArea::Unused)?;
-    write_unused(&matches.used, entries, area8);
+    write_unused(used, area8);
     link_rules(area2, rules, &index.map, &matches.found);
     let linked = Records::new(area2, rules);
     write_unlinked(&linked, area7);

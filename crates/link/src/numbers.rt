@@ -1,5 +1,5 @@
 // The numbers of rules and of entries that find no partner, written when both areas have room (01, Linking), two bytes each as the C interface has
-// them. A count beside an area is not the area's length: memory is fixed, and what is in use fills a part of it.
+// them.
 ghost use Rattle.std.specs.Prelude.{◌≡◌, ℕ, List, ◌≤◌, true, length};
 ghost use Rattle.std.specs.Iterator.{UpTo, AlwaysYields};
 ghost use Rattle.area.specs.Records.{most_rules};
@@ -44,25 +44,24 @@ pub fn write_unlinked(rules: &Records<Rule>, into: &mut [u8])
     );
 }
 
-// How many of so many entries have no mark. Each mark is added, with no branch, so that the compiler takes many at once; a filter and its count
-// go one by one.
+// How many entries have no mark. Each mark is added, with no branch, so that the compiler takes many at once; a filter and its count go one by one.
 #[tactic(auto, using(area::proofs::Numbers::count_none))]
-pub fn count_unused(used: &[bool], most: u16) -> u16
-    requires { (most ≤ most_entries) × (most ≤ length used.now) }
-    ensures { result ≡ length (unmarked used.now most) }
+pub fn count_unused(used: &[bool]) -> u16
+    requires { length used.now ≤ most_entries }
+    ensures { result ≡ length (unmarked used.now (length used.now)) }
 {
     let mut n = 0;
-    for j in 0..most as usize {
+    for j in 0..used.len() {
         n += !used[j] as u16;
     }
     n
 }
 
 // Their numbers.
-pub fn write_unused(used: &[bool], most: u16, into: &mut [u8])
-    requires most_le_most_entries { (most ≤ most_entries) × (most ≤ length used.now) }
-    requires room { fits (unmarked used.now most) into.old ≡ true }
-    ensures { into.new ≡ laid entry_format (length into.old) (unmarked used.now most) }
+pub fn write_unused(used: &[bool], into: &mut [u8])
+    requires few { length used.now ≤ most_entries }
+    requires room { fits (unmarked used.now (length used.now)) into.old ≡ true }
+    ensures { into.new ≡ laid entry_format (length into.old) (unmarked used.now (length used.now)) }
 {
-    write_numbers((0..most).filter(|j| !used[*j as usize]), into);
+    write_numbers((0..used.len() as u16).filter(|j| !used[*j as usize]), into);
 }

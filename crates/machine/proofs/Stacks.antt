@@ -9,7 +9,7 @@ use lib.Seq.{sets-eq, take_at, take-take, length-take-le}
 use Rattle.area.specs.Bytes.{two, bytes}
 use Rattle.area.specs.Records.{entry_at, entry_width, entry_bytes, entry_fields, nth_entry}
 use Rattle.area.specs.Contents.{entry_format, relaid}
-use Rattle.area.proofs.Fields.{bytes-append, bytes_single, bytes-length, bytes-at}
+use Rattle.area.proofs.Fields.{bytes-append, bytes_single, bytes-length, bytes-at, two_wide}
 use Rattle.area.proofs.Records.{entry_wide}
 use Rattle.run.specs.Run.{put_state}
 use Rattle.run_laws.proofs.Stacks.{entry_bytes_lem}
@@ -18,10 +18,6 @@ use Rattle.run_laws.proofs.Stacks.{entry_bytes_lem}
 
 front_length : (st : List ℕ) → length (bytes entry_bytes st) ≡ length st * entry_width
 front_length = bytes-length entry_bytes entry_width entry_wide
-
-two-length : (v : ℕ) → length (two v) ≡ 2
-unfolding two
-two-length v = refl
 
 id_bytes : (v : ℕ) → entry_bytes v ≡ two v
 unfolding bytes entry_fields
@@ -95,8 +91,8 @@ module _ (st b : List ℕ) (begins : Begins st b) where
   unfolding relaid put_state
   laid_push id h =
       let n : ℕ = length st * entry_width in
-      let e : n + length (two id) ≡ length (st ++ (id ∷ [])) * entry_width = omega (arith, two-length id, length-append st (id ∷ [])) in
-      sets-eq (two id) b n (omega (arith, two-length id))
+      let e : n + length (two id) ≡ length (st ++ (id ∷ [])) * entry_width = omega (arith, two_wide id, length-append st (id ∷ [])) in
+      sets-eq (two id) b n (omega (arith, two_wide id))
       ∙ ap₂ (λ (x y : List ℕ). x ++ two id ++ y) begins.front (ap (λ (j : ℕ). drop j b) e)
       ∙ ap (λ (x : List ℕ). x ++ drop (length (st ++ (id ∷ [])) * entry_width) b) (more id)
     where

@@ -1,7 +1,7 @@
 // An index of the entries' names, so that a name is mostly compared with one other and not with all. Each of its slots has the number of an entry or
 // is free. A name's search begins at the slot that its bytes give, its home, and goes on slot by slot up to a free one (linear probing); where the
 // slots end before that, all names are compared.
-ghost use Rattle.std.specs.Prelude.{◌≡◌, ◌<◌, ◌≤◌, length, replicate, None};
+ghost use Rattle.std.specs.Prelude.{◌≡◌, ℕ, ◌<◌, ◌≤◌, length, replicate, slice_index_or, Some, None};
 ghost use Rattle.area.specs.Phrases.{before, after};
 ghost use Rattle.name_map.specs.Map.{most_entries, found_entry};
 ghost use Rattle.name_map.specs.Index.{slot_count, EntrySlots, Probes, EntryIndexed, EntriesIndexed, EntryIndex};
@@ -20,13 +20,12 @@ enum Probed {
     Found(usize),
 }
 
-// Where the search for a name comes to, in the slots of the first n entries. None where the slots end before. While the index is made there are
-// fewer entries than the map has, so they are counted beside it. It is built into both callers, which saves a link a tenth of its instructions.
+// Where the search for a name comes to. None where the slots end before. While the index is made the slots are those of the first n entries, fewer
+// than the map has. It is built into both callers, which saves a link a tenth of its instructions.
 #[inline(always)]
-fn probe(map: &NameMap, slots: &[Option<u16>; SLOTS], n: usize, name: &[u8]) -> Option<Probed>
-    requires n_bound { n ≤ length map.now.entries.now }
-    requires entry_slots { EntrySlots (map_in map.now) n slots.now }
-    ensures { Probes (map_in map.now) n slots.now name.now result }
+fn probe(map: &NameMap, slots: &[Option<u16>; SLOTS], name: &[u8]) -> Option<Probed>
+    requires { (p j : ℕ) → slice_index_or slots.now p None ≡ Some j → j < length map.now.entries.now }
+    ensures { (n : ℕ) → EntrySlots (map_in map.now) n slots.now → Probes (map_in map.now) n slots.now name.now result }
 {
     let home = home_of(name);
     for p in home..SLOTS {
@@ -52,7 +51,7 @@ fn index_entry(map: &NameMap, slots: &mut [Option<u16>; SLOTS], j: usize) -> boo
     ensures { EntryIndexed (map_in map.now) j result slots.new }
 {
     let name = map.entry(j).name(map.names);
-    match probe(map, slots, j, name) {
+    match probe(map, slots, name) {
         Some(Probed::Free(p)) => {
             slots[p] = Some(j as u16);
             true
@@ -123,7 +122,7 @@ impl<'a> NameIndex<'a> {
     pub fn find(&self, name: &[u8]) -> Option<usize>
         ensures { result ≡ found_entry (map_in self.now.map) name.now }
     {
-        match probe(&self.map, self.slots, self.map.entries.len(), name) {
+        match probe(&self.map, self.slots, name) {
             Some(Probed::Free(_)) => None,
             Some(Probed::Found(j)) => Some(j),
             None => self.map.find_entry(name),

@@ -24,7 +24,7 @@ impl<'a> NameMap<'a> {
 
     // ---- the map check
 
-    // Whether each entry's name lies inside n bytes of names. Each is asked, with no branch, for mostly all of them pass.
+    // Whether each entry's name lies inside n bytes of names, as many as the caller says. Each is asked, with no branch, for mostly all of them pass.
     pub fn names_inside(&self, n: usize) -> bool
         ensures { result ≡ all (name_inside n) (read_each self.now.entries.now) }
     {

@@ -1,5 +1,6 @@
 // Names of states and of rules: their form, and the record of a name (01, Declarations and Rules).
-// A name is a source and two places in it, as in the definitions: a record holds places, and those of a rule may lie past the source, where no slice is.
+// A name is a source and two places in it, as in the definitions and in a record: of a slice each contract would have to say at which places of which
+// source it stands.
 #![tactic(auto)]
 
 pub mod marks; // marks of the names of rules

@@ -1,4 +1,6 @@
-// The parse call (01, Numbers given at the counter, and Areas).
+// The parse call (01, Numbers given at the counter, and Areas). The six areas are parameters as C lends them, down to `parse_sections`, which makes
+// the areas of each section of them. A struct of all six would hold the lent slices of those structs, and of such a one its maker learns nothing
+// (tried; docs/PROVING.md, A step of the parse).
 ghost use Rattle.std.specs.Prelude.{◌≡◌};
 ghost use Rattle.area.specs.Phrases.{before, after};
 ghost use Rattle.section.specs.Request.{asked, asked_by};

@@ -22,7 +22,7 @@ pub struct FileCounts {
     pub expected: u16,
 }
 
-// Why a file is refused: an area was full, or there are so many fault spans.
+// Why a file is refused; with the area that was full, and with how many fault spans it has.
 #[derive(Clone, Copy, PartialEq, Eq, Debug)]
 pub enum ParseError {
     LongFile,

@@ -40,7 +40,7 @@ fn mark_len(operation: StartStateOperation) -> usize
     }
 }
 
-// Its state's name starts behind the `<`, or behind the `+` or `-` that follows.
+// The target behind the blank at r. Its state's name starts behind the `<`, or behind the `+` or `-` that follows.
 #[tactic(auto, unfolding(crate::proofs::Targets::targets))]
 fn target_of(at: FileLine, r: usize, states: &Records<State>) -> Result<Target, LexError>
     requires { r < at.line.end }

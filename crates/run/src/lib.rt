@@ -47,6 +47,7 @@ pub enum StepError {
     RowMismatch,
 }
 
+// Each error names cases of its own, so that each crate has its own list.
 impl From<StepError> for Number {
     ghost from_gives = { λ error number. fields (number_of number) 0 0 0 ≡ step_fields (Err error) };
 

@@ -18,6 +18,7 @@ impl fmt::Display for Listed<'_> {
     }
 }
 
+// What a line's call came to. The calls have answers of several types, and some lines are no call, so that it is no `Result` of one of them.
 #[derive(Clone, Copy)]
 pub enum Outcome {
     Accepted,

@@ -1,6 +1,7 @@
 // A reader: the source and a place in it, which travel together; 01 names this form. Its functions are thin: the work is in the scanners.
 // Each asks that the reader stands within its source: `at` takes any place, so that the type can't promise it.
-// The walks over the sections go from line to line by `next_declaration` and `next_rule`, whose parameters are plain.
+// The walks over the sections go from line to line by `next_declaration` and `next_rule`, which promise the line of a source of any length: they take
+// the source and the options, and no `LexFile`, whose source is short.
 ghost use Rattle.std.specs.Prelude.{◌≡◌, ◌≤◌, length};
 ghost use Rattle.characters.specs.Walk.{Between};
 ghost use Rattle.text.specs.Scan.{line_end, skip_blanks};

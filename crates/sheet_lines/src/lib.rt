@@ -165,6 +165,7 @@ pub fn put_full(out: &mut Text, area: u16)
     out.push_line_end();
 }
 
+// Areas and counts are those that `put_states` and `put_rules` take.
 #[tactic(auto, using(crate::proofs::Printing::sheet_printing))]
 pub fn put_sheet(out: &mut Text, src: &[u8], states: u16, area1: &[u8], rules: u16, area2: &[u8])
     ensures { Appends out.old out.new (sheet_lines src.now area1.now states area2.now rules) }

@@ -8,11 +8,11 @@ use native.Mathlib.Omega.{arith}
 use borrow.Author.Rules.{rules}
 use borrow.Author.Tests.{eq-eqb, eqb-true}
 use lib.Dec.{eqb}
-use lib.ListN.{length, get_or, take, drop, length-take, length-drop}
+use lib.ListN.{length, take, drop, length-drop}
 use lib.Seq.{take_all, take-add, drop-drop, drop-cons}
 use Rattle.characters.specs.Whitespace.{byte}
 use Rattle.text.specs.Range.{part, same_bytes, same_range, lookahead_is}
-use Rattle.text.proofs.Parts.{part_length}
+use Rattle.text.proofs.Parts.{part_length, part_size}
 use Rattle.std.specs.Prelude.{Some, None}
 use Rattle.std.specs.Cmp.Lexicographic.{pointwise}
 use Rattle.std.proofs.lemmas.Cmp.{nat_list_eq_equiv}
@@ -42,7 +42,7 @@ same_not xs ys d = go (same_bytes xs ys) refl
     go true e = absurd (d (same_equal xs ys e))
     go false e = refl
 
-pub same_lengths : (xs ys : List ℕ) → (length xs ≡ length ys → ⊥) → false ≡ same_bytes xs ys
+same_lengths : (xs ys : List ℕ) → (length xs ≡ length ys → ⊥) → false ≡ same_bytes xs ys
 same_lengths xs ys d = sym (same_not xs ys (λ q. d (ap length q)))
 
 -- the test of slices is the same
@@ -60,10 +60,6 @@ slices_same xs ys zs r is e = e ∙ pointwise_same xs ys ∙ ap (λ (l : List �
 pub ruleset slices_compared = (rules, slices_same)
 
 -- ---- a range and its parts
-
-part_size : (s : List ℕ) (a e : ℕ) → length (part s a e) ≡ min (e - a) (length s - a)
-unfolding part
-part_size s a e = simp (length-take, length-drop)
 
 no_bytes : (l : List ℕ) → length l ≡ 0 → l ≡ []
 no_bytes [] e = refl
@@ -94,7 +90,7 @@ same-append (a ∷ xs) [] us vs q = absurd (omega arith)
 same-append (a ∷ xs) (b ∷ ys) us vs q =
     rw (same-append xs ys us vs (omega arith)) (sym (and_assoc (eqb a b) (same_bytes xs ys) (same_bytes us vs)))
 
-part_none : (s : List ℕ) (a e : ℕ) → e ≤ a → part s a e ≡ []
+pub part_none : (s : List ℕ) (a e : ℕ) → e ≤ a → part s a e ≡ []
 part_none s a e h = no_bytes (part s a e) (omega (arith, part_size s a e))
 
 part_split : (s : List ℕ) (a m e : ℕ) → a ≤ m → m ≤ e → part s a e ≡ part s a m ++ part s m e
@@ -147,17 +143,7 @@ pub bytes_end_lem :
 unfolding same_range same_bytes
 bytes_end_lem s a t c n i j before h = sym (before ∙ rw (part_none s (a + j) (a + n) (omega arith), part_none t (c + j) (c + n) (omega arith)))
 
--- ---- two texts
-
-module _ (x y : List ℕ) where
-  -- the last bytes differ
-  pub last_differs : length x ≡ length y → (get_or x (length x - 1) 0 ≡ get_or y (length y - 1) 0 → ⊥) → false ≡ same_bytes x y
-  last_differs q h = sym (same_not x y (λ same. h (ap (λ (l : List ℕ). get_or l (length l - 1) 0) same)))
-
-  pub bytes_compared : (r : Bool) → r ≡ pointwise eqb x y → r ≡ same_bytes x y
-  bytes_compared r h = h ∙ pointwise_same x y
-
-pub ruleset range_calls = (rules, same_lengths, last_differs, bytes_compared)
+-- ---- a word
 
 part_short : (s : List ℕ) (a n : ℕ) → length s - a < n → (length (part s a (a + n)) ≡ n → ⊥)
 part_short s a n h e = omega (arith, e, part_size s a (a + n))

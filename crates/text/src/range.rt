@@ -11,28 +11,13 @@ pub fn part(s: &[u8], a: usize, e: usize) -> &[u8]
     s.get(a..e.min(s.len())).unwrap_or(&[])
 }
 
-// Whether x and y have the same bytes. Their last bytes are asked first, since names that begin alike differ at their ends.
-#[tactic(auto, using(crate::proofs::Ranges::range_calls))]
-fn same_bytes(x: &[u8], y: &[u8]) -> bool
-    ensures { result ≡ same_bytes x.now y.now }
-{
-    let n = x.len();
-    if n != y.len() {
-        return false;
-    }
-    if 0 < n && x[n - 1] != y[n - 1] {
-        return false;
-    }
-    x == y
-}
-
 // Whether the bytes of s from a to e are those of t from c to d: of two texts, of one text lent twice, or of a text and a constant.
 // A range may end past its text, so that records of any content can be compared.
-#[tactic(auto, unfolding(crate::specs::Range::same_range))]
+#[tactic(auto, using(crate::proofs::Ranges::slices_compared), unfolding(crate::specs::Range::same_range))]
 pub fn same_range(s: &[u8], a: usize, e: usize, t: &[u8], c: usize, d: usize) -> bool
     ensures { result ≡ same_range s.now a e t.now c d }
 {
-    same_bytes(part(s, a, e), part(t, c, d))
+    part(s, a, e) == part(t, c, d)
 }
 
 // Behind the bytes of word, if they stand at i.

@@ -143,16 +143,16 @@ fn may_have_blank(s: &[u8], i: usize, n: usize) -> bool
     any_of(n, |j| may_be_blank(s[i + j]))
 }
 
-// Down from e past the blocks of that width in which no blank stands. That i is within the text, and a block short, keeps i + block in range.
+// Down from e past the blocks of WIDTH bytes in which no blank stands. That i is within the text, and a block short, keeps i + WIDTH in range.
 #[tactic(auto, using(crate::proofs::Blocks::passing_blankless))]
-fn past_blankless(s: &[u8], i: usize, e: usize, block: usize) -> usize
-    requires { ((0 < block) × (block ≤ 64)) × ((i ≤ e) × (e ≤ length s.now)) }
+fn past_blankless<const WIDTH: usize>(s: &[u8], i: usize, e: usize) -> usize
+    requires { ((0 < WIDTH) × (WIDTH ≤ 64)) × ((i ≤ e) × (e ≤ length s.now)) }
     ensures { (i ≤ result) × (result ≤ e) × (last_blank s.now i e ≡ last_blank s.now i result) }
 {
     let mut k = e;
-    while i + block <= k {
-        let next = k - block;
-        if may_have_blank(s, next, block) {
+    while i + WIDTH <= k {
+        let next = k - WIDTH;
+        if may_have_blank(s, next, WIDTH) {
             return k;
         }
         k = next;
@@ -168,7 +168,7 @@ pub fn last_blank(s: &[u8], i: usize, e: usize) -> Option<usize>
     if e <= i {
         return None;
     }
-    let k = past_blankless(s, i, past_blankless(s, i, e, WIDE_BLOCK), BLOCK);
+    let k = past_blankless::<BLOCK>(s, i, past_blankless::<WIDE_BLOCK>(s, i, e));
     find_last(i, k, |j| is_blank(s[j]))
 }
 

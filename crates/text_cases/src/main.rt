@@ -98,6 +98,7 @@ fn show(rt: &impl Print, s: &[u8]) {
     }
 }
 
+// Each program has a `main` of its own.
 fn main(rt: HostRuntime) {
     let mut buffer = [0u8; 4096];
     let texts = read_full(&mut rt.stdin(), &mut buffer);

@@ -22,7 +22,7 @@ pub struct Best {
 
 // ---- the row
 //
-// The host lends a row as bytes, with a length for each rule of the sheet beside it (C interface). It is no `Records`, whose value has the lengths
+// The host lends a row as bytes, two for the length of each rule of the sheet (C interface). It is no `Records`, whose value has the lengths
 // alone: what a rule weighs (`weight`) is said of the row's bytes.
 
 // The lengths of a row, one for each of so many rules, and the greatest of them.

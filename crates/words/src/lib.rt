@@ -24,7 +24,7 @@ use run::{StartRefused, Step, StepError};
 pub struct Word(pub u64);
 
 impl Word {
-    // The number in the low 16 bits, and the three values above it.
+    // The number in the low 16 bits, and the three values above it, by multiplication as the definition has them.
     pub fn new(number: Number, a: u16, b: u16, c: u16) -> Word
         ensures { result.0 ≡ word (fields (number_of number) a b c) }
     {

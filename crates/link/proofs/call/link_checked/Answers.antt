@@ -1,9 +1,10 @@
 -- `link::call::link_checked` meets its contract: each way out is the definition's.
 use Rattle.std.proofs.lemmas.Result.{err_from_is_err_and}
 use mathlib.Core.Path.{◌≡◌, sym, ap, subst, ◌∙◌}
+use mathlib.Core.Bool.{Bool}
 use mathlib.Core.List.{List}
 use native.Mathlib.Omega.{arith}
-use lib.ListN.{length}
+use lib.ListN.{length, take}
 use Rattle.area.specs.declared.Rule.{Rule}
 use Rattle.area.specs.Contents.{rule_format, entry_format, laid}
 use Rattle.area.proofs.Contents.{contents_count}
@@ -14,6 +15,7 @@ use Rattle.link.specs.declared.LinkArea.TheVariants.{Unmapped, Unused}
 use Rattle.link.specs.Link.{unused, unlinked, fits}
 use Rattle.link.specs.Matches.{EntriesFound, Matched, unmarked}
 use Rattle.link.specs.Phrases.{rules_in}
+use Rattle.link.proofs.Counting.{unmarked_take}
 use Rattle.link.proofs.Outcomes.{room_left, short_7, short_8, none_short, unlinked_left, all_written}
 use Rattle.link.proofs.call.link_checked.Goals.{After-match_rules-matches}
 use Rattle.link.proofs.call.link_checked.Goals as goal
@@ -26,13 +28,18 @@ matched c =
     let matches = c.match_rules-matches in
     subst (λ (xs : List Rule). Matched (name_of c.args.src.now) (map_in c.args.index.now.map) xs matches.result) c.new-lent.ensures matches.ensures
 
+-- the marks of the entries
+abbrev marks : After-match_rules-matches → List Bool
+marks c = take (length c.args.index.now.map.entries.now) c.match_rules-matches.result.used
+
 -- the numbers that are written to area 8
 idle : (c : After-match_rules-matches)
-    → unmarked c.match_rules-matches.result.used (length c.args.index.now.map.entries.now)
+    → unmarked (marks c) (length (marks c))
     ≡ unused (name_of c.args.src.now) (map_in c.args.index.now.map) (rules_in c.args.area2.now c.args.rules)
 idle c =
     let map = c.args.index.now.map in
-    ap (unmarked c.match_rules-matches.result.used) (sym (map_count map.names.now map.entries.now)) ∙ (matched c).without_mark
+    unmarked_take c.match_rules-matches.result.used (length map.entries.now) (omega (arith, c.requires.few_entries))
+    ∙ ap (unmarked c.match_rules-matches.result.used) (sym (map_count map.names.now map.entries.now)) ∙ (matched c).without_mark
 
 -- the rules that were found, by the number of rules
 kept : (c : After-match_rules-matches)

@@ -11,7 +11,7 @@ own_name : (c : After-probe) → Searched (map_in c.args.map.now) c.args.slots.n
 own_name c =
     let map = c.args.map.now in
     searched _ _ _ (omega (arith, c.requires.j_bound, map_count map.names.now map.entries.now)) c.requires.entry_slots _
-    (c.name-name.ensures ∙ name-at map.names.now (read_each map.entries.now) _ _ c.entry.ensures) c.probe.result c.probe.ensures
+    (c.name-name.ensures ∙ name-at map.names.now (read_each map.entries.now) _ _ c.entry.ensures) c.probe.result (c.probe.ensures _ c.requires.entry_slots)
 
 pub returns-in-Some-Free : goal.returns-in-Some-Free
 returns-in-Some-Free c = indexed_free _ _ (own_name (goal.at.returns-in-Some-Free c).After-probe) (omega arith) c.in-Some-Free.p (c.in-Some-Free.is ∙ ap Some c.in-Some-Free.field-0-is)
@@ -21,3 +21,8 @@ returns-in-Some-Found c = indexed_found _ _ (own_name (goal.at.returns-in-Some-F
 
 pub returns-in-None : goal.returns-in-None
 returns-in-None c = indexed_exhausted _ _ (own_name (goal.at.returns-in-None c).After-probe) c.in-None.is _ c.is_first.ensures
+
+pub probe-requires : goal.probe-requires
+probe-requires c = λ p i q.
+    let map = c.args.map.now in
+    omega (arith, c.requires.entry_slots.low p i q, c.requires.j_bound)

@@ -5,7 +5,7 @@ use Rattle.text.specs.Scan.{last_blank}
 use Rattle.text.proofs.scan.past_blankless.Given as goal
 
 abbrev pub invariant-loop-k : goal.invariant-loop-k
-invariant-loop-k l = (l.i ≤ l.k) × (l.k ≤ l.e) × (last_blank l.s l.i l.e ≡ last_blank l.s l.i l.k)
+invariant-loop-k g l = (l.i ≤ l.k) × (l.k ≤ l.e) × (last_blank l.s l.i l.e ≡ last_blank l.s l.i l.k)
 
 abbrev pub decreases-loop-k : goal.decreases-loop-k
-decreases-loop-k l = l.k
+decreases-loop-k g l = l.k
