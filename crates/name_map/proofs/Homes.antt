@@ -6,11 +6,12 @@ use Rattle.std.specs.Int.{from_le_bytes, w32}
 use Rattle.std.specs.Simd.{first_chunks}
 use Rattle.std.proofs.lemmas.List.{get_or-take, get_or-drop}
 use Rattle.std.proofs.lemmas.List.Sums.{fold-append, fold_more}
-use lib.Seq.{drop-drop, take-length}
+use lib.Seq.{take-length}
 use Rattle.characters.specs.Whitespace.{byte}
 use Rattle.text.specs.Range.{part}
 use Rattle.area.specs.Bytes.{field_at}
 use Rattle.name_map.specs.declared.home.Checksum.{Checksum}
+use Rattle.name_map.proofs.Chunks.{chunk_at, chunk_byte}
 use Rattle.name_map.specs.Home.{word_limit, add_number, add_numbers, word_at, add_words, add_bytes, checksum, mixed, home_by, home_of, Home}
 
 -- ---- numbers, one after the other
@@ -58,29 +59,20 @@ module _ {A : Type 0} (value : A → ℕ) (start : Checksum) (xs : List A) (d : 
 abbrev pub word_value : List ℕ → ℕ
 word_value w = from_le_bytes w32 w
 
-chunk_at : (n k : ℕ) (l : List ℕ) → k < n → get_or (first_chunks 4 n l) k [] ≡ take 4 (drop (4 * k) l)
-chunk_at zero k l h = absurd (omega (arith, h))
-chunk_at (suc n) zero l h = refl
-chunk_at (suc n) (suc k) l h =
-    chunk_at n k (drop 4 l) (omega (arith, h)) ∙ ap (take 4) (drop-drop (4 * k) 4 l ∙ ap (λ (j : ℕ). drop j l) (omega arith))
-
-byte_of_chunk : (l : List ℕ) (i j : ℕ) → j < 4 → get_or (take 4 (drop i l)) j 0 ≡ byte l (i + j)
-byte_of_chunk l i j h = get_or-take 4 (drop i l) j 0 h ∙ get_or-drop i l j 0
-
 word_of_chunk : (l : List ℕ) (i : ℕ) → word_value (take 4 (drop i l)) ≡ word_at l i
 word_of_chunk l i =
     let w : List ℕ = take 4 (drop i l) in
     let read : word_value w ≡ get_or w 0 0 + get_or w 1 0 * 256 + get_or w 2 0 * 256 ^ 2 + get_or w 3 0 * 256 ^ 3 = refl in
     let first : byte l (i + 0) ≡ byte l i = ap (byte l) (omega arith) in
-    read ∙ word_read l i _ (omega (arith, first, byte_of_chunk l i 0 (omega arith), byte_of_chunk l i 1 (omega arith), byte_of_chunk l i 2 (omega arith), byte_of_chunk l i 3 (omega arith)))
+    read ∙ word_read l i _ (omega (arith, first, chunk_byte 4 l i 0 (omega arith), chunk_byte 4 l i 1 (omega arith), chunk_byte 4 l i 2 (omega arith), chunk_byte 4 l i 3 (omega arith)))
 
 -- each is added as the number at its place
 pub words_added : (l : List ℕ) (n : ℕ) (ws : List (List ℕ)) → ws ≡ first_chunks 4 n l → length ws ≡ n → (start : Checksum)
     → fold (λ c w. add_number c (word_value w)) start ws ≡ add_words l 0 n start
 words_added l n ws is long start =
     fold_adds word_value start ws [] ∙ ap (λ (m : ℕ). add_numbers (λ k. word_value (get_or ws k [])) m start) long
-    ∙ numbers_alike _ _ start n (λ k h. ap (λ (xs : List (List ℕ)). word_value (get_or xs k [])) is ∙ ap word_value (chunk_at n k l h)
-    ∙ word_of_chunk l (4 * k) ∙ ap (word_at l) (omega arith))
+    ∙ numbers_alike _ _ start n (λ k h. ap (λ (xs : List (List ℕ)). word_value (get_or xs k [])) is ∙ ap word_value (chunk_at 4 n k l h)
+    ∙ word_of_chunk l (k * 4) ∙ ap (word_at l) (omega arith))
 
 pub bytes_added : (l : List ℕ) (a n : ℕ) (bs : List ℕ) → bs ≡ drop a l → length bs ≡ n → (start : Checksum)
     → fold (λ c b. add_number c b) start bs ≡ add_bytes l a n start

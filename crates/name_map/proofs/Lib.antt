@@ -1,3 +1,4 @@
+pub mod Chunks
 pub mod Maps
 pub mod Homes
 pub mod Probing

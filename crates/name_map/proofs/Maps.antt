@@ -4,10 +4,9 @@ use Rattle.std.proofs.Common.{sym, refl, ap, ap₂, ◌∙◌, inl, inr, true≢
 use Rattle.std.specs.Option.{option_eq}
 use Rattle.std.specs.List.{AllWithin, HoldsAt}
 use Rattle.std.specs.Simd.{first_chunks}
-use Rattle.std.proofs.lemmas.List.{get_or_default, get_or-take, get_or-drop, map-append}
+use Rattle.std.proofs.lemmas.List.{get_or_default, map-append}
 use borrow.Author.Tests.{lt-leb, lt-ltb, le-ltb, ltb-true, ltb-false}
 use lib.ListN.{length-map, get_or-map}
-use lib.Seq.{drop-drop}
 use Rattle.characters.specs.Walk.{first}
 use Rattle.text.specs.Range.{part, same_bytes}
 use Rattle.characters.proofs.Tests.{le_or_lt}
@@ -20,6 +19,7 @@ use Rattle.area.specs.Lists.{all, all_below}
 use Rattle.area.proofs.All.{all_one_more, below_at, below_same}
 use Rattle.area.proofs.Contents.{list_of_is, contents_count}
 use Rattle.name_map.specs.declared.MapEntry.{MapEntry}
+use Rattle.name_map.proofs.Chunks.{chunk_at, chunk_byte}
 use Rattle.name_map.specs.Map.{map_width, most_entries, map_entry_of, map_entry_at, map_format, read_each, entry_count, Entry, entry, entry_of, entries_of, nth, find_entry, found_entry, option_of, id_at, distinct, name_inside, map_check}
 
 -- ---- an answer of the code
@@ -65,22 +65,11 @@ module _ (es : List Entry) (name : List ℕ) where
 
 -- ---- the entries as chunks of six bytes
 
--- the chunk at a place has the bytes from there on
-chunk_at : (n k : ℕ) (l : List ℕ) → k < n → get_or (first_chunks map_width n l) k [] ≡ take map_width (drop (k * map_width) l)
-chunk_at zero k l h = absurd (omega (arith, h))
-chunk_at (suc n) zero l h = refl
-chunk_at (suc n) (suc k) l h =
-    chunk_at n k (drop map_width l) (omega (arith, h))
-    ∙ ap (take map_width) (drop-drop (k * map_width) map_width l ∙ ap (λ (j : ℕ). drop j l) (omega arith))
-
-chunk_byte : (l : List ℕ) (i j : ℕ) → j < map_width → get_or (take map_width (drop i l)) j 0 ≡ get_or l (i + j) 0
-chunk_byte l i j h = get_or-take map_width (drop i l) j 0 h ∙ get_or-drop i l j 0
-
 chunk_field : (l : List ℕ) (i j : ℕ) → j + 1 < map_width → field_at (take map_width (drop i l)) j ≡ field_at l (i + j)
 unfolding field_at
 chunk_field l i j h =
     let behind : i + (j + 1) ≡ i + j + 1 = omega arith in
-    ap₂ (λ (a b : ℕ). a + b * 256) (chunk_byte l i j (omega arith)) (chunk_byte l i (j + 1) h ∙ ap (λ (k : ℕ). get_or l k 0) behind)
+    ap₂ (λ (a b : ℕ). a + b * 256) (chunk_byte map_width l i j (omega arith)) (chunk_byte map_width l i (j + 1) h ∙ ap (λ (k : ℕ). get_or l k 0) behind)
 
 chunk_entry : (l : List ℕ) (k : ℕ) → map_entry_at (take map_width (drop (k * map_width) l)) 0 ≡ map_entry_at l k
 unfolding map_entry_at map_entry_of field_from
@@ -112,7 +101,7 @@ pub chunks_read : (l : List ℕ) (n : ℕ) (chunks : List (List ℕ)) → chunks
 unfolding contents
 chunks_read l n chunks is long =
     sym (list_of_is (map_entry_at l) map_format.blank (read_each chunks) n (sym (read-count chunks ∙ long))
-    (λ k h. sym (read-at chunks k ∙ ap (λ (cs : List (List ℕ)). map_entry_at (get_or cs k []) 0) is ∙ ap (λ (b : List ℕ). map_entry_at b 0) (chunk_at n k l h)
+    (λ k h. sym (read-at chunks k ∙ ap (λ (cs : List (List ℕ)). map_entry_at (get_or cs k []) 0) is ∙ ap (λ (b : List ℕ). map_entry_at b 0) (chunk_at map_width n k l h)
     ∙ chunk_entry l k)))
 
 -- whether the names lie inside: of no entries, and of one more

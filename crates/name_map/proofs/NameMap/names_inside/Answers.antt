@@ -1,5 +1,5 @@
 -- `name_map::NameMap::names_inside` meets its contract: the closure joins the answer of one entry to those so far.
-use Rattle.std.proofs.Common.{◌≡◌, ℕ, true, List, Bor, length, rules}
+use Rattle.std.proofs.Common.{◌≡◌, ℕ, true, List, Bor, rules}
 use Rattle.std.proofs.iter.Yields.{fronts}
 use Rattle.std.proofs.lemmas.Fn.{fold_over}
 use Rattle.std.proofs.lemmas.Iterator.{YieldsList-from_slice}
