@@ -35,9 +35,11 @@ extern "C" {
 #define TROYMANTLE_START_REFUSED 8  /* start: n is above 4,096, or the stack has fewer than 2 * (n + 1) bytes */
 #define TROYMANTLE_BROKEN_RUN 9     /* step: n above 4,096, position above n, depth 0 or above position + 1, moves above position, a short
                                        stack, or an id in use that is not declared */
-#define TROYMANTLE_ROW_MISMATCH 10  /* step: the row has not two bytes for each rule, or a length above the bytes left */
+#define TROYMANTLE_ROW_MISMATCH 10  /* step: the row has not two bytes for each rule, or a length of any rule that is above the bytes
+                                       left or does not end at a character's edge */
 #define TROYMANTLE_NO_SUCH_PLACE 11 /* line_column: the offset is above the file's length or inside a character; offset_at: no
                                        offset has that line and column */
+#define TROYMANTLE_TEXT_MISMATCH 12 /* start, step: the entry's text is not UTF-8, or not n bytes long; tested behind 8, and behind 6 */
 
 /* Numbers: the answers of a step. */
 #define TROYMANTLE_DONE 256     /* the position is n; nothing changed */
@@ -151,14 +153,16 @@ uint64_t troymantle_link(
     uint8_t *area7, size_t area7_length,
     uint8_t *area8, size_t area8_length);
 
-/* Begins a run over an entry of n bytes: n, position, depth, moves. Refuses by 8, and then changes nothing. */
+/* Begins a run over an entry of n bytes, of which the text is lent: n, position, depth, moves. Refuses by 8, 12, and then changes
+ * nothing. */
 uint64_t troymantle_start(
     uint64_t n,
+    const uint8_t *text, size_t text_length,
     uint16_t run[4],
     uint8_t *stack, size_t stack_length);
 
-/* Moves a run on by a row: for each rule how many bytes from the position on its pattern matches, 0 where it does not. Refuses by 6,
- * 9, 10. Only a skip and a token change run and stack. */
+/* Moves a run on by a row: for each rule how many bytes from the position on its pattern matches, 0 where it does not. The text is that
+ * of the start. Refuses by 6, 12, 9, 10, and answers 'done' before 10. Only a skip and a token change run and stack. */
 uint64_t troymantle_step(
     const uint8_t *source, size_t source_length,
     const uint8_t *area1, size_t area1_length,
@@ -167,6 +171,7 @@ uint64_t troymantle_step(
     const uint8_t *area4, size_t area4_length,
     const uint8_t *area5, size_t area5_length,
     const uint16_t counts[6],
+    const uint8_t *text, size_t text_length,
     uint16_t run[4],
     uint8_t *stack, size_t stack_length,
     const uint8_t *row, size_t row_length);

@@ -36,21 +36,27 @@ pub fn link(call: &Call) -> Left {
     Left { word, area_2, area_7, area_8 }
 }
 
-pub fn start(n: u64, run: &Run) -> (u64, Run) {
+pub fn start(n: u64, text: &[u8], run: &Run) -> (u64, Run) {
+    on_text(text, run, |text, numbers, stack| LINKED.start(n, text, numbers, stack))
+}
+
+pub fn step(sheet: &Sheet, text: &[u8], run: &Run, row: &[u8]) -> (u64, Run) {
+    on_text(text, run, |text, numbers, stack| LINKED.step(sheet, text, numbers, stack, row))
+}
+
+/// The text lies between continuation bytes: if they were read as a part of it, a cut character would be whole, and the
+/// end no edge.
+fn on_text(text: &[u8], run: &Run, call: impl Fn(&[u8], &mut [u16; 4], &mut [u8]) -> u64) -> (u64, Run) {
+    let text = Source::new(text, run.numbers[1] as usize % 8, 0x80);
     let mut numbers = run.numbers;
     let mut lent = guarded(&run.stack);
-    let word = LINKED.start(n, &mut numbers, between_guards(&mut lent));
+    let word = call(text.lent(), &mut numbers, between_guards(&mut lent));
+    assert!(text.is_unchanged(), "the call wrote into the text or beside it");
     (word, Run { numbers, stack: unguarded(lent) })
 }
 
-pub fn step(sheet: &Sheet, run: &Run, row: &[u8]) -> (u64, Run) {
-    let mut numbers = run.numbers;
-    let mut lent = guarded(&run.stack);
-    let word = LINKED.step(sheet, &mut numbers, between_guards(&mut lent), row);
-    (word, Run { numbers, stack: unguarded(lent) })
-}
-
-/// A source that many calls are lent. It stands between bytes that would change an answer if they were read as a part of it.
+/// A source or a text that calls read. It stands between bytes that would change an answer if they were read as a part
+/// of it.
 pub struct Source {
     bytes: Vec<u8>,
     range: Range<usize>,
@@ -66,17 +72,21 @@ impl Source {
         Source { kept: bytes.clone(), bytes, range }
     }
 
+    fn lent(&self) -> &[u8] {
+        &self.bytes[self.range.clone()]
+    }
+
     pub fn line_column(&self, offset: u64, before: [u32; 2]) -> (u64, [u32; 2]) {
         let mut lent = [GUARD_NUMBER, GUARD_NUMBER, before[0], before[1], GUARD_NUMBER, GUARD_NUMBER];
         let [_, _, place @ .., _, _] = &mut lent;
-        let word = LINKED.line_column(&self.bytes[self.range.clone()], offset, place);
+        let word = LINKED.line_column(self.lent(), offset, place);
         let [one, two, line, column, five, six] = lent;
         assert_eq!([one, two, five, six], [GUARD_NUMBER; 4], "the call wrote outside the place that was lent to it");
         (word, [line, column])
     }
 
     pub fn offset_at(&self, line: u64, column: u64) -> u64 {
-        LINKED.offset_at(&self.bytes[self.range.clone()], line, column)
+        LINKED.offset_at(self.lent(), line, column)
     }
 
     pub fn is_unchanged(&self) -> bool {
@@ -113,7 +123,7 @@ fn unguarded(bytes: Vec<u8>) -> Vec<u8> {
 #[cfg(test)]
 mod tests {
     use super::*;
-    use crate::answers::{self, BROKEN_SHEET, DONE, NO_SUCH_PLACE, ROW_MISMATCH, TOKEN};
+    use crate::answers::{self, BROKEN_SHEET, DONE, NO_SUCH_PLACE, ROW_MISMATCH, TEXT_MISMATCH, TOKEN};
     use crate::{link, sheet};
 
     const SOURCE: &str = "%%\na 'A'";
@@ -133,19 +143,22 @@ mod tests {
     }
 
     #[test]
-    fn the_library_runs_over_three_bytes() {
-        let sheet = linked();
-        let (word, mut run) = start(3, &Run { numbers: [7; 4], stack: vec![7; 8] });
-        assert_eq!((word, run.numbers), (0, [3, 0, 1, 0]));
+    fn the_library_runs_over_four_bytes() {
+        let (sheet, text) = (linked(), "éaa".as_bytes());
+        let before = Run { numbers: [7; 4], stack: vec![7; 10] };
+        assert_eq!(start(4, &text[..3], &before), (TEXT_MISMATCH, before.clone()));
+        let (word, mut run) = start(4, text, &before);
+        assert_eq!((word, run.numbers), (0, [4, 0, 1, 0]));
         let mut words = vec![];
-        for length in [2, 2, 1, 1] {
-            let (word, after) = step(&sheet, &run, &[length, 0]);
+        for length in [1, 3, 2, 1, 1] {
+            let (word, after) = step(&sheet, text, &run, &[length, 0]);
             words.push(word);
             run = after;
         }
         let token = |start, length| answers::word(TOKEN, &[9, start, length]);
-        assert_eq!(words, [token(0, 2), ROW_MISMATCH, token(2, 1), DONE]);
-        assert_eq!(run, Run { numbers: [3, 3, 1, 2], stack: vec![0, 0, 7, 7, 7, 7, 7, 7] });
+        assert_eq!(words, [ROW_MISMATCH, token(0, 3), ROW_MISMATCH, token(3, 1), DONE]);
+        assert_eq!(step(&sheet, b"aaa\xc3", &run, &[]), (TEXT_MISMATCH, run.clone()));
+        assert_eq!(run, Run { numbers: [4, 4, 1, 2], stack: vec![0, 0, 7, 7, 7, 7, 7, 7, 7, 7] });
     }
 
     #[test]

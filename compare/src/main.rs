@@ -26,6 +26,7 @@ mod show;
 mod shrink;
 mod side;
 mod step;
+mod without_text;
 
 use options::Options;
 use side::Side;
@@ -62,8 +63,8 @@ compare link        compares the answers of many link calls, and hand-made broke
     --cases N       how many files and maps (20000)
     --seed S        (1)
     --first I       the number of the first case (0)
-compare step        compares runs with the original's lexer loop and with the run machine of 01, call by call, and
-                    hand-made broken runs and sheets
+compare step        compares runs over texts with the original's lexer loop and with the run machine of 01, call by call,
+                    and hand-made broken runs, sheets and texts
     --cases N       how many runs (20000)
     --seed S        (1)
     --first I       the number of the first run (0)
@@ -87,10 +88,12 @@ compare bench [WORDS]
     --layouts N     our code lies at so many places in turn, 16 bytes apart (8)
     --library FILE  another static library in the place of ours (target/staticlib/libtroymantle.a)
     --before FILE   a static library to compare it with in the same run
+    --before-without-text FILE
+                    the same, for a library from before request 2/13, whose start and step take no text of the entry
     --plot FILE     where the plot of the growth is written, if all of it is timed (target/bench/growth.svg)
 compare count [WORDS]
-                    prints the instructions a call of the same shapes, counted by valgrind's callgrind; --library and --before
-                    as for bench
+                    prints the instructions a call of the same shapes, counted by valgrind's callgrind; --library, --before
+                    and --before-without-text as for bench
 compare once SHAPE  does a shape once, by the original or by the shared object --library FILE: what count runs under valgrind
 tools/compare test  runs the unit tests of this program and looks for warnings
 compare --help      prints this",
@@ -145,12 +148,12 @@ fn dispatch(arguments: &[String]) -> Result<(), String> {
             record::check_record(&options.answers("--input"), our_side().as_deref())
         }
         "bench" => {
-            let options = Options::read_with_words(rest, &["--layouts", "--library", "--before", "--plot"])?;
-            bench::bench(&wanted(options)?)
+            let known = ["--layouts", "--library", "--before", "--before-without-text", "--plot"];
+            bench::bench(&wanted(Options::read_with_words(rest, &known)?)?)
         }
         "count" => {
-            let options = Options::read_with_words(rest, &["--library", "--before"])?;
-            bench::count(&wanted(options)?)
+            let known = ["--library", "--before", "--before-without-text"];
+            bench::count(&wanted(Options::read_with_words(rest, &known)?)?)
         }
         "once" => {
             let options = Options::read_with_words(rest, &["--library"])?;
@@ -165,9 +168,14 @@ fn dispatch(arguments: &[String]) -> Result<(), String> {
 }
 
 fn wanted(options: Options) -> Result<bench::Wanted, String> {
+    let (before, without_text) = (options.path("--before"), options.path("--before-without-text"));
+    if before.is_some() && without_text.is_some() {
+        return Err("`--before` and `--before-without-text` exclude each other.".to_string());
+    }
     Ok(bench::Wanted {
         library: options.path("--library"),
-        before: options.path("--before"),
+        text_before: without_text.is_none(),
+        before: without_text.or(before),
         layouts: options.number("--layouts", 8)?,
         plot: options.path("--plot"),
         words: options.words,

@@ -1,5 +1,5 @@
 /* A small host in C: it cuts a seller's entry into tokens by a lex file. It parses the file, links the rules to token
- * ids, and moves a run over the entry with rows that its own little matcher makes. It also shows two refusals. It ends
+ * ids, and moves a run over the entry with rows that its own little matcher makes. It also shows some refusals. It ends
  * with 1 at any answer that it does not expect.
  *
  *     cc -std=c11 -Iinclude host/examples/bet.c target/staticlib/libtroymantle.a -o target/bet && target/bet
@@ -11,13 +11,14 @@
 
 #include "troymantle.h"
 
-/* Three rules with a name, whose tokens are answered, and one without, which skips blanks. */
-static const char LEX_FILE[] = "%%\nWIN 'WIN'\nPLACE 'PLACE'\n[0-9]+ 'NUMBER'\n[ ]+ ;\n";
-static const char ENTRY[] = "WIN 12  PLACE 7";
+/* Four rules with a name, whose tokens are answered, and one without, which skips blanks. */
+static const char LEX_FILE[] = "%%\nWIN 'WIN'\nPLACE 'PLACE'\n[0-9]+ 'NUMBER'\n€ 'EURO'\n[ ]+ ;\n";
+/* It is UTF-8: the euro sign has three bytes. */
+static const char ENTRY[] = "WIN 12  PLACE 7 €5";
 
 /* The map: names, and of each where it starts, its length and its token id, in two bytes, the low one first. */
-static const char NAMES[] = "NUMBERPLACEWIN";
-static const uint8_t MAP[] = {0, 0, 6, 0, 30, 0, 6, 0, 5, 0, 20, 0, 11, 0, 3, 0, 10, 0};
+static const char NAMES[] = "NUMBERPLACEWINEURO";
+static const uint8_t MAP[] = {0, 0, 6, 0, 30, 0, 6, 0, 5, 0, 20, 0, 11, 0, 3, 0, 10, 0, 14, 0, 4, 0, 40, 0};
 
 /* What is lent to the calls: areas and a stack that are long enough for every file and entry. */
 static uint8_t area1[TROYMANTLE_AREA1_BYTES], area2[TROYMANTLE_AREA2_BYTES], area3[TROYMANTLE_AREA3_BYTES];
@@ -81,7 +82,7 @@ static void make_row(unsigned position)
 
 static uint64_t step(void)
 {
-    return troymantle_step(SHEET, run, stack, sizeof stack, row, 2u * counts[1]);
+    return troymantle_step(SHEET, BYTES(ENTRY), run, stack, sizeof stack, row, 2u * counts[1]);
 }
 
 /* Steps until the entry's end, and prints its tokens; run[1] is the position. */
@@ -104,13 +105,25 @@ static void print_tokens(void)
     printf("done\n");
 }
 
-/* A length above the bytes that are left: the row is refused, and the run stays where it is. */
-static void show_refused_row(void)
+/* A length above the bytes that are left, and one that ends inside the euro sign: the row is refused, and the run stays
+ * where it is. */
+static void show_refused_rows(void)
 {
     make_row(run[1]);
     row[1] = 255;
     expect("step", step(), TROYMANTLE_ROW_MISMATCH);
-    printf("refused by %d: a row that does not fit; the position is still %d\n", TROYMANTLE_ROW_MISMATCH, run[1]);
+    row[1] = 0;
+    row[0] = 17;
+    expect("step", step(), TROYMANTLE_ROW_MISMATCH);
+    printf("refused by %d: rows that do not fit; the position is still %d\n", TROYMANTLE_ROW_MISMATCH, run[1]);
+}
+
+/* An entry that ends inside its last character. */
+static void show_refused_text(void)
+{
+    uint64_t word = troymantle_start(2, BYTES("\xe2\x82"), run, stack, sizeof stack);
+    expect("start", word, TROYMANTLE_TEXT_MISMATCH);
+    printf("refused by %d: an entry that is not UTF-8\n", TROYMANTLE_TEXT_MISMATCH);
 }
 
 /* A rule without a blank: area 6 has the fault's kind and offset, of which a call tells line and column. */
@@ -137,8 +150,9 @@ int main(void)
     uint64_t word = troymantle_link(SHEET, BYTES(NAMES), MAP, sizeof MAP, area7, sizeof area7, area8, sizeof area8);
     expect("link", word, TROYMANTLE_ACCEPTED);
     printf("%d rules, of which %d are not in the map\n", counts[1], TROYMANTLE_A(word));
-    expect("start", troymantle_start(sizeof ENTRY - 1, run, stack, sizeof stack), TROYMANTLE_ACCEPTED);
-    show_refused_row();
+    show_refused_text();
+    expect("start", troymantle_start(sizeof ENTRY - 1, BYTES(ENTRY), run, stack, sizeof stack), TROYMANTLE_ACCEPTED);
+    show_refused_rows();
     print_tokens();
     return 0;
 }

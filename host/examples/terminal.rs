@@ -28,6 +28,8 @@ mod session;
 mod show;
 #[path = "terminal/source.rs"]
 mod source;
+#[path = "terminal/width.rs"]
+mod width;
 
 use message::Message;
 use options::{Color, Command, Options};

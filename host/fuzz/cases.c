@@ -64,24 +64,32 @@ static void try_map(struct sheet *sheet)
              one_in(3) ? other_length(below(length8 + 1)) : length8);
 }
 
-static void try_steps(const struct sheet *sheet, struct run *run)
+/* Steps of a run over its text, and now and then one of a changed run, or with a changed text. */
+static void try_steps(const struct sheet *sheet, const struct bytes *text, struct run *run)
 {
-    static struct bytes row;
+    static struct bytes row, changed_text;
     static struct run changed;
     for (size_t steps = below(8); steps > 0; steps--) {
-        make_row(&row, sheet, run);
-        if (one_in(8)) {
+        make_row(&row, sheet, text, run);
+        if (one_in(6)) {
             copy_run(&changed, run);
-            change_run(&changed);
-            try_step(sheet, &changed, &row);
+            copy_bytes(&changed_text, text->data, text->length);
+            if (one_in(2)) {
+                change_run(&changed);
+            }
+            if (one_in(2)) {
+                change_entry(&changed_text);
+            }
+            try_step(sheet, &changed_text, &changed, &row);
         }
-        try_step(sheet, run, &row);
+        try_step(sheet, text, run, &row);
     }
 }
 
 static void try_run(const struct sheet *sheet)
 {
     static struct run run;
+    static struct bytes text;
     uint64_t n = one_in(12) ? ONE_OF(4095, 4096, 4096, 4097, 65535, 65536, 1ull << 32, 1ull << 63, UINT64_MAX - 1,
                                      UINT64_MAX, random_word())
                             : below(30);
@@ -91,10 +99,15 @@ static void try_run(const struct sheet *sheet)
     }
     run.stack.length = 0;
     add_random(&run.stack, one_in(6) ? other_length(length) : length, 256);
-    if (try_start(n, &run) != TROYMANTLE_ACCEPTED || one_in(10)) {
-        make_random_run(&run);
+    make_entry(&text, n <= 65536 ? n : below(100));
+    if (one_in(8)) {
+        change_entry(&text);
     }
-    try_steps(sheet, &run);
+    if (try_start(n, &text, &run) != TROYMANTLE_ACCEPTED || one_in(10)) {
+        make_random_run(&run);
+        make_entry(&text, run.numbers[0] <= 4096 || one_in(4) ? run.numbers[0] : below(100));
+    }
+    try_steps(sheet, &text, &run);
 }
 
 static void try_lines(void)

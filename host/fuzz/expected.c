@@ -170,16 +170,36 @@ bool is_run(const struct run *run, unsigned states)
     return k == depth;
 }
 
-bool is_row(const struct bytes *row, const struct run *run, unsigned rules)
+void mark_edges(const struct bytes *text, bool *edges)
 {
-    unsigned left = run->numbers[0] - run->numbers[1], k = 0;
+    size_t at = 0, bytes = 0;
+    memset(edges, 0, text->length + 1);
+    do {
+        at += bytes;
+        edges[at] = true;
+        bytes = at < text->length ? character(text->data + at, text->length - at) : 0;
+    } while (bytes > 0);
+}
+
+bool is_row(const struct bytes *row, const struct run *run, const struct bytes *text, unsigned rules)
+{
+    static bool edges[TROYMANTLE_MOST_ENTRY + 1];
+    unsigned position = run->numbers[1], left = run->numbers[0] - position, k = 0;
     if (row->length != 2 * (size_t)rules) {
         return false;
     }
-    while (k < rules && field(row->data, k) <= left) {
+    mark_edges(text, edges);
+    while (k < rules && field(row->data, k) <= left && edges[position + field(row->data, k)]) {
         k++;
     }
     return k == rules;
+}
+
+/* ---- 12: the entry's text (02, 2/13) */
+
+bool is_entry(const struct bytes *text, uint64_t n)
+{
+    return text->length == n && is_utf8(text->data, text->length);
 }
 
 /* ---- 11: lines and columns (02, 1/13) */

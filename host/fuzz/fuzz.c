@@ -1,4 +1,4 @@
-/* A bounded random loop over the calls, with hostile sizes, contents, sheets, maps, runs, rows and places.
+/* A bounded random loop over the calls, with hostile sizes, contents, sheets, maps, entries, runs, rows and places.
  *
  *     fuzz [--seed S] [--first K] [--cases N]
  *
@@ -145,7 +145,7 @@ static bool saw_all(void)
 {
     bool all = true;
     for (size_t k = 0; k <= TROYMANTLE_TOKEN; k++) {
-        bool is_answer = k <= TROYMANTLE_NO_SUCH_PLACE || k >= TROYMANTLE_DONE;
+        bool is_answer = k <= TROYMANTLE_TEXT_MISMATCH || k >= TROYMANTLE_DONE;
         if (is_answer && answers[k] == 0) {
             fprintf(stderr, "fuzz: no call answered %zu\n", k);
             all = false;

@@ -97,13 +97,17 @@ void begin_call(enum call call);
 void end_call(uint64_t word);
 _Noreturn void fail(const char *format, ...) __attribute__((format(printf, 1, 2)));
 
-/* ---- texts.c: lex files, verdicts, and texts for lines and columns */
+/* ---- texts.c: lex files, verdicts, entries, and texts for lines and columns */
 
 /* A file without faults, and one of any kind. */
 void make_good_text(struct bytes *text);
 void make_text(struct bytes *text);
 void make_verdicts(struct bytes *verdicts);
 void make_place_text(struct bytes *text);
+/* Whole characters of one to four bytes, together just so many bytes. */
+void make_entry(struct bytes *text, size_t length);
+/* Another length, damaged, or with a cut character. */
+void change_entry(struct bytes *text);
 /* Names that the index of a link cannot tell apart, by a number below SAME_HOME. */
 enum { SAME_HOME_LENGTH = 99, SAME_HOME = 25 * 25 };
 void make_same_home_name(char name[SAME_HOME_LENGTH + 1], size_t number);
@@ -136,7 +140,7 @@ void copy_run(struct run *to, const struct run *run);
 /* One more, one less, none or any number. */
 size_t other_length(size_t length);
 void change_run(struct run *run);
-void make_row(struct bytes *row, const struct sheet *sheet, const struct run *run);
+void make_row(struct bytes *row, const struct sheet *sheet, const struct bytes *text, const struct run *run);
 uint64_t choose_rule(const struct sheet *sheet);
 uint64_t choose_offset(const struct bytes *text);
 /* A line and a column. */
@@ -148,7 +152,12 @@ bool is_utf8(const uint8_t *data, size_t length);
 bool is_sound(const struct sheet *sheet);
 bool is_map(const struct map *map);
 bool is_run(const struct run *run, unsigned states);
-bool is_row(const struct bytes *row, const struct run *run, unsigned rules);
+bool is_entry(const struct bytes *text, uint64_t n);
+/* The run and its text are good. */
+bool is_row(const struct bytes *row, const struct run *run, const struct bytes *text, unsigned rules);
+/* For each offset up to a text's length whether it is an edge: the length of some first so-many characters. Behind the
+ * first byte that belongs to no character there are none. */
+void mark_edges(const struct bytes *text, bool *edges);
 
 /* An offset at the edge of a character, with its line and column. */
 struct place {
@@ -175,8 +184,8 @@ void lend_sheet(struct loan *loan, const struct sheet *sheet, enum access area_2
 /* Accepted, the sheet is linked. */
 void try_link(struct sheet *sheet, const struct map *map, size_t length7, size_t length8);
 /* Run and stack are as the call left them. */
-uint64_t try_start(uint64_t n, struct run *run);
-void try_step(const struct sheet *sheet, struct run *run, const struct bytes *row);
+uint64_t try_start(uint64_t n, const struct bytes *text, struct run *run);
+void try_step(const struct sheet *sheet, const struct bytes *text, struct run *run, const struct bytes *row);
 /* Lines and columns of so many offsets, and offsets of so many lines and columns. */
 void try_places(const struct bytes *source, size_t tries);
 

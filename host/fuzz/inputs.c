@@ -199,17 +199,29 @@ void change_run(struct run *run)
     }
 }
 
-/* Mostly two bytes for each rule, and lengths of at most what is left. */
-void make_row(struct bytes *row, const struct sheet *sheet, const struct run *run)
+/* A length of at most so many bytes, or the next one that ends at an edge. */
+static size_t choose_length(const struct bytes *text, const bool *edges, size_t position, size_t most)
 {
-    size_t rules = sheet->counts[1], left = (uint16_t)(run->numbers[0] - run->numbers[1]);
-    size_t most = one_in(2) ? left : left < 3 ? left : 3, matching = ONE_OF(1, 2, 10, 100000);
+    size_t length = below(most + 1);
+    while (length < most && position + length < text->length && !edges[position + length]) {
+        length++;
+    }
+    return length;
+}
+
+/* Mostly two bytes for each rule, and lengths of at most what is left that end at edges of the text. */
+void make_row(struct bytes *row, const struct sheet *sheet, const struct bytes *text, const struct run *run)
+{
+    static bool edges[MOST_LENGTH + 1];
+    size_t rules = sheet->counts[1], position = run->numbers[1], left = (uint16_t)(run->numbers[0] - position);
+    size_t most = one_in(2) ? left : left < 6 ? left : 6, matching = ONE_OF(1, 2, 10, 100000);
+    mark_edges(text, edges);
     row->length = 0;
     for (size_t k = 0; k < rules && k < 4096; k++) {
-        add_field(row, one_in(matching) ? below(most + 1) : 0);
+        add_field(row, one_in(matching) ? choose_length(text, edges, position, most) : 0);
     }
-    if (one_in(12) && rules > 0 && row->length > 0) {
-        set_field(row->data, below(row->length / 2), ONE_OF(left, left + 1, 65535));
+    if (one_in(6) && rules > 0 && row->length > 0) {
+        set_field(row->data, below(row->length / 2), ONE_OF(below(left + 1), below(most + 1), left, left + 1, 65535));
     }
     if (one_in(16)) {
         resize(row, other_length(row->length));

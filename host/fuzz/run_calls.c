@@ -1,10 +1,10 @@
-/* The start call and the step call (01, The run). */
+/* The start call and the step call (01, The run; 02, 2/13). */
 #include "fuzz.h"
 
 #include <string.h>
 
-/* Where run and stack stand in the loan of a start and of a step. */
-enum { START_RUN = 0, STEP_RUN = 7 };
+/* Where text, run and stack stand in the loan of a start and of a step. */
+enum { START_TEXT = 0, START_RUN, STEP_TEXT = 7, STEP_RUN };
 
 /* The run and its stack as the call left them. */
 static void take_run(struct run *run, const struct lent *numbers, const struct lent *stack)
@@ -13,28 +13,38 @@ static void take_run(struct run *run, const struct lent *numbers, const struct l
     memcpy(run->stack.data, stack->bytes, run->stack.length);
 }
 
-static void lend_run(struct loan *loan, const struct run *run)
+static void lend_run(struct loan *loan, const struct bytes *text, const struct run *run)
 {
+    lend(loan, READ, "the text", text->data, text->length);
     lend_numbers(loan, WRITE, "the run", run->numbers, 4, sizeof *run->numbers);
     lend(loan, WRITE, "the stack", run->stack.data, run->stack.length);
 }
 
 /* ---- start */
 
-uint64_t try_start(uint64_t n, struct run *run)
+/* 8, 12; 0 where the run begins. */
+static unsigned start_answer(uint64_t n, const struct bytes *text, const struct run *run)
+{
+    if (n > 4096 || run->stack.length < 2 * (n + 1)) {
+        return TROYMANTLE_START_REFUSED;
+    }
+    return is_entry(text, n) ? TROYMANTLE_ACCEPTED : TROYMANTLE_TEXT_MISMATCH;
+}
+
+uint64_t try_start(uint64_t n, const struct bytes *text, struct run *run)
 {
     struct loan loan = {0};
-    bool good = n <= 4096 && run->stack.length >= 2 * (n + 1);
+    unsigned right = start_answer(n, text, run);
     begin_call(START);
-    lend_run(&loan, run);
+    lend_run(&loan, text, run);
     const struct lent *numbers = &loan.lents[START_RUN], *stack = &loan.lents[START_RUN + 1];
-    uint64_t word = troymantle_start(n, LENT_NUMBERS(START_RUN), LENT(START_RUN + 1));
+    uint64_t word = troymantle_start(n, LENT(START_TEXT), LENT_NUMBERS(START_RUN), LENT(START_RUN + 1));
     end_call(word);
     check_loan(&loan);
-    if (word != (good ? TROYMANTLE_ACCEPTED : TROYMANTLE_START_REFUSED)) {
-        fail("the answer is %#llx", (unsigned long long)word);
+    if (word != right) {
+        fail("the answer is %#llx, and by 01 and 02 %u", (unsigned long long)word, right);
     }
-    if (good) {
+    if (right == TROYMANTLE_ACCEPTED) {
         const uint16_t first[4] = {(uint16_t)n, 0, 1, 0};
         if (memcmp(numbers->bytes, first, sizeof first) != 0 || !are_zero(stack->bytes, 2) ||
             memcmp(stack->bytes + 2, stack->before + 2, stack->length - 2) != 0) {
@@ -51,11 +61,15 @@ uint64_t try_start(uint64_t n, struct run *run)
 
 /* ---- step */
 
-/* 6, 9, 'done' or 10; 0 where the row decides. */
-static unsigned early_answer(const struct sheet *sheet, const struct run *run, const struct bytes *row)
+/* 6, 12, 9, 'done' or 10; 0 where the row decides. */
+static unsigned early_answer(const struct sheet *sheet, const struct bytes *text, const struct run *run,
+                             const struct bytes *row)
 {
     if (!is_sound(sheet)) {
         return TROYMANTLE_BROKEN_SHEET;
+    }
+    if (!is_entry(text, run->numbers[0])) {
+        return TROYMANTLE_TEXT_MISMATCH;
     }
     if (!is_run(run, sheet->counts[0])) {
         return TROYMANTLE_BROKEN_RUN;
@@ -63,7 +77,7 @@ static unsigned early_answer(const struct sheet *sheet, const struct run *run, c
     if (run->numbers[0] == run->numbers[1]) {
         return TROYMANTLE_DONE;
     }
-    return is_row(row, run, sheet->counts[1]) ? 0 : TROYMANTLE_ROW_MISMATCH;
+    return is_row(row, run, text, sheet->counts[1]) ? 0 : TROYMANTLE_ROW_MISMATCH;
 }
 
 static bool has_length(const struct bytes *row, unsigned length)
@@ -112,12 +126,12 @@ static void check_move(const struct sheet *sheet, const struct run *run, const s
     check_stack(sheet, &loan->lents[STEP_RUN + 1], before[2], after[2]);
 }
 
-static void check_step(const struct sheet *sheet, const struct run *run, const struct bytes *row, uint64_t word,
-                       const struct loan *loan)
+static void check_step(const struct sheet *sheet, const struct bytes *text, const struct run *run,
+                       const struct bytes *row, uint64_t word, const struct loan *loan)
 {
-    unsigned number = TROYMANTLE_NUMBER(word), right = early_answer(sheet, run, row);
+    unsigned number = TROYMANTLE_NUMBER(word), right = early_answer(sheet, text, run, row);
     if (right != 0 ? word != right : number < TROYMANTLE_STOPPED || number > TROYMANTLE_TOKEN) {
-        fail("the answer is %#llx; 01 has %u, or 257 to 260 for 0", (unsigned long long)word, right);
+        fail("the answer is %#llx; 01 and 02 have %u, or 257 to 260 for 0", (unsigned long long)word, right);
     }
     if (number != TROYMANTLE_TOKEN && word >> 16 != 0) {
         fail("the answer %#llx has values", (unsigned long long)word);
@@ -130,17 +144,18 @@ static void check_step(const struct sheet *sheet, const struct run *run, const s
     }
 }
 
-void try_step(const struct sheet *sheet, struct run *run, const struct bytes *row)
+void try_step(const struct sheet *sheet, const struct bytes *text, struct run *run, const struct bytes *row)
 {
     struct loan loan = {0};
     begin_call(STEP);
     lend_sheet(&loan, sheet, READ);
-    lend_run(&loan, run);
+    lend_run(&loan, text, run);
     lend(&loan, READ, "the row", row->data, row->length);
-    uint64_t word = troymantle_step(LENT_SHEET, LENT_NUMBERS(STEP_RUN), LENT(STEP_RUN + 1), LENT(STEP_RUN + 2));
+    uint64_t word = troymantle_step(LENT_SHEET, LENT(STEP_TEXT), LENT_NUMBERS(STEP_RUN), LENT(STEP_RUN + 1),
+                                    LENT(STEP_RUN + 2));
     end_call(word);
     check_loan(&loan);
-    check_step(sheet, run, row, word, &loan);
+    check_step(sheet, text, run, row, word, &loan);
     take_run(run, &loan.lents[STEP_RUN], &loan.lents[STEP_RUN + 1]);
     end_loan(&loan);
 }

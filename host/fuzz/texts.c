@@ -1,5 +1,5 @@
 /* Lex files: without faults, broken at some places, of fragments, of random bytes, and long ones. Texts for lines and
- * columns. */
+ * columns. Entries that are run over. */
 #include "fuzz.h"
 
 #include <stdio.h>
@@ -302,5 +302,67 @@ void make_place_text(struct bytes *text)
     }
     if (one_in(8)) {
         change_text(text);
+    }
+}
+
+/* ---- entries */
+
+/* The first and last characters of each length, and some between. */
+static const char *const ENTRY_CHARACTERS[] = {
+    "a", "b", "\x7f", "\xc2\x80", "é", "\xdf\xbf", "\xe0\xa0\x80", "€", "\xed\x9f\xbf", "\xee\x80\x80",
+    "\xef\xbf\xbf", "\xf0\x90\x80\x80", "\U0001f600", "\xf4\x8f\xbf\xbf",
+};
+/* What belongs to no text: half characters, surrogates, characters written too long, numbers above the last. */
+static const char *const NO_CHARACTERS[] = {
+    "\x80", "\xbf", "\xff", "\xc3", "\xe2\x82", "\xf0\x9f\x98", "\xc0\x80", "\xc1\xbf",
+    "\xe0\x9f\xbf", "\xed\xa0\x80", "\xf0\x8f\xbf\xbf", "\xf4\x90\x80\x80", "\xf5\x80\x80\x80",
+};
+
+/* A long one has its first bytes again and again. */
+void make_entry(struct bytes *text, size_t length)
+{
+    size_t kinds = one_in(4) ? 3 : sizeof ENTRY_CHARACTERS / sizeof *ENTRY_CHARACTERS;
+    size_t first = length < 64 ? length : 64;
+    text->length = 0;
+    while (text->length < first) {
+        const char *character = ENTRY_CHARACTERS[below(kinds)];
+        add_text(text, text->length + strlen(character) <= first ? character : "z");
+    }
+    while (text->length + first < length) {
+        add(text, text->data, first);
+    }
+    while (text->length < length) {
+        add_byte(text, 'z');
+    }
+}
+
+/* Writes over bytes, as many as are there. */
+static void write_over(struct bytes *text, const char *bytes)
+{
+    size_t at = below(text->length), length = strlen(bytes);
+    memcpy(text->data + at, bytes, length < text->length - at ? length : text->length - at);
+}
+
+void change_entry(struct bytes *text)
+{
+    switch (below(5)) {
+    case 0:
+        resize(text, other_length(text->length));
+        break;
+    case 1: /* the first byte goes, and the last one is there twice */
+        if (text->length > 0) {
+            memmove(text->data, text->data + 1, text->length - 1);
+        }
+        break;
+    case 2:
+        if (text->length > 0) {
+            text->data[below(text->length)] = (uint8_t)random_word();
+        }
+        break;
+    case 3:
+        write_over(text, ENTRY_CHARACTERS[below(sizeof ENTRY_CHARACTERS / sizeof *ENTRY_CHARACTERS)]);
+        break;
+    default:
+        write_over(text, NO_CHARACTERS[below(sizeof NO_CHARACTERS / sizeof *NO_CHARACTERS)]);
     }
 }

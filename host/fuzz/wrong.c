@@ -146,15 +146,69 @@ uint64_t wrong_link(BYTES(source), BYTES(area1), AREA(area2), SHEET_BEHIND_AREA_
 
 /* ---- start and step */
 
-uint64_t wrong_start(uint64_t n, uint16_t run[4], AREA(stack))
+static uint64_t wrong_start_word(uint64_t word, uint64_t n, BYTES(text))
 {
-    uint64_t word = troymantle_start(n, run, GIVEN(stack));
+    if (is_chosen(start_takes_a_short_stack, n <= 4096)) {
+        return instead(word, TROYMANTLE_START_REFUSED, TROYMANTLE_ACCEPTED);
+    }
+    if (is_chosen(start_tests_the_text_before_n, !is_utf8(text, text_length))) {
+        return instead(word, TROYMANTLE_START_REFUSED, TROYMANTLE_TEXT_MISMATCH);
+    }
+    bool is_taken = is_chosen(start_takes_bytes_that_are_no_text, text_length == n) ||
+                    is_chosen(start_takes_a_text_of_another_length, text_length != n);
+    return is_taken ? instead(word, TROYMANTLE_TEXT_MISMATCH, TROYMANTLE_ACCEPTED) : word;
+}
+
+uint64_t wrong_start(uint64_t n, BYTES(text), uint16_t run[4], AREA(stack))
+{
+    uint64_t word = troymantle_start(n, GIVEN(text), run, GIVEN(stack));
     if (is_chosen(start_writes_the_run_at_a_refusal, word != 0)) {
         run[1]++;
     } else if (is_chosen(start_clears_the_stack, word == 0)) {
         memset(stack, 0, stack_length);
+    } else if (is_chosen(start_writes_the_text, text_length > 0)) {
+        write_byte(text);
+    } else if (is_chosen(start_reads_behind_the_text, true)) {
+        read_byte(text + text_length);
     }
-    return is_chosen(start_takes_a_short_stack, n <= 4096) ? TROYMANTLE_ACCEPTED : word;
+    return wrong_start_word(word, n, GIVEN(text));
+}
+
+/* Whether a row that was refused has a length for each rule, and none above the bytes left: then some length cuts a
+ * character. */
+static bool is_cut(const uint16_t run[4], BYTES(row), unsigned rules)
+{
+    size_t k = 0;
+    if (row_length != 2 * (size_t)rules) {
+        return false;
+    }
+    while (k < rules && field(row, k) <= (unsigned)run[0] - run[1]) {
+        k++;
+    }
+    return k == rules;
+}
+
+/* The numbers that stand for those of the text and of cut characters. */
+static uint64_t wrong_text_word(uint64_t word, BYTES(text), const uint16_t run[4], BYTES(row), unsigned rules)
+{
+    if (is_chosen(step_takes_bytes_that_are_no_text, text_length == run[0]) ||
+        is_chosen(step_takes_a_text_of_another_length, text_length != run[0])) {
+        return instead(word, TROYMANTLE_TEXT_MISMATCH, TROYMANTLE_STOPPED);
+    }
+    if (is_chosen(step_tests_the_text_before_the_sheet, !is_utf8(text, text_length))) {
+        return instead(word, TROYMANTLE_BROKEN_SHEET, TROYMANTLE_TEXT_MISMATCH);
+    }
+    if (is_chosen(step_tests_the_run_before_the_text, run[1] > run[0] || run[2] == 0 || run[3] > run[1])) {
+        return instead(word, TROYMANTLE_TEXT_MISMATCH, TROYMANTLE_BROKEN_RUN);
+    }
+    if (is_chosen(step_is_done_before_the_text, run[0] == run[1])) {
+        return instead(word, TROYMANTLE_TEXT_MISMATCH, TROYMANTLE_DONE);
+    }
+    if (is_chosen(step_takes_a_length_that_cuts_a_character, is_cut(run, GIVEN(row), rules)) ||
+        is_chosen(step_takes_0_inside_a_character, is_cut(run, GIVEN(row), rules) && are_zero(row, row_length))) {
+        return instead(word, TROYMANTLE_ROW_MISMATCH, TROYMANTLE_STOPPED);
+    }
+    return word;
 }
 
 static uint64_t wrong_step_word(uint64_t word)
@@ -169,17 +223,13 @@ static uint64_t wrong_step_word(uint64_t word)
     return is_chosen(step_takes_a_broken_run, true) ? instead(word, TROYMANTLE_BROKEN_RUN, TROYMANTLE_STOPPED) : word;
 }
 
-uint64_t wrong_step(BYTES(source), BYTES(area1), BYTES(area2), SHEET_BEHIND_AREA_2, uint16_t run[4], AREA(stack),
-                    BYTES(row))
+/* What is read and written that is no business of a step. */
+static void touch_in_step(BYTES(text), uint16_t run[4], BYTES(row))
 {
-    uint64_t word = troymantle_step(GIVEN_SHEET, run, GIVEN(stack), GIVEN(row));
-    unsigned number = TROYMANTLE_NUMBER(word);
-    bool is_move = number == TROYMANTLE_TOKEN || number == TROYMANTLE_SKIP;
-    if (is_chosen(step_moves_when_done, number == TROYMANTLE_DONE) || is_chosen(step_counts_a_move_twice, is_move)) {
-        run[3]++;
-    } else if (is_chosen(step_writes_the_stack_at_a_refusal, number == TROYMANTLE_ROW_MISMATCH) ||
-               is_chosen(step_writes_another_entry, is_move)) {
-        write_byte(stack + stack_length - 1);
+    if (is_chosen(step_writes_the_text, text_length > 0)) {
+        write_byte(text + text_length - 1);
+    } else if (is_chosen(step_reads_behind_the_text, true)) {
+        read_byte(text + text_length);
     } else if (is_chosen(step_writes_the_row, row_length > 0)) {
         write_byte(row);
     } else if (is_chosen(step_writes_behind_the_run, true)) {
@@ -187,10 +237,25 @@ uint64_t wrong_step(BYTES(source), BYTES(area1), BYTES(area2), SHEET_BEHIND_AREA
     } else if (is_chosen(step_reads_behind_the_row, true)) {
         read_byte(row + row_length);
     }
+}
+
+uint64_t wrong_step(BYTES(source), BYTES(area1), BYTES(area2), SHEET_BEHIND_AREA_2, BYTES(text), uint16_t run[4],
+                    AREA(stack), BYTES(row))
+{
+    uint64_t word = troymantle_step(GIVEN_SHEET, GIVEN(text), run, GIVEN(stack), GIVEN(row));
+    unsigned number = TROYMANTLE_NUMBER(word);
+    bool is_move = number == TROYMANTLE_TOKEN || number == TROYMANTLE_SKIP;
+    touch_in_step(GIVEN(text), run, GIVEN(row));
+    if (is_chosen(step_moves_when_done, number == TROYMANTLE_DONE) || is_chosen(step_counts_a_move_twice, is_move)) {
+        run[3]++;
+    } else if (is_chosen(step_writes_the_stack_at_a_refusal, number == TROYMANTLE_ROW_MISMATCH) ||
+               is_chosen(step_writes_another_entry, is_move)) {
+        write_byte(stack + stack_length - 1);
+    }
     while (is_chosen(step_does_not_end, number == TROYMANTLE_STOPPED)) {
         read_byte((const uint8_t *)&word);
     }
-    return wrong_step_word(word);
+    return wrong_step_word(wrong_text_word(word, GIVEN(text), run, GIVEN(row), counts[1]));
 }
 
 /* ---- line_column */

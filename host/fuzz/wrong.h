@@ -31,6 +31,11 @@
     X(start_writes_the_run_at_a_refusal)                                                                               \
     X(start_clears_the_stack)                                                                                          \
     X(start_takes_a_short_stack)                                                                                       \
+    X(start_takes_bytes_that_are_no_text)                                                                              \
+    X(start_takes_a_text_of_another_length)                                                                            \
+    X(start_tests_the_text_before_n)                                                                                   \
+    X(start_writes_the_text)                                                                                           \
+    X(start_reads_behind_the_text)                                                                                     \
     X(step_moves_when_done)                                                                                            \
     X(step_counts_a_move_twice)                                                                                        \
     X(step_writes_the_stack_at_a_refusal)                                                                              \
@@ -40,7 +45,16 @@
     X(step_has_another_start)                                                                                          \
     X(step_has_a_value_at_a_skip)                                                                                      \
     X(step_takes_a_broken_run)                                                                                         \
+    X(step_takes_bytes_that_are_no_text)                                                                               \
+    X(step_takes_a_text_of_another_length)                                                                             \
+    X(step_tests_the_text_before_the_sheet)                                                                            \
+    X(step_tests_the_run_before_the_text)                                                                              \
+    X(step_is_done_before_the_text)                                                                                    \
+    X(step_takes_a_length_that_cuts_a_character)                                                                       \
+    X(step_takes_0_inside_a_character)                                                                                 \
     X(step_reads_behind_the_row)                                                                                       \
+    X(step_writes_the_text)                                                                                            \
+    X(step_reads_behind_the_text)                                                                                      \
     X(step_does_not_end)                                                                                               \
     X(line_column_counts_a_line_feed_to_the_next_line)                                                                 \
     X(line_column_ends_lines_at_carriage_returns)                                                                      \

@@ -9,7 +9,8 @@
 //!
 //! 1. parses a file ([`LexFile`]) and asks its engine which patterns it takes,
 //! 2. links the [`Sheet`] to a [`Map`] of names and token ids,
-//! 3. starts a [`Run`] over an entry, and at each place hands the step a [`Row`]: how many bytes each pattern matches there.
+//! 3. starts a [`Run`] over an entry, which is UTF-8, and at each place hands the step a [`Row`]: how many bytes each pattern
+//!    matches there, whole characters.
 //!
 //! ```
 //! use regex::Regex;
@@ -35,7 +36,7 @@
 //! // run
 //! let entry = "win 12";
 //! let mut tokens = vec![];
-//! let mut run = sheet.start(entry.len())?;
+//! let mut run = sheet.start(entry)?;
 //! loop {
 //!     let rest = &entry[run.position()..];
 //!     let at_start = |pattern: &Regex| pattern.find(rest).filter(|found| found.start() == 0);
@@ -78,3 +79,8 @@ pub use sheet::{Linked, Operation, Parts, Rule, Sheet, State};
 #[cfg(doctest)]
 #[doc = include_str!("../../README.md")]
 struct FirstPage;
+
+/// The programs for whoever writes a host.
+#[cfg(doctest)]
+#[doc = include_str!("../../docs/HOST.md")]
+struct HostPage;

@@ -20,10 +20,12 @@ pub const BROKEN_MAP: u16 = 7;
 pub const START_REFUSED: u16 = 8;
 /// The numbers of the run, its stack and the sheet do not fit each other.
 pub const BROKEN_RUN: u16 = 9;
-/// The row does not fit the rules or the bytes that are left.
+/// The row does not fit the rules, the bytes that are left or the edges of characters.
 pub const ROW_MISMATCH: u16 = 10;
 /// No offset is there, or has that line and column.
 pub const NO_SUCH_PLACE: u16 = 11;
+/// The entry's text is not UTF-8, or not n bytes long.
+pub const TEXT_MISMATCH: u16 = 12;
 
 /// The position is at the entry's end.
 pub const DONE: u16 = 256;

@@ -28,10 +28,13 @@ pub enum Refusal {
     /// 9, broken run: its numbers, its stack and the sheet do not fit each other. A run that a start and steps left always
     /// fits.
     BrokenRun,
-    /// 10, ill-fitting row: not one length for each rule, or a length above the bytes that are left.
+    /// 10, ill-fitting row: not one length for each rule, or a length of any rule that is above the bytes that are left or ends
+    /// inside a character.
     RowMismatch,
     /// 11, no such place: the offset is above the text's length or inside a character, or no offset has the line and column.
     NoSuchPlace,
+    /// 12, ill-fitting text: the entry is not UTF-8, or in a run that was made by hand not n bytes long.
+    TextMismatch,
     /// A number of a library that is newer than this crate.
     Other(u16),
 }
@@ -51,6 +54,7 @@ impl Refusal {
             Refusal::BrokenRun => numbers::BROKEN_RUN,
             Refusal::RowMismatch => numbers::ROW_MISMATCH,
             Refusal::NoSuchPlace => numbers::NO_SUCH_PLACE,
+            Refusal::TextMismatch => numbers::TEXT_MISMATCH,
             Refusal::Other(number) => *number,
         }
     }
@@ -69,6 +73,7 @@ impl Refusal {
             Refusal::BrokenRun => "broken run",
             Refusal::RowMismatch => "ill-fitting row",
             Refusal::NoSuchPlace => "no such place",
+            Refusal::TextMismatch => "ill-fitting text",
             Refusal::Other(_) => "refused",
         }
     }
@@ -85,6 +90,7 @@ impl Refusal {
             numbers::BROKEN_RUN => Refusal::BrokenRun,
             numbers::ROW_MISMATCH => Refusal::RowMismatch,
             numbers::NO_SUCH_PLACE => Refusal::NoSuchPlace,
+            numbers::TEXT_MISMATCH => Refusal::TextMismatch,
             other => Refusal::Other(other),
         }
     }
@@ -102,10 +108,14 @@ impl Refusal {
             }
             Refusal::StartRefused => "the entry has more than 4,096 bytes".to_string(),
             Refusal::BrokenRun => "its numbers, its stack and the sheet do not fit each other".to_string(),
-            Refusal::RowMismatch => "not one length for each rule, or a length above the bytes left".to_string(),
+            Refusal::RowMismatch => {
+                "not one length for each rule, or one that is above the bytes left or ends inside a character"
+                    .to_string()
+            }
             Refusal::NoSuchPlace => {
                 "the offset is past the end or inside a character, or no offset has the line and column".to_string()
             }
+            Refusal::TextMismatch => "the entry is not UTF-8, or not n bytes long".to_string(),
             Refusal::Other(number) => format!("by the number {number}, which this program does not know"),
         }
     }

@@ -6,12 +6,13 @@ use crate::records::{bytes, records};
 use crate::{Refusal, Sheet};
 use std::ops::Range;
 
-/// A run over an entry: how far it has come, and its stack of states. It borrows its sheet, so that nothing but its steps changes
-/// anything while it runs. That is what the library's theorem about whole runs supposes, beside a sheet that was parsed and
-/// linked and a run that was started here.
+/// A run over an entry: how far it has come, and its stack of states. It borrows its sheet and the entry's text, so that nothing but
+/// its steps changes anything while it runs, and each step is given the text of the start. That is what the library's theorem
+/// about whole runs supposes, beside a sheet that was parsed and linked and a run that was started here.
 #[derive(Clone, Debug)]
 pub struct Run<'a> {
     sheet: &'a Sheet,
+    text: &'a [u8],
     numbers: [u16; 4],
     stack: Vec<u8>,
 }
@@ -39,7 +40,8 @@ pub enum Step {
     Unlinked,
 }
 
-/// For each rule how many bytes of the entry its pattern matches from the position on, 0 where it does not match.
+/// For each rule how many bytes of the entry its pattern matches from the position on, 0 where it does not match. Each must end at
+/// the edge of a character, as what a regex engine matches in a `&str` does; what one for bytes matches need not.
 #[derive(Clone, Debug, Default, PartialEq, Eq)]
 pub struct Row {
     bytes: Vec<u8>,
@@ -76,21 +78,27 @@ impl FromIterator<usize> for Row {
 }
 
 impl<'a> Run<'a> {
-    pub(crate) fn start(sheet: &'a Sheet, n: usize) -> Result<Run<'a>, Refusal> {
-        let mut run = Run { sheet, numbers: [0; 4], stack: vec![0; NUMBER_WIDTH * (n.min(MOST_ENTRY) + 1)] };
-        match calls::start(n as u64, &mut run.numbers, &mut run.stack).number() {
+    pub(crate) fn start(sheet: &'a Sheet, text: &'a [u8]) -> Result<Run<'a>, Refusal> {
+        let n = text.len();
+        let mut run = Run { sheet, text, numbers: [0; 4], stack: vec![0; NUMBER_WIDTH * (n.min(MOST_ENTRY) + 1)] };
+        match calls::start(n as u64, text, &mut run.numbers, &mut run.stack).number() {
             ACCEPTED => Ok(run),
             number => Err(Refusal::of(number)),
         }
     }
 
-    /// A run by its numbers (n, position, depth, moves) and its stack's bytes, as [`Run::into_parts`] gave them. Each step
-    /// judges them.
-    pub fn from_parts(sheet: &'a Sheet, numbers: [u16; 4], stack: Vec<u8>) -> Run<'a> {
-        Run { sheet, numbers, stack }
+    /// A run by its entry, its numbers (n, position, depth, moves) and its stack's bytes, as [`Run::into_parts`] gave them. Each
+    /// step judges them; that it is the entry of the start it cannot tell, only whether it is UTF-8 and n bytes long.
+    pub fn from_parts(
+        sheet: &'a Sheet,
+        entry: &'a (impl AsRef<[u8]> + ?Sized),
+        numbers: [u16; 4],
+        stack: Vec<u8>,
+    ) -> Run<'a> {
+        Run { sheet, text: entry.as_ref(), numbers, stack }
     }
 
-    /// The run's numbers (n, position, depth, moves) and its stack's bytes, to go on with later.
+    /// The run's numbers (n, position, depth, moves) and its stack's bytes, to go on with later on the same sheet and entry.
     pub fn into_parts(self) -> ([u16; 4], Vec<u8>) {
         (self.numbers, self.stack)
     }
@@ -100,10 +108,11 @@ impl<'a> Run<'a> {
     ///
     /// # Errors
     ///
-    /// [`Refusal::RowMismatch`]; and of a run that was made by hand [`Refusal::BrokenRun`]. The run is then as it was.
+    /// [`Refusal::RowMismatch`]; and of a run that was made by hand [`Refusal::TextMismatch`] and [`Refusal::BrokenRun`]. The run is
+    /// then as it was.
     pub fn step(&mut self, row: &Row) -> Result<Step, Refusal> {
         let start = self.position();
-        let word = calls::step(self.sheet.bytes(), &mut self.numbers, &mut self.stack, &row.bytes);
+        let word = calls::step(self.sheet.bytes(), self.text, &mut self.numbers, &mut self.stack, &row.bytes);
         let range = start..self.position();
         match word.number() {
             TOKEN => {
@@ -123,13 +132,23 @@ impl<'a> Run<'a> {
         self.sheet
     }
 
+    /// The entry.
+    pub fn text(&self) -> &'a [u8] {
+        self.text
+    }
+
+    /// What is left of the entry, for the matcher that makes the next row.
+    pub fn rest(&self) -> &'a [u8] {
+        self.text.get(self.position()..).unwrap_or_default()
+    }
+
     /// How many bytes the entry has.
     pub fn n(&self) -> usize {
         let [n, ..] = self.numbers;
         usize::from(n)
     }
 
-    /// How many bytes tokens and skips have covered.
+    /// How many bytes tokens and skips have covered: whole characters, but for a run that was made by hand.
     pub fn position(&self) -> usize {
         let [_, position, ..] = self.numbers;
         usize::from(position)

@@ -105,8 +105,8 @@ impl Sheet {
         let bytes = SheetBytes { source, areas, counts };
         // a run over no bytes at all is done at once on any sheet that passes the check
         let (mut run, mut stack) = ([0; 4], [0; 2]);
-        calls::start(0, &mut run, &mut stack);
-        match calls::step(&bytes, &mut run, &mut stack, &[]).number() {
+        calls::start(0, &[], &mut run, &mut stack);
+        match calls::step(&bytes, &[], &mut run, &mut stack, &[]).number() {
             DONE => Ok(Sheet { bytes }),
             number => Err(Refusal::of(number)),
         }
@@ -238,13 +238,13 @@ impl Sheet {
         }
     }
 
-    /// Begins a run over an entry of n bytes.
+    /// Begins a run over an entry.
     ///
     /// # Errors
     ///
-    /// [`Refusal::StartRefused`] where n is above 4,096.
-    pub fn start(&self, n: usize) -> Result<Run<'_>, Refusal> {
-        Run::start(self, n)
+    /// [`Refusal::StartRefused`] where it has more than 4,096 bytes, and [`Refusal::TextMismatch`] where it is not UTF-8.
+    pub fn start<'a>(&'a self, entry: &'a (impl AsRef<[u8]> + ?Sized)) -> Result<Run<'a>, Refusal> {
+        Run::start(self, entry.as_ref())
     }
 
     fn text(&self, range: &Range<usize>) -> Cow<'_, str> {

@@ -179,11 +179,15 @@ fn every_refusal_tells_its_words_its_number_and_why() {
         ),
         (Refusal::StartRefused, "poor start (8): the entry has more than 4,096 bytes"),
         (Refusal::BrokenRun, "broken run (9): its numbers, its stack and the sheet do not fit each other"),
-        (Refusal::RowMismatch, "ill-fitting row (10): not one length for each rule, or a length above the bytes left"),
+        (
+            Refusal::RowMismatch,
+            "ill-fitting row (10): not one length for each rule, or one that is above the bytes left or ends inside a character",
+        ),
         (
             Refusal::NoSuchPlace,
             "no such place (11): the offset is past the end or inside a character, or no offset has the line and column",
         ),
+        (Refusal::TextMismatch, "ill-fitting text (12): the entry is not UTF-8, or not n bytes long"),
         (Refusal::Other(99), "refused (99): by the number 99, which this program does not know"),
     ];
     told.iter().for_each(|(refusal, words)| assert_eq!(refusal.to_string(), *words));
@@ -234,19 +238,22 @@ fn a_name_that_a_map_cannot_hold_is_refused_before_the_link() {
 #[test]
 fn number_8_for_an_entry_above_4_096_bytes() {
     let sheet = linked();
-    assert_eq!(sheet.start(4_096).unwrap().n(), 4_096);
-    for n in [4_097, 65_536, usize::MAX] {
-        let refusal = refused(sheet.start(n));
+    let text = "a".repeat(65_540);
+    assert_eq!(sheet.start(&text[..4_096]).unwrap().n(), 4_096);
+    for n in [4_097, 65_535, 65_536, 65_540] {
+        let refusal = refused(sheet.start(&text[..n]));
         assert_eq!((refusal.number(), refusal.words()), (8, "poor start"));
     }
+    // before 12
+    assert_eq!(refused(sheet.start(&[0xff; 4_097])), Refusal::StartRefused);
 }
 
 #[test]
 fn number_9_for_a_run_that_no_start_and_steps_leave() {
     let sheet = linked();
-    let (numbers, stack) = sheet.start(2).unwrap().into_parts();
+    let (numbers, stack) = sheet.start("ab").unwrap().into_parts();
     let row: Row = [1, 0, 0].into_iter().collect();
-    assert!(Run::from_parts(&sheet, numbers, stack.clone()).step(&row).is_ok());
+    assert!(Run::from_parts(&sheet, "ab", numbers, stack.clone()).step(&row).is_ok());
     let broken = [
         ([2, 3, 1, 0], stack.clone()),
         ([2, 0, 0, 0], stack.clone()),
@@ -256,7 +263,8 @@ fn number_9_for_a_run_that_no_start_and_steps_leave() {
         (numbers, vec![2, 0, 0, 0, 0, 0]),
     ];
     for (numbers, stack) in broken {
-        let mut run = Run::from_parts(&sheet, numbers, stack.clone());
+        let text = "a".repeat(numbers[0].into());
+        let mut run = Run::from_parts(&sheet, &text, numbers, stack.clone());
         let refusal = refused(run.step(&row));
         assert_eq!((refusal.number(), refusal.words()), (9, "broken run"));
         assert_eq!(run.into_parts(), (numbers, stack));
@@ -266,7 +274,7 @@ fn number_9_for_a_run_that_no_start_and_steps_leave() {
 #[test]
 fn number_10_for_a_row_that_does_not_fit() {
     let sheet = linked();
-    let mut run = sheet.start(2).unwrap();
+    let mut run = sheet.start("aa").unwrap();
     let rows: [&[usize]; 5] = [&[], &[1, 0], &[1, 0, 0, 0], &[1, 0, 3], &[1, 0, 70_000]];
     for row in rows {
         let refusal = refused(run.step(&row.iter().copied().collect()));
@@ -275,6 +283,107 @@ fn number_10_for_a_row_that_does_not_fit() {
     assert!(matches!(run.step(&Row::from_bytes(vec![1; 5])), Err(Refusal::RowMismatch)));
     assert_eq!((run.position(), run.moves(), run.states()), (0, 0, vec![0]));
     assert_eq!(run.step(&[2, 0, 0].into_iter().collect()), Ok(Step::Token { id: 7, range: 0..2 }));
+}
+
+#[test]
+fn number_10_for_a_length_of_any_rule_that_ends_inside_a_character() {
+    let sheet = linked();
+    let text = "aé€😀";
+    let mut run = sheet.start(text).unwrap();
+    // of the winner; of a live rule that does not win; of a rule that is not live, beside a winner and without one
+    let cuts = [[2, 0, 0], [3, 2, 0], [0, 5, 0], [1, 3, 2], [10, 6, 4], [0, 0, 7], [6, 3, 9]];
+    for cut in cuts {
+        let refusal = refused(run.step(&cut.into_iter().collect()));
+        assert_eq!((refusal.number(), refusal.words()), (10, "ill-fitting row"), "{cut:?}");
+        assert_eq!((run.position(), run.moves(), run.states()), (0, 0, vec![0]));
+    }
+    // the run goes on by rows that fit, from the edge that it stands at
+    assert_eq!(run.step(&[1, 0, 0].into_iter().collect()), Ok(Step::Token { id: 7, range: 0..1 }));
+    assert_eq!(refused(run.step(&[0, 0, 1].into_iter().collect())), Refusal::RowMismatch);
+    assert_eq!(run.step(&[2, 5, 9].into_iter().collect()), Ok(Step::Token { id: 8, range: 1..6 }));
+    assert_eq!((run.rest(), &text[run.position()..], run.states()), ("😀".as_bytes(), "😀", vec![0, 1]));
+    assert_eq!(refused(run.step(&[1, 2, 4].into_iter().collect())), Refusal::RowMismatch);
+    assert_eq!(run.step(&[0, 4, 4].into_iter().collect()), Ok(Step::Skip { range: 6..10 }));
+    // at the end every row is done
+    assert_eq!(run.step(&[1, 2, 3].into_iter().collect()), Ok(Step::Done));
+}
+
+/// Only a run that was made by hand can stand inside a character: there a length of 0 does not fit either.
+#[test]
+fn number_10_for_every_length_that_is_0_inside_a_character() {
+    let sheet = linked();
+    let (_, stack) = sheet.start("aé").unwrap().into_parts();
+    let at = |position| Run::from_parts(&sheet, "aé", [3, position, 1, 0], stack.clone());
+    for row in [[0, 0, 0], [1, 1, 0], [0, 0, 1]] {
+        assert_eq!(refused(at(2).step(&row.into_iter().collect())), Refusal::RowMismatch);
+    }
+    assert_eq!(at(2).step(&[1, 1, 1].into_iter().collect()), Ok(Step::Token { id: 7, range: 2..3 }));
+    assert_eq!(at(1).step(&[0, 0, 0].into_iter().collect()), Ok(Step::Stopped));
+    // without rules there is no length that could not fit
+    let empty = LexFile::new("%%").parse().unwrap();
+    assert_eq!(Run::from_parts(&empty, "aé", [3, 2, 1, 0], stack.clone()).step(&Row::new()), Ok(Step::Stopped));
+}
+
+/// Texts that are no UTF-8: bytes that begin no character, cut characters, characters written too long, and none at all.
+const NO_TEXTS: [&[u8]; 8] =
+    [b"\xff", b"\x80", b"a\xc3", b"\xe2\x82", b"\xf0\x9f\x98a", b"\xc0\x80", b"\xed\xa0\x80", b"\xf4\x90\x80\x80"];
+
+#[test]
+fn number_12_for_an_entry_that_is_not_utf8() {
+    let sheet = linked();
+    for text in NO_TEXTS {
+        let refusal = refused(sheet.start(text));
+        assert_eq!((refusal.number(), refusal.words()), (12, "ill-fitting text"), "{text:?}");
+    }
+    for text in ["", "a", "é€😀", "\0"] {
+        assert_eq!(sheet.start(text).map(|run| run.text()), Ok(text.as_bytes()));
+    }
+    assert_eq!(sheet.start(b"\xc3\xa9").map(|run| (run.n(), run.rest())), Ok((2, "é".as_bytes())));
+}
+
+#[test]
+fn number_12_for_a_step_with_a_text_that_is_not_utf8_or_not_n_bytes_long() {
+    let sheet = linked();
+    let mut run = sheet.start("é€").unwrap();
+    let row = |lengths: [usize; 3]| lengths.into_iter().collect::<Row>();
+    assert!(run.step(&row([2, 0, 0])).is_ok());
+    let (numbers, stack) = run.into_parts();
+    // shorter, longer, of the same length and cut or damaged
+    let texts: [&[u8]; 6] =
+        [b"", "é".as_bytes(), "é€a".as_bytes(), b"\xc3\xa9\xe2\x82", b"\xc3\xa9\xe2\x82\xff", b"\xff\xffabc"];
+    for text in texts {
+        let mut run = Run::from_parts(&sheet, text, numbers, stack.clone());
+        let refusal = refused(run.step(&row([3, 0, 0])));
+        assert_eq!((refusal.number(), refusal.words()), (12, "ill-fitting text"), "{text:?}");
+        assert_eq!(run.into_parts(), (numbers, stack.clone()));
+    }
+    // nothing was lost: with the entry of the start it goes on
+    let mut run = Run::from_parts(&sheet, "é€", numbers, stack);
+    assert_eq!(run.step(&row([3, 0, 0])), Ok(Step::Token { id: 7, range: 2..5 }));
+}
+
+/// 12 is tested before 9 and 'done', and 10 behind both.
+#[test]
+fn number_12_comes_before_9_and_done() {
+    let sheet = linked();
+    let (numbers, stack) = sheet.start("aé").unwrap().into_parts();
+    let step = |text: &[u8], numbers, row: [usize; 3]| {
+        Run::from_parts(&sheet, text, numbers, stack.clone()).step(&row.into_iter().collect())
+    };
+    let [good, bad, short]: [&[u8]; 3] = ["aé".as_bytes(), b"a\xc3\xc3", b"aa"];
+    let (broken, ended) = ([3, 0, 0, 0], [3, 3, 1, 0]);
+    assert_eq!(
+        [bad, good].map(|text| step(text, broken, [2, 0, 0])),
+        [Err(Refusal::TextMismatch), Err(Refusal::BrokenRun)]
+    );
+    assert_eq!(step(short, broken, [0, 0, 0]), Err(Refusal::TextMismatch));
+    assert_eq!([bad, good].map(|text| step(text, ended, [2, 0, 0])), [Err(Refusal::TextMismatch), Ok(Step::Done)]);
+    assert_eq!(
+        [bad, good].map(|text| step(text, numbers, [2, 0, 0])),
+        [Err(Refusal::TextMismatch), Err(Refusal::RowMismatch)]
+    );
+    // that the text is the one of the start is nobody's test
+    assert_eq!(step(b"abc", numbers, [2, 0, 0]), Ok(Step::Token { id: 7, range: 0..2 }));
 }
 
 #[test]

@@ -1,7 +1,8 @@
 //! What a host sees of sheets, maps and runs.
 #![allow(clippy::unwrap_used, clippy::expect_used)]
 
-use troymantle::{LexFile, Linked, Map, Operation, Parts, Row, Run, Sheet, Step};
+use regex::{Regex, bytes};
+use troymantle::{LexFile, Linked, Map, Operation, Parts, Refusal, Row, Run, Sheet, Step};
 
 const FILE: &str = "%x S\n%s T\n%expect-missing \"C\" \"\"\n%%\na 'A'\n\\qb <+S>'B'\n<S, T>c <-S>'C'\nd <T>;\n";
 
@@ -60,12 +61,13 @@ fn a_link_gives_ids_and_tells_what_has_no_partner() {
 fn a_run_moves_by_every_operation() {
     let mut sheet = sheet();
     sheet.link(&Map::of([("A", 10), ("B", 11)]).unwrap()).unwrap();
-    let mut run = sheet.start(6).unwrap();
+    let entry = "qbcdef";
+    let mut run = sheet.start(entry).unwrap();
     let mut steps = vec![];
     for lengths in [[1, 2, 9, 0], [1, 2, 1, 0], [1, 1, 1, 1], [1, 0, 0, 1], [0, 0, 0, 4]] {
         steps.push((run.step(&row(&lengths)), run.states()));
     }
-    let mismatch = Err(troymantle::Refusal::RowMismatch);
+    let mismatch = Err(Refusal::RowMismatch);
     let expected = [
         (mismatch, vec![0]),
         (Ok(Step::Token { id: 11, range: 0..2 }), vec![0, 1]),
@@ -77,7 +79,7 @@ fn a_run_moves_by_every_operation() {
     // linked to a map that has C too, the run goes on: pop, replace, done
     let (numbers, stack) = run.into_parts();
     sheet.link(&Map::of([("A", 10), ("B", 11), ("C", 12)]).unwrap()).unwrap();
-    let mut run = Run::from_parts(&sheet, numbers, stack);
+    let mut run = Run::from_parts(&sheet, entry, numbers, stack);
     assert_eq!(run.step(&row(&[0, 0, 1, 0])), Ok(Step::Token { id: 12, range: 2..3 }));
     assert_eq!((run.state(), run.states()), (Some(0), vec![0]));
     assert_eq!(run.step(&row(&[2, 0, 0, 3])), Ok(Step::Skip { range: 3..6 }));
@@ -89,16 +91,70 @@ fn a_run_moves_by_every_operation() {
 #[test]
 fn a_sheet_is_shared_between_threads() {
     let sheet = sheet();
-    let step = |n: usize| sheet.start(n).map(|mut run| run.step(&row(&[1, 0, 0, 0])));
-    let steps =
-        std::thread::scope(|scope| [1, 2].map(|n| scope.spawn(move || step(n))).map(|thread| thread.join().unwrap()));
+    let step = |entry: &str| sheet.start(entry).map(|mut run| run.step(&row(&[1, 0, 0, 0])));
+    let steps = std::thread::scope(|scope| {
+        ["a", "aa"].map(|entry| scope.spawn(move || step(entry))).map(|thread| thread.join().unwrap())
+    });
     assert_eq!(steps, [(); 2].map(|()| Ok(Ok(Step::Token { id: 0, range: 0..1 }))));
+}
+
+/// The tokens of an entry, by a matcher that tells how many bytes each pattern matches at the start of what is left; or by what
+/// a row is refused, and where.
+fn tokens(sheet: &Sheet, entry: &str, lengths: impl Fn(&[u8]) -> Row) -> Result<Vec<String>, (Refusal, usize)> {
+    let mut run = sheet.start(entry).map_err(|refusal| (refusal, 0))?;
+    let mut tokens = vec![];
+    loop {
+        let row = lengths(run.rest());
+        match run.step(&row).map_err(|refusal| (refusal, run.position()))? {
+            Step::Token { range, .. } => tokens.push(entry[range].to_string()),
+            _ => return Ok(tokens),
+        }
+    }
+}
+
+/// The entries of characters of one to four bytes, with some that are joined from several.
+const ENTRIES: [&str; 6] = ["", "R5 é3 5,50 €", "😀é€😀", "日本語 12", "e\u{301}\u{85}\u{2028}x", "ÄÖÜßäöü€€"];
+
+#[test]
+fn what_an_engine_matches_in_a_str_always_fits() {
+    let texts = ["[a-z]+", "(?i)É", ".", r"\w+", r"\W", r"[^a]{2}", "é*|€", r"\PL+", r"\b", r"[\u0080-\U0010ffff]"];
+    let file = "%%\n".to_string() + &texts.map(|text| format!("{text} '{text}'\n")).concat();
+    let mut patterns = vec![];
+    let parsed = LexFile::new(&file).parse_judged(|_, text| {
+        patterns.push(Regex::new(&format!(r"\A(?s:{text})")).unwrap());
+        true
+    });
+    let sheet = parsed.unwrap();
+    for entry in ENTRIES {
+        let tokens = tokens(&sheet, entry, |rest| {
+            let rest = std::str::from_utf8(rest).expect("a run stands at the edge of a character");
+            patterns.iter().map(|pattern| pattern.find(rest).map_or(0, |found| found.end())).collect()
+        });
+        assert_eq!(tokens.unwrap().concat(), entry);
+    }
+}
+
+/// An engine for bytes may end inside a character: the step refuses that where it stands, whatever would follow.
+#[test]
+fn what_an_engine_for_bytes_matches_may_not_fit() {
+    let pieces = |text: &str, entry: &str| {
+        let sheet = LexFile::new(&format!("%%\n{text} 'PIECE'\n")).parse().unwrap();
+        let pattern = bytes::Regex::new(&format!(r"\A(?s:{text})")).unwrap();
+        tokens(&sheet, entry, |rest| [pattern.find(rest).map_or(0, |found| found.end())].into_iter().collect())
+    };
+    let all = |texts: &[&str]| Ok(texts.iter().map(|text| text.to_string()).collect());
+    assert_eq!(pieces("(?-u:.)", "ab"), all(&["a", "b"]));
+    assert_eq!(pieces("(?-u:.)", "aé"), Err((Refusal::RowMismatch, 1)));
+    assert_eq!(pieces(r"(?-u:\xC3)", "é"), Err((Refusal::RowMismatch, 0)));
+    assert_eq!(pieces(r"(?-u:\xC3\xA9)", "éé"), all(&["é", "é"]));
+    // in text mode the same engine goes by characters
+    assert_eq!(pieces(".", "aé€😀"), all(&["a", "é", "€", "😀"]));
 }
 
 #[test]
 fn a_row_is_used_again() {
     let sheet = sheet();
-    let mut run = sheet.start(2).unwrap();
+    let mut run = sheet.start("aa").unwrap();
     let mut row = Row::new();
     for _ in 0..2 {
         row.clear();
@@ -116,7 +172,9 @@ fn a_sheet_made_by_hand_may_hold_texts_that_are_no_utf8() {
     assert_eq!(sheet.rule(0).unwrap().name.unwrap(), "\u{fffd}");
 }
 
-/// Broken sheets, runs and rows of all kinds: a call may refuse, and nothing panics.
+const TEXTS: [&[u8]; 7] = [b"", b"a", b"ab", "é".as_bytes(), "€".as_bytes(), b"\xc3", b"a\xe2\x82"];
+
+/// Broken sheets, runs, texts and rows of all kinds: a call may refuse, and nothing panics.
 #[test]
 fn nothing_panics() {
     let mut state = 1_u64;
@@ -147,8 +205,9 @@ fn nothing_panics() {
         let entries = (0..below(20)).map(|_| below(5) as u8).collect();
         let _ = sheet.link(&Map::from_parts(b"ABC".to_vec(), entries));
         let numbers = [0; 4].map(|_: u16| below(4) as u16);
-        let mut run = Run::from_parts(&sheet, numbers, (0..below(12)).map(|_| below(3) as u8).collect());
-        let _ = (run.states(), run.step(&(0..below(6)).map(|_| below(3)).collect()));
+        let text = TEXTS[below(TEXTS.len())];
+        let mut run = Run::from_parts(&sheet, text, numbers, (0..below(12)).map(|_| below(3) as u8).collect());
+        let _ = (run.states(), run.rest(), run.step(&(0..below(6)).map(|_| below(3)).collect()));
     }
     assert!(sound > 4_000, "only {sound} sheets were sound");
 }

@@ -22,10 +22,10 @@ pub fn count(wanted: &Wanted) -> Result<(), String> {
     let mut names = vec!["original"];
     let mut objects: Vec<Option<PathBuf>> = vec![None];
     let mut libraries = vec![];
-    for (name, archive) in wanted.archives()? {
-        let object = layouts::build(&archive, name, 0)?;
-        libraries.push((name, Library::load(&object)?));
-        names.push(name);
+    for archive in wanted.archives()? {
+        let object = layouts::build(&archive, 0)?;
+        libraries.push((archive.name, Library::load(&object)?));
+        names.push(archive.name);
         objects.push(Some(object));
     }
     println!("{}", title(&names));

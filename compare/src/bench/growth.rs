@@ -45,7 +45,7 @@ static STEP: Series = Series {
     unit: "rule",
     whole: "sheet",
     sizes: &[1, 2, 4, 8, 16, 32, 64, 128, 256, 512, 1_024, MOST_RULES],
-    work: |rules| runs::work(&Moves::mixed(rules)),
+    work: |rules| runs::work(Moves::mixed(rules)),
 };
 
 /// A shape's place in its series.

@@ -1,8 +1,9 @@
 //! Builds of our library that differ in where the code lies: the times depend on it. Each is a shared object, linked from the
 //! static library with more code in front.
 
+use super::Archive;
 use crate::library::Library;
-use crate::options;
+use crate::{options, without_text};
 use std::fs;
 use std::path::{Path, PathBuf};
 use std::process::Command;
@@ -14,30 +15,31 @@ const PAGE: usize = 4_096;
 pub const MOST: usize = PAGE / SHIFT;
 
 /// So many layouts of a static library; layout k has its code 16 · k bytes behind that of layout 0.
-pub fn load(archive: &Path, name: &str, layouts: usize) -> Result<Vec<Library>, String> {
-    let load = |number| Library::load(&build(archive, name, number)?);
+pub fn load(archive: &Archive, layouts: usize) -> Result<Vec<Library>, String> {
+    let load = |number| Library::load(&build(archive, number)?);
     let libraries = (0..layouts).map(load).collect::<Result<Vec<Library>, String>>()?;
     for (number, library) in libraries.iter().enumerate() {
         let shifted = library.address().wrapping_sub(libraries[0].address()) % PAGE;
         if shifted != number * SHIFT {
-            return Err(format!("Layout {number} of {} is shifted by {shifted} bytes.", archive.display()));
+            return Err(format!("Layout {number} of {} is shifted by {shifted} bytes.", archive.file.display()));
         }
     }
     Ok(libraries)
 }
 
 /// Writes a shared object to target/bench.
-pub fn build(archive: &Path, name: &str, number: usize) -> Result<PathBuf, String> {
-    if !archive.is_file() {
-        return Err(format!("There is no library {}.", archive.display()));
+pub fn build(archive: &Archive, number: usize) -> Result<PathBuf, String> {
+    if !archive.file.is_file() {
+        return Err(format!("There is no library {}.", archive.file.display()));
     }
     let directory = options::repository().join("target/bench");
     let told = |error| format!("{} cannot be written: {error}.", directory.display());
     fs::create_dir_all(&directory).map_err(told)?;
-    let padding = directory.join(format!("padding-{number}.s"));
-    fs::write(&padding, assembly((number + 1) * SHIFT)).map_err(told)?;
-    let object = directory.join(format!("{name}-{number}.so"));
-    linked(archive, &padding, &object)?;
+    let object = directory.join(format!("{}-{number}.so", archive.name));
+    let padding = object.with_extension("s");
+    let mark = if archive.takes_text { String::new() } else { without_text::mark() };
+    fs::write(&padding, assembly((number + 1) * SHIFT) + &mark).map_err(told)?;
+    linked(&archive.file, &padding, &object)?;
     Ok(object)
 }
 

@@ -26,9 +26,20 @@ pub struct Wanted {
     /// Static libraries: one in the place of ours, and one to compare it with.
     pub library: Option<PathBuf>,
     pub before: Option<PathBuf>,
+    /// Whether start and step of the library before take the entry's text.
+    pub text_before: bool,
     pub layouts: u64,
     /// Where to write the plot of the growth.
     pub plot: Option<PathBuf>,
+}
+
+/// A static library, and its name in the tables.
+#[derive(Debug, PartialEq)]
+struct Archive {
+    name: &'static str,
+    file: PathBuf,
+    /// Whether start and step take the entry's text.
+    takes_text: bool,
 }
 
 /// A library at its layouts.
@@ -80,22 +91,24 @@ impl Wanted {
 
     fn sides(&self) -> Result<Vec<Side>, String> {
         let layouts = self.layouts()?;
-        let side = |(name, archive): (&'static str, PathBuf)| {
-            Ok(Side { name, layouts: layouts::load(&archive, name, layouts)? })
-        };
+        let side = |archive: Archive| Ok(Side { name: archive.name, layouts: layouts::load(&archive, layouts)? });
         self.archives()?.into_iter().map(side).collect()
     }
 
-    /// The names and files of the libraries, the one before first. Without options it is ours, if it is built.
-    fn archives(&self) -> Result<Vec<(&'static str, PathBuf)>, String> {
+    /// The libraries, the one before first. Without options it is ours, if it is built.
+    fn archives(&self) -> Result<Vec<Archive>, String> {
         let built = options::repository().join("target/staticlib/libtroymantle.a");
         let built = built.is_file().then_some(built);
+        let after = |name, file| Archive { name, file, takes_text: true };
         match (self.library.clone().or(built), self.before.clone()) {
-            (Some(after), Some(before)) => Ok(vec![("before", before), ("after", after)]),
+            (Some(file), Some(before)) => {
+                let before = Archive { name: "before", file: before, takes_text: self.text_before };
+                Ok(vec![before, after("after", file)])
+            }
             (None, Some(_)) => {
                 Err("Our library is not built, so --before has nothing to be compared with.".to_string())
             }
-            (ours, None) => Ok(ours.map(|archive| ("ours", archive)).into_iter().collect()),
+            (ours, None) => Ok(ours.map(|file| after("ours", file)).into_iter().collect()),
         }
     }
 }
@@ -149,13 +162,13 @@ mod tests {
         assert_eq!(names(&["growth"]), Ok(all[all.len() - 19..].to_vec()));
         assert_eq!(names(&["growth: step"]).map(|names| names.len()), Ok(12));
         assert_eq!(names(&["parse", "link", "step", "place"]), Ok(all.clone()));
-        assert_eq!(names(&["small", "10 rules"]).map(|names| names.len()), Ok(5));
+        assert_eq!(names(&["small", "10 rules"]).map(|names| names.len()), Ok(9));
         assert!(names(&["step", "stop"]).is_err_and(|told| told.contains("`stop`")));
     }
 
     fn wanted(library: Option<&str>, before: Option<&str>, layouts: u64) -> Wanted {
         let [library, before] = [library, before].map(|file| file.map(PathBuf::from));
-        Wanted { words: vec![], library, before, layouts, plot: None }
+        Wanted { words: vec![], library, before, text_before: true, layouts, plot: None }
     }
 
     #[test]
@@ -172,9 +185,12 @@ mod tests {
 
     #[test]
     fn a_library_before_stands_first() {
-        let archives = wanted(Some("b.a"), Some("a.a"), 1).archives();
-        assert_eq!(archives, Ok(vec![("before", PathBuf::from("a.a")), ("after", PathBuf::from("b.a"))]));
-        assert_eq!(wanted(Some("b.a"), None, 1).archives(), Ok(vec![("ours", PathBuf::from("b.a"))]));
+        let archive = |name, file: &str, takes_text| Archive { name, file: PathBuf::from(file), takes_text };
+        let both = wanted(Some("b.a"), Some("a.a"), 1);
+        assert_eq!(both.archives(), Ok(vec![archive("before", "a.a", true), archive("after", "b.a", true)]));
+        let without = Wanted { text_before: false, ..both };
+        assert_eq!(without.archives(), Ok(vec![archive("before", "a.a", false), archive("after", "b.a", true)]));
+        assert_eq!(wanted(Some("b.a"), None, 1).archives(), Ok(vec![archive("ours", "b.a", true)]));
     }
 
     #[test]
@@ -186,7 +202,8 @@ mod tests {
 
     #[test]
     fn a_library_that_is_not_there_is_told() {
-        let told = layouts::load(&PathBuf::from("no such file.a"), "ours", 1).err();
+        let archive = Archive { name: "ours", file: PathBuf::from("no such file.a"), takes_text: true };
+        let told = layouts::load(&archive, 1).err();
         assert_eq!(told.as_deref(), Some("There is no library no such file.a."));
     }
 
@@ -195,7 +212,8 @@ mod tests {
     #[cfg(feature = "ours")]
     fn a_loaded_library_answers_as_the_linked_one() {
         let ours = wanted(None, None, 2).archives().unwrap_or_default();
-        let libraries = layouts::load(&ours[0].1, "tested", 2).unwrap_or_else(|told| panic!("{told}"));
+        let tested = Archive { name: "tested", file: ours[0].file.clone(), takes_text: true };
+        let libraries = layouts::load(&tested, 2).unwrap_or_else(|told| panic!("{told}"));
         for shape in chosen(&["small file", "10 rules", "place", "growth"].map(str::to_string)).unwrap_or_default() {
             let work = shape.work();
             for library in libraries.iter().chain([&crate::library::LINKED]) {

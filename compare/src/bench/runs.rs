@@ -1,4 +1,4 @@
-//! Runs of one byte a move.
+//! Runs of one character a move.
 
 use super::MOST_RULES;
 use super::shape::{Around, Note, Shape, Work, timed, timed_by};
@@ -10,8 +10,11 @@ use original::Definition;
 use std::time::Duration;
 
 pub const FUNCTION: &str = "troymantle_step";
+/// Of a shape, or a few less where an entry of few characters is run over several times.
 pub const MOVES: usize = 256;
 const FEW_RULES: usize = 10;
+/// Of an entry; the second is the limit.
+const BYTES: [usize; 2] = [16, 4_096];
 
 pub fn shapes() -> Vec<Shape> {
     let mut shapes = vec![];
@@ -19,6 +22,15 @@ pub fn shapes() -> Vec<Shape> {
         let name = format!("step: {} rules", show::number(rules as u64));
         shapes.push(shape(&name, move || Moves::mixed(rules)));
         shapes.push(shape(&format!("{name}, longest not live"), move || Moves::longest_not_live(rules)));
+        for (characters, what) in [(ASCII, ""), (MULTI_BYTE, ", multi-byte")] {
+            for bytes in BYTES {
+                let text = text(bytes, characters);
+                let name = format!("{name}, {} bytes{what}", show::number(bytes as u64));
+                let calls = calls(&text);
+                let make = move || work(Moves::mixed(rules).over(text.clone()));
+                shapes.push(Shape::new(name, FUNCTION, calls as u32, make));
+            }
+        }
     }
     shapes.push(shape(
         &format!("step: {} rules, lists of {LIST_ENTRIES} states", show::number(LISTS as u64)),
@@ -27,10 +39,41 @@ pub fn shapes() -> Vec<Shape> {
     shapes
 }
 
-/// A file, the names of its rules and a row for each position.
+/// What the characters of an entry are in turn.
+const ASCII: &str = "a";
+const MULTI_BYTE: &str = "é€😀";
+
+/// So many bytes, filled up where no character fits.
+fn text(bytes: usize, characters: &str) -> String {
+    let mut text = String::new();
+    for character in characters.chars().cycle() {
+        if text.len() + character.len_utf8() > bytes {
+            break;
+        }
+        text.push(character);
+    }
+    text.push_str(&"a".repeat(bytes - text.len()));
+    text
+}
+
+fn moves_of_a_run(text: &str) -> usize {
+    text.chars().count().min(MOVES)
+}
+
+/// How often the moves are made.
+fn runs(text: &str) -> usize {
+    MOVES / moves_of_a_run(text)
+}
+
+fn calls(text: &str) -> usize {
+    runs(text) * moves_of_a_run(text)
+}
+
+/// A file, the names of its rules, the text of an entry and a row for each move, of a long entry for the first moves.
 pub struct Moves {
     source: String,
     names: Vec<String>,
+    text: String,
     rows: Vec<Vec<usize>>,
 }
 
@@ -49,7 +92,25 @@ impl Moves {
             }
         }
         let rows = (0..MOVES).map(|at| (0..rules).map(|rule| usize::from((rule + at) % 7 > 3)).collect()).collect();
-        Moves { source, names, rows }
+        Moves { source, names, text: text(MOVES, ASCII), rows }
+    }
+
+    /// Over another text; a length is 0 or that of the next character.
+    fn over(self, text: String) -> Moves {
+        let row =
+            |(row, character): (&Vec<usize>, char)| row.iter().map(|length| length * character.len_utf8()).collect();
+        let rows = self.rows.iter().zip(text.chars()).map(row).collect();
+        Moves { text, rows, ..self }
+    }
+
+    /// As the original is lent them, whose loop stops behind the last move.
+    fn rows_by_position(&self) -> Vec<Vec<usize>> {
+        let mut by_position = vec![vec![]; self.text.len()];
+        let stop = vec![0; self.rows[0].len()];
+        for ((position, _), row) in self.text.char_indices().zip(self.rows.iter().chain([&stop])) {
+            by_position[position] = row.clone();
+        }
+        by_position
     }
 
     /// A third of the rules has no list, a third is live in S alone, a third in INITIAL and S. Where no live rule would
@@ -103,48 +164,53 @@ const LISTS: usize = 1_000;
 const LIST_ENTRIES: usize = 24;
 
 fn shape(name: &str, moves: impl Fn() -> Moves + 'static) -> Shape {
-    Shape::new(name, FUNCTION, MOVES as u32, move || work(&moves()))
+    Shape::new(name, FUNCTION, MOVES as u32, move || work(moves()))
 }
 
 /// The original's loop finds its lengths in a table; what a regex would take is not in it.
-pub fn work(moves: &Moves) -> Work {
+pub fn work(moves: Moves) -> Work {
     let mut definition = Definition::new(&moves.source, false, false, &[]).expect("the file has no faults");
     definition.link(&moves.map());
-    original::lend_rows(&moves.rows);
-    let (sheet, rows) = (moves.sheet(), moves.row_bytes());
-    let checked = sheet.clone();
+    original::lend_rows(&moves.rows_by_position());
+    let (sheet, rows, runs) = (moves.sheet(), moves.row_bytes(), runs(&moves.text));
+    let (checked, checks) = (sheet.clone(), calls(&moves.text));
+    let Moves { source, text, .. } = moves;
+    let entry = text.clone();
     Work {
-        bytes: moves.source.len(),
-        original: Box::new(move |around| time_original(around, &definition)),
-        ours: Box::new(move |library| time_ours(library, &sheet, &rows)),
-        note: Some(Note::SheetCheck(Box::new(move |library| time_check(library, &checked)))),
+        bytes: source.len(),
+        original: Box::new(move |around| time_original(around, &definition, &entry, runs)),
+        ours: Box::new(move |library| time_ours(library, &sheet, text.as_bytes(), &rows, runs)),
+        note: Some(Note::SheetCheck(Box::new(move |library| time_check(library, &checked, checks)))),
     }
 }
 
-fn time_original(around: Around, definition: &Definition) -> Duration {
-    timed_by(around, || "a".repeat(MOVES), |entry| definition.run_only(entry))
+fn time_original(around: Around, definition: &Definition, text: &str, runs: usize) -> Duration {
+    let run = |entry: &mut String| (0..runs).map(|_| definition.run_only(entry)).sum::<usize>();
+    timed_by(around, || text.to_string(), run)
 }
 
-fn time_ours(library: &Library, sheet: &Sheet, rows: &[Vec<u8>]) -> Duration {
+fn time_ours(library: &Library, sheet: &Sheet, text: &[u8], rows: &[Vec<u8>], runs: usize) -> Duration {
     let begun = || {
-        let (mut numbers, mut stack) = ([0; 4], vec![0; 2 * (MOVES + 1)]);
-        assert_eq!(library.start(MOVES as u64, &mut numbers, &mut stack), 0, "our library does not start");
+        let (mut numbers, mut stack) = ([0; 4], vec![0; 2 * (text.len() + 1)]);
+        let word = library.start(text.len() as u64, text, &mut numbers, &mut stack);
+        assert_eq!(word, 0, "our library does not start");
         (numbers, stack)
     };
-    timed(begun, |(numbers, stack)| {
+    let run = |(numbers, stack): &mut ([u16; 4], Vec<u8>)| {
         for row in rows {
-            library.step(sheet, numbers, stack, row);
+            library.step(sheet, text, numbers, stack, row);
         }
-        assert_eq!(numbers[3] as usize, MOVES, "our library does not move by every row");
-    })
+        assert_eq!(numbers[3] as usize, rows.len(), "our library does not move by every row");
+    };
+    timed(|| (0..runs).map(|_| begun()).collect::<Vec<_>>(), |begun| begun.iter_mut().for_each(run))
 }
 
 /// As often as there are moves. The pattern test does little else.
-fn time_check(library: &Library, sheet: &Sheet) -> Duration {
+fn time_check(library: &Library, sheet: &Sheet, checks: usize) -> Duration {
     timed(
         || (),
         |()| {
-            for _ in 0..MOVES {
+            for _ in 0..checks {
                 assert_eq!(library.pattern_test(sheet, 0), 0, "our library finds the sheet broken");
             }
         },
@@ -170,6 +236,24 @@ mod tests {
             let plain = Moves::new("%%\n", rules, |_| String::new());
             assert_eq!(rules < 6, moves.rows != plain.rows);
         }
+    }
+
+    #[test]
+    fn texts_have_their_bytes_and_moves() {
+        let told = |bytes, characters| {
+            let text = text(bytes, characters);
+            assert_eq!(text.len(), bytes);
+            let moves = Moves::mixed(FEW_RULES).over(text.clone());
+            let longest = |row: &Vec<usize>| row.iter().max().copied();
+            let covered: Vec<Option<usize>> = moves.rows.iter().map(longest).collect();
+            let lengths = text.chars().take(MOVES).map(|character| Some(character.len_utf8()));
+            assert_eq!(covered, lengths.collect::<Vec<_>>());
+            let lent = moves.rows_by_position().iter().filter(|row| !row.is_empty()).count();
+            assert_eq!(lent, text.chars().count().min(MOVES + 1));
+            (covered.len(), runs(&text), calls(&text))
+        };
+        assert_eq!([16, 256, 4_096].map(|bytes| told(bytes, ASCII)), [(16, 16, 256), (256, 1, 256), (256, 1, 256)]);
+        assert_eq!([16, 4_096].map(|bytes| told(bytes, MULTI_BYTE)), [(7, 36, 252), (256, 1, 256)]);
     }
 
     #[test]

@@ -9,6 +9,7 @@ mod model;
 use crate::answers::{self, ACCEPTED, NO_SUCH_PLACE};
 use crate::oracle;
 use crate::show;
+pub use by_hand::DAMAGED;
 use misreadings::Misreading;
 use model::Model;
 pub use model::Place;

@@ -1,4 +1,5 @@
-//! The run machine of 01: it is given the file, the map and the rows, and reads neither sheet nor run.
+//! The run machine of 01, with 02's test of a row: it is given the file, the map, the text of the start and the rows,
+//! and reads neither sheet nor run.
 
 use super::misreadings::Misreading as M;
 use super::{Run, token};
@@ -18,6 +19,8 @@ struct Rule {
 #[derive(Clone)]
 pub struct Machine {
     n: usize,
+    /// Of every offset up to n, whether it is an edge of the text.
+    edges: Vec<bool>,
     /// Of every state, whether it is exclusive.
     states: Vec<bool>,
     rules: Vec<Rule>,
@@ -30,7 +33,7 @@ pub struct Machine {
 }
 
 impl Machine {
-    pub fn new(source: &str, records: &Records, map: &[(String, u16)], n: usize, wrong: Option<M>) -> Machine {
+    pub fn new(source: &str, records: &Records, map: &[(String, u16)], text: &str, wrong: Option<M>) -> Machine {
         let rules = records.rules.iter().enumerate().map(|(k, rule)| {
             let name = rule.named.then(|| &source[rule.name_from..rule.name_from + rule.name_length]);
             let entry = map.iter().find(|(entry, _)| Some(entry.as_str()) == name);
@@ -41,20 +44,32 @@ impl Machine {
         let states = records.states.iter().map(|state| state.exclusive).collect();
         let first = if wrong == Some(M::StartsInTheLastState) { records.states.len() - 1 } else { 0 };
         let stack = vec![first];
-        Machine { n, states, rules: rules.collect(), position: 0, moves: 0, held: stack.clone(), stack, wrong }
+        Machine {
+            n: text.len(),
+            edges: edges(text, wrong),
+            states,
+            rules: rules.collect(),
+            position: 0,
+            moves: 0,
+            held: stack.clone(),
+            stack,
+            wrong,
+        }
     }
 
     pub fn take(&mut self, row: &[u8]) -> u64 {
-        if self.position == self.n && !self.has(M::RowIsTestedAtTheEnd) {
-            return DONE;
-        }
         let lengths: Vec<usize> =
             row.chunks_exact(2).map(|bytes| u16::from_le_bytes([bytes[0], bytes[1]]) as usize).collect();
+        if self.position == self.n {
+            let fits = match self.wrong {
+                Some(M::RowIsTestedAtTheEnd) => self.fits(row.len(), &lengths),
+                Some(M::EdgesAreTestedAtTheEnd) => lengths.iter().all(|length| self.ends_on_an_edge(*length)),
+                _ => true,
+            };
+            return if fits { DONE } else { ROW_MISMATCH };
+        }
         if !self.fits(row.len(), &lengths) {
             return ROW_MISMATCH;
-        }
-        if self.position == self.n {
-            return DONE;
         }
         let Some((winner, length)) = self.winner(&lengths) else { return STOPPED };
         let rule = self.rules[winner].clone();
@@ -87,11 +102,25 @@ impl Machine {
         let left = self.n - self.position;
         let right_length =
             bytes == 2 * self.rules.len() || self.has(M::OddByteFits) && bytes == 2 * self.rules.len() + 1;
-        let short = |k: usize| {
-            let counts = !self.has(M::RowIsTestedForLiveRules) || self.is_live(&self.rules[k]);
-            !counts || lengths[k] <= left
-        };
-        right_length && (0..self.rules.len()).all(short)
+        if !right_length {
+            return false;
+        }
+        let winner = self.winner(lengths).map(|(winner, _)| winner);
+        (0..self.rules.len()).all(|k| {
+            let is_live = || self.is_live(&self.rules[k]);
+            let edge_counts = match self.wrong {
+                Some(M::EdgesAreTestedForTheWinner) => winner == Some(k),
+                Some(M::EdgesAreTestedForLiveRules) => is_live(),
+                _ => true,
+            };
+            let fits = lengths[k] <= left && (!edge_counts || self.ends_on_an_edge(lengths[k]));
+            fits || self.has(M::RowIsTestedForLiveRules) && !is_live()
+        })
+    }
+
+    fn ends_on_an_edge(&self, length: usize) -> bool {
+        let end = if self.has(M::EdgeOfTheLengthAlone) { length } else { self.position + length };
+        self.edges.get(end).is_some_and(|edge| *edge)
     }
 
     fn is_live(&self, rule: &Rule) -> bool {
@@ -159,6 +188,27 @@ impl Machine {
     }
 }
 
+/// An edge is where some first characters end; the code point tells how many bytes a character has.
+fn edges(text: &str, wrong: Option<M>) -> Vec<bool> {
+    let mut edges = vec![false; text.len() + 1];
+    edges[0] = wrong != Some(M::StartIsNoEdge);
+    let mut end = 0;
+    for character in text.chars() {
+        let bytes = match u32::from(character) {
+            ..0x80 => 1,
+            0x80..0x800 => 2,
+            0x800..0x1_0000 => 3,
+            _ => 4,
+        };
+        if bytes > 2 && wrong == Some(M::OnlyTwoBytesAreCut) {
+            edges[end..end + bytes].fill(true);
+        }
+        end += bytes;
+        edges[end] = end < text.len() || wrong != Some(M::EndIsNoEdge);
+    }
+    edges
+}
+
 #[cfg(test)]
 mod tests {
     use super::*;
@@ -167,14 +217,14 @@ mod tests {
 
     const SOURCE: &str = "%x S\n%%\na <+S>'A'\n<S>b <-S>;\nc 'C'";
 
-    fn machine(n: usize) -> Machine {
+    fn machine(text: &str) -> Machine {
         let records = model::records(SOURCE, &roomy_case(SOURCE, 0), Reading::RIGHT);
-        Machine::new(SOURCE, &records, &[("A".to_string(), 9)], n, None)
+        Machine::new(SOURCE, &records, &[("A".to_string(), 9)], text, None)
     }
 
     #[test]
     fn it_pushes_pops_and_holds_what_it_held() {
-        let mut machine = machine(4);
+        let mut machine = machine("aaaa");
         let rows = [[1, 0, 0, 0, 1, 0], [3, 0, 2, 0, 0, 0], [0, 0, 0, 0, 1, 0], [2, 0, 0, 0, 0, 0]];
         let answers = rows.map(|row| machine.take(&row));
         assert_eq!(answers, [token(9, 0, 1), SKIP, UNLINKED, ROW_MISMATCH]);
@@ -183,10 +233,29 @@ mod tests {
 
     #[test]
     fn it_stops_where_no_live_rule_has_a_length() {
-        let mut machine = machine(1);
+        let mut machine = machine("a");
         assert_eq!(machine.take(&[0, 0, 1, 0, 0, 0]), STOPPED);
         assert_eq!(machine.take(&[1, 0, 0, 0, 0]), ROW_MISMATCH);
         machine.take(&[1, 0, 0, 0, 0, 0]);
         assert_eq!(machine.take(&[]), DONE);
+    }
+
+    #[test]
+    fn it_takes_lengths_that_end_on_an_edge() {
+        let mut machine = machine("é€");
+        assert_eq!(machine.take(&[2, 0, 1, 0, 0, 0]), ROW_MISMATCH);
+        assert_eq!(machine.take(&[2, 0, 0, 0, 5, 0]), UNLINKED);
+        assert_eq!(machine.take(&[2, 0, 5, 0, 0, 0]), token(9, 0, 2));
+        let answers = [[0, 0, 2, 0, 0, 0], [2, 0, 3, 0, 0, 0], [0, 0, 3, 0, 0, 0]].map(|row| machine.take(&row));
+        assert_eq!(answers, [ROW_MISMATCH, ROW_MISMATCH, SKIP]);
+    }
+
+    #[test]
+    fn edges_are_those_of_characters_of_one_to_four_bytes() {
+        let at = |text| edges(text, None).into_iter().enumerate().filter_map(|(at, edge)| edge.then_some(at));
+        assert_eq!(at("").collect::<Vec<_>>(), [0]);
+        assert_eq!(at("aé€😀").collect::<Vec<_>>(), [0, 1, 3, 6, 10]);
+        let limits = "\u{7f}\u{80}\u{7ff}\u{800}\u{ffff}\u{10000}\u{10ffff}";
+        assert_eq!(at(limits).collect::<Vec<_>>(), [0, 1, 3, 5, 8, 11, 15, 19]);
     }
 }

@@ -1,4 +1,5 @@
-//! Deliberate misreadings of the run machine. The cases must tell each of them from the right reading.
+//! Deliberate misreadings of the run machine, which the cases must tell from the right reading, and of the calls, which
+//! the machine cannot show and the hand-made calls must tell.
 
 use crate::misreadings::misreadings;
 
@@ -6,8 +7,15 @@ misreadings! {
     StartsInTheLastState: "the run starts in the state declared last",
     IdIsPosition: "a rule's id is its position, whatever the map has",
     RowIsTestedAtTheEnd: "10 comes before 'done'",
+    EdgesAreTestedAtTheEnd: "10 comes before 'done' for a length that ends off an edge",
     OddByteFits: "a byte behind the last length does no harm",
     RowIsTestedForLiveRules: "10 looks at live rules only",
+    EdgesAreTestedForLiveRules: "only lengths of live rules must end on an edge",
+    EdgesAreTestedForTheWinner: "only the winner's length must end on an edge",
+    EdgeOfTheLengthAlone: "a length must be an edge, wherever the run is",
+    StartIsNoEdge: "the start of the text is no edge",
+    EndIsNoEdge: "the end of the text is no edge",
+    OnlyTwoBytesAreCut: "only a character of two bytes has no edge inside",
     EmptyListIsNeverLive: "a rule without a list is never live",
     ExclusiveIsInclusive: "a rule without a list is live in exclusive states too",
     ListedRulesAreLiveInInitial: "a rule with a list is live in state 0 too",
@@ -21,4 +29,32 @@ misreadings! {
     SameStateIsPushedOnce: "pushing the current state changes nothing",
     PopNeedsItsTarget: "pop removes the top only where it is the target",
     EmptiedStackGetsTheTarget: "an emptied stack gets the target",
+}
+
+pub mod calls {
+    use super::misreadings;
+
+    misreadings! {
+        // The start
+        TextBeforeStart: "the start tests 12 before 8",
+        StartTakesAnyBytes: "the start's text need not be UTF-8",
+        StartTakesAShorterText: "the start's text may be shorter than n",
+        StartTakesALongerText: "the start's text may be longer than n",
+        StartWritesAtTwelve: "the start writes run and stack although it refuses the text",
+        // The step
+        TextBeforeSheet: "the step tests 12 before 6",
+        TextBehindRun: "the step tests 12 behind 9",
+        TextBehindDone: "the step tests 12 behind 'done'",
+        TextBehindRow: "the step tests 12 behind 10",
+        StepTakesAnyBytes: "the step's text need not be UTF-8",
+        StepTakesAShorterText: "the step's text may be shorter than n",
+        StepTakesALongerText: "the step's text may be longer than n",
+        TextIsJudgedFromThePosition: "what is before the position need not be UTF-8",
+        LengthOfSixteenBits: "only the low 16 bits of a text's length are looked at",
+        // Positions off an edge
+        ZeroFitsAnywhere: "a length of 0 fits at a position off an edge",
+        NothingFitsOffAnEdge: "no length fits at a position off an edge",
+        NoRulesStillAskForAnEdge: "an empty row of no rules is 10 at a position off an edge",
+        RunOffAnEdgeIsBroken: "a run at a position off an edge is 9",
+    }
 }

@@ -1,13 +1,16 @@
-//! `compare step`: the start call and the step call against the original's lexer loop, against the run machine of 01, and
-//! against 01's words for what neither has: broken sheets, broken runs and poor starts.
+//! `compare step`: the start call and the step call against the original's lexer loop, against the run machine of 01,
+//! and against 01's and 02's words for what neither has: broken sheets, broken runs, poor starts, texts that do not fit
+//! the entry and positions off an edge.
 
 mod broken;
+mod by_hand;
 mod cases;
 mod machine;
 mod misreadings;
 mod model;
+mod texts;
 
-use crate::answers::{self, ACCEPTED, STOPPED, TOKEN, UNLINKED, word};
+use crate::answers::{self, ACCEPTED, ROW_MISMATCH, SKIP, STOPPED, TEXT_MISMATCH, TOKEN, UNLINKED, word};
 use crate::case::{FLAG_COMMENTS, FLAG_POSIX_ESCAPES};
 use crate::link;
 use crate::model::{self as parse_model, Reading};
@@ -18,6 +21,7 @@ use crate::show;
 use cases::Case;
 use machine::Machine;
 use misreadings::Misreading;
+use model::Step;
 use original::{Definition, Lexed};
 use std::collections::BTreeMap;
 use std::time::Instant;
@@ -35,10 +39,6 @@ impl Run {
         self.numbers[1] as usize
     }
 
-    fn left(&self) -> usize {
-        self.numbers[0] as usize - self.position()
-    }
-
     /// The state on top of the stack.
     fn current(&self) -> u16 {
         field(&self.stack, 2 * (self.numbers[2] as usize - 1))
@@ -52,7 +52,7 @@ fn token(id: u16, start: u16, length: u16) -> u64 {
 
 pub fn run(seed: u64, first: u64, cases: u64) -> Result<(), String> {
     let start = Instant::now();
-    println!("{} hand-made starts and steps: expected answers.", broken::check()?);
+    by_hand::check()?;
     let mut tally = Tally::default();
     let mut unnoticed: Vec<Misreading> = misreadings::ALL.iter().map(|(misreading, _)| *misreading).collect();
     for index in first..first + cases {
@@ -69,10 +69,13 @@ pub fn run(seed: u64, first: u64, cases: u64) -> Result<(), String> {
 
 #[derive(Default)]
 struct Tally {
-    /// How often the step call gave each number.
+    /// How often the start call and the step call gave each number.
+    starts: BTreeMap<u64, u64>,
     answers: BTreeMap<u64, u64>,
     deepest: u16,
     most_moves: u16,
+    /// Rows that cut a character, by the winner's length, by another live rule's, by that of a rule that is not live.
+    cuts: [u64; 3],
     /// Where the original's loop was stopped to see its position and state.
     stops: u64,
 }
@@ -81,24 +84,33 @@ impl Tally {
     fn report(&self, cases: u64) -> String {
         let whose = if cfg!(feature = "ours") { "Troymantle's" } else { "the model's" };
         format!(
-            "{} runs, {} step calls: {whose} tokens, skips and ends are those of the original's loop, which was asked for its position and state at {} places; every answer, number and stack byte is that of the run machine, or of 01's words where a call was damaged. At most {} moves and a depth of {}. Answers: {}",
+            "{} runs, {} step calls: {whose} tokens, skips and ends are those of the original's loop, which was asked \
+             for its position and state at {} places; every answer, number and stack byte is that of the run machine, \
+             or of 01's and 02's words where a call was damaged. {} rows cut a character by the winner's length, {} by \
+             another live rule's, {} by that of a rule that is not live. At most {} moves and a depth of {}. Answers of \
+             starts: {}. Answers of steps: {}",
             show::number(cases),
             show::number(self.answers.values().sum()),
             show::number(self.stops),
+            show::number(self.cuts[0]),
+            show::number(self.cuts[1]),
+            show::number(self.cuts[2]),
             show::number(self.most_moves as u64),
             show::number(self.deepest as u64),
+            show::tally(&self.starts),
             show::tally(&self.answers)
         )
     }
 }
 
 /// What the start call answers and leaves by the model, and by ours too.
-fn start(n: u64, run: &Run) -> Result<(u64, Run), String> {
-    agreed(model::start(n, run), ours::start(n, run), || format!("start of {n} over {run:?}"))
+fn start(n: u64, text: &[u8], run: &Run) -> Result<(u64, Run), String> {
+    let call = || format!("start of {n} on {} over {run:?}", show::source(text));
+    agreed(model::start(n, text, run, None), ours::start(n, text, run), call)
 }
 
-fn step(sheet: &Sheet, run: &Run, row: &[u8]) -> Result<(u64, Run), String> {
-    agreed(model::step(sheet, run, row), ours::step(sheet, run, row), || format!("row {row:?} at {run:?} of {sheet:?}"))
+fn step(call: Step) -> Result<(u64, Run), String> {
+    agreed(model::step(call, None), ours::step(call), || format!("{call:?}"))
 }
 
 type Left = (u64, Run);
@@ -149,9 +161,23 @@ struct Follower<'a> {
 }
 
 impl Follower<'_> {
+    /// A step on the text of the start.
+    fn call<'a>(&'a self, row: &'a [u8]) -> Step<'a> {
+        Step { sheet: &self.sheet, text: self.case.text.as_bytes(), run: &self.run, row }
+    }
+
+    /// What the run has not covered.
+    fn rest(&self) -> &str {
+        &self.case.text[self.run.position()..]
+    }
+
+    fn rules(&self) -> usize {
+        self.sheet.counts[1] as usize
+    }
+
     /// The run and the machine take a row alike.
     fn take(&mut self, row: Vec<u8>, tally: &mut Tally) -> Result<u64, String> {
-        let (word, run) = step(&self.sheet, &self.run, &row)?;
+        let (word, run) = step(self.call(&row))?;
         let expected = self.machine.take(&row);
         if word != expected {
             return Err(format!("the machine answers {expected}, the step {word} to {row:?} at {:?}", self.run));
@@ -175,37 +201,96 @@ impl Follower<'_> {
     }
 
     fn take_ill_fitting(&mut self, random: &mut Random, tally: &mut Tally) -> Result<(), String> {
-        let row = cases::ill_fitting(random, &vec![0; self.sheet.counts[1] as usize], self.run.left());
+        let row = cases::ill_fitting(random, &vec![0; self.rules()], self.rest().len());
         self.take(row, tally).map(drop)
     }
 
-    /// A damaged call, which leaves the run itself alone.
-    fn try_damaged(&self, random: &mut Random, row: &[u8], tally: &mut Tally) -> Result<(), String> {
-        let (sheet, run, row) = cases::damaged(random, self.sheet.clone(), self.run.clone(), row.to_vec());
-        let (word, _) = step(&sheet, &run, &row)?;
-        *tally.answers.entry(answers::number(word)).or_default() += 1;
+    /// A row that fits but for a length that cuts a character.
+    fn take_cutting(&mut self, random: &mut Random, row: &[usize], tally: &mut Tally) -> Result<(), String> {
+        let Some((rule, row)) = cases::cutting(random, row, self.rest()) else { return Ok(()) };
+        let row = cases::bytes(&row);
+        let call = self.call(&row);
+        let kind = match call.winner() {
+            Some((winner, _)) if winner == rule => 0,
+            _ if call.is_live(&self.sheet.rules()[rule]) => 1,
+            _ => 2,
+        };
+        tally.cuts[kind] += 1;
+        match self.take(row, tally)? {
+            ROW_MISMATCH => Ok(()),
+            number => Err(format!("a row that cuts a character gets {number}")),
+        }
+    }
+
+    /// Calls that leave the run itself alone: a damaged one, one on another text and one at a position off an edge.
+    fn try_others(&self, random: &mut Random, row: &[u8], tally: &mut Tally) -> Result<(), String> {
+        let text = self.case.text.as_bytes();
+        let taken = (self.sheet.clone(), text.to_vec(), self.run.clone(), row.to_vec());
+        let (sheet, damaged_text, run, damaged_row) = cases::damaged(random, taken);
+        tally.step(Step { sheet: &sheet, text: &damaged_text, run: &run, row: &damaged_row })?;
+        self.try_text(&cases::other_text(random, text), row, tally)?;
+        if let Some((at, row)) = cases::off_an_edge(random, self.rules(), self.rest()) {
+            let mut run = self.run.clone();
+            run.numbers[1] += at as u16;
+            tally.step(Step { run: &run, ..self.call(&cases::bytes(&row)) })?;
+        }
+        Ok(())
+    }
+
+    fn try_text(&self, text: &[u8], row: &[u8], tally: &mut Tally) -> Result<(), String> {
+        let number = tally.step(Step { text, ..self.call(row) })?;
+        let fits = text.len() == self.case.text.len() && std::str::from_utf8(text).is_ok();
+        if fits == (number == TEXT_MISMATCH) {
+            return Err(format!("a step on {} gets {number}", show::source(text)));
+        }
         Ok(())
     }
 }
 
-fn follow(case: &Case, random: &mut Random, tally: &mut Tally) -> Result<Trace, String> {
-    let machine = Machine::new(case.source(), &case.records(), &case.map, case.n, None);
-    let (word, run) = start(case.n as u64, &case.before)?;
+impl Tally {
+    fn step(&mut self, call: Step) -> Result<u64, String> {
+        let number = answers::number(step(call)?.0);
+        *self.answers.entry(number).or_default() += 1;
+        Ok(number)
+    }
+}
+
+/// The run and the machine of a case, behind some starts that are refused or have another n or text.
+fn begun<'a>(case: &'a Case, random: &mut Random, tally: &mut Tally) -> Result<Follower<'a>, String> {
+    for _ in 0..2 {
+        let (n, text, run) = cases::damaged_start(random, case);
+        let (word, _) = start(n, &text, &run)?;
+        *tally.starts.entry(answers::number(word)).or_default() += 1;
+    }
+    let (word, run) = start(case.text.len() as u64, case.text.as_bytes(), &case.before)?;
     if word != 0 {
         return Err(format!("the start is refused by {word}"));
     }
-    let mut follower = Follower { case, sheet: sheet(case)?, machine, run, calls: vec![] };
+    let follower = Follower { case, sheet: sheet(case)?, machine: machine(case, None), run, calls: vec![] };
     follower.compare()?;
+    Ok(follower)
+}
+
+fn machine(case: &Case, wrong: Option<Misreading>) -> Machine {
+    Machine::new(case.source(), &case.records(), &case.map, &case.text, wrong)
+}
+
+fn follow(case: &Case, random: &mut Random, tally: &mut Tally) -> Result<Trace, String> {
+    let mut follower = begun(case, random, tally)?;
     let mut lexed = vec![];
     let mut visits = vec![];
-    let extras = if case.n > 1_000 { 1 } else { 20 };
-    while follower.run.position() < case.n {
+    let extras = if case.text.len() > 1_000 { 1 } else { 20 };
+    while follower.run.position() < case.text.len() {
+        let row = &case.rows[follower.run.position()];
         if random.percent(extras) {
             follower.take_ill_fitting(random, tally)?;
         }
-        let row = cases::bytes(&case.rows[follower.run.position()]);
         if random.percent(extras) {
-            follower.try_damaged(random, &row, tally)?;
+            follower.take_cutting(random, row, tally)?;
+        }
+        let row = cases::bytes(row);
+        if random.percent(extras) {
+            follower.try_others(random, &row, tally)?;
         }
         let (position, state) = (follower.run.position(), follower.run.current() as usize);
         visits.push(Visit { position, state, tokens: lexed.len() });
@@ -223,34 +308,37 @@ fn follow(case: &Case, random: &mut Random, tally: &mut Tally) -> Result<Trace, 
                 lexed.push(Lexed::Unlinked { at: position });
                 break;
             }
-            _ => {}
+            SKIP => {}
+            number => return Err(format!("a row that fits gets {number} at {position}")),
         }
     }
     go_on(&mut follower, random, tally)?;
     Ok(Trace { lexed, visits, calls: follower.calls })
 }
 
-/// Where the original's loop has ended, the run still answers, and after 'stopped' or 'unlinked' another row may move it.
+/// Where the original's loop has ended, the run still answers, and after 'stopped' or 'unlinked' another row may move
+/// it.
 fn go_on(follower: &mut Follower, random: &mut Random, tally: &mut Tally) -> Result<(), String> {
     for _ in 0..3 {
         if random.percent(40) {
             follower.take_ill_fitting(random, tally)?;
         }
-        let row = cases::other_row(random, follower.sheet.counts[1] as usize, follower.run.left());
-        follower.try_damaged(random, &row, tally)?;
+        let row = cases::other_row(random, follower.rules(), follower.rest());
+        follower.try_others(random, &row, tally)?;
         follower.take(row, tally)?;
     }
     Ok(())
 }
 
-/// The original's loop has the same tokens and the same end. A row of zeros stops it wherever the run came, in its state.
+/// The original's loop has the same tokens and the same end. A row of zeros stops it wherever the run came, in its
+/// state.
 fn against_original(case: &Case, trace: &Trace, random: &mut Random, tally: &mut Tally) -> Result<(), String> {
     let flag = |flag: u64| case.file.flags & flag != 0;
     let definition = Definition::new(case.source(), flag(FLAG_COMMENTS), flag(FLAG_POSIX_ESCAPES), &case.file.verdicts);
     let mut definition = definition.ok_or("the file has faults by the original")?;
     let entries: Vec<(&str, u16)> = case.map.iter().map(|(name, id)| (name.as_str(), *id)).collect();
     definition.link(&entries);
-    expect_lexed(&definition, case.n, &case.rows, &trace.lexed)?;
+    expect_lexed(&definition, &case.text, &case.rows, &trace.lexed)?;
     let chance = if trace.visits.len() > 100 { 1 } else { 100 };
     let mut rows = case.rows.clone();
     for visit in &trace.visits {
@@ -261,15 +349,15 @@ fn against_original(case: &Case, trace: &Trace, random: &mut Random, tally: &mut
         let kept = std::mem::replace(&mut rows[visit.position], zeros);
         let mut expected = trace.lexed[..visit.tokens].to_vec();
         expected.push(Lexed::Stopped { at: visit.position, state: visit.state });
-        expect_lexed(&definition, case.n, &rows, &expected)?;
+        expect_lexed(&definition, &case.text, &rows, &expected)?;
         rows[visit.position] = kept;
         tally.stops += 1;
     }
     Ok(())
 }
 
-fn expect_lexed(definition: &Definition, n: usize, rows: &[Vec<usize>], expected: &[Lexed]) -> Result<(), String> {
-    let lexed = oracle::caught(|| definition.run(n, rows))?;
+fn expect_lexed(definition: &Definition, text: &str, rows: &[Vec<usize>], expected: &[Lexed]) -> Result<(), String> {
+    let lexed = oracle::caught(|| definition.run(text, rows))?;
     if lexed == expected {
         Ok(())
     } else {
@@ -279,8 +367,7 @@ fn expect_lexed(definition: &Definition, n: usize, rows: &[Vec<usize>], expected
 
 /// Whether the misreading gives another answer or leaves another run somewhere.
 fn notices(case: &Case, trace: &Trace, misreading: Misreading) -> bool {
-    let machine = |wrong| Machine::new(case.source(), &case.records(), &case.map, case.n, wrong);
-    let (mut right, mut wrong) = (machine(None), machine(Some(misreading)));
+    let (mut right, mut wrong) = (machine(case, None), machine(case, Some(misreading)));
     trace.calls.iter().any(|(row, word)| {
         right.take(row);
         wrong.take(row) != *word || wrong.run(&case.before.stack) != right.run(&case.before.stack)
@@ -293,7 +380,7 @@ fn shown(case: &Case) -> String {
 
 #[cfg(feature = "ours")]
 mod ours {
-    use super::{Run, Sheet};
+    use super::{Run, Step};
     use crate::case::{Answer, Case};
     use crate::guarded;
 
@@ -301,29 +388,30 @@ mod ours {
         Some(guarded::parse(case))
     }
 
-    pub fn start(n: u64, run: &Run) -> Option<(u64, Run)> {
-        Some(guarded::start(n, run))
+    pub fn start(n: u64, text: &[u8], run: &Run) -> Option<(u64, Run)> {
+        Some(guarded::start(n, text, run))
     }
 
-    pub fn step(sheet: &Sheet, run: &Run, row: &[u8]) -> Option<(u64, Run)> {
-        Some(guarded::step(sheet, run, row))
+    pub fn step(call: Step) -> Option<(u64, Run)> {
+        let Step { sheet, text, run, row } = call;
+        Some(guarded::step(sheet, text, run, row))
     }
 }
 
 #[cfg(not(feature = "ours"))]
 mod ours {
-    use super::{Run, Sheet};
+    use super::{Run, Step};
     use crate::case::{Answer, Case};
 
     pub fn parse(_: &Case) -> Option<Answer> {
         None
     }
 
-    pub fn start(_: u64, _: &Run) -> Option<(u64, Run)> {
+    pub fn start(_: u64, _: &[u8], _: &Run) -> Option<(u64, Run)> {
         None
     }
 
-    pub fn step(_: &Sheet, _: &Run, _: &[u8]) -> Option<(u64, Run)> {
+    pub fn step(_: Step) -> Option<(u64, Run)> {
         None
     }
 }

@@ -2,7 +2,7 @@
 use Rattle.std.specs.Prelude.{ℕ}
 use Rattle.answers.specs.declared.Number.{Number}
 use Rattle.answers.specs.declared.Number.TheVariants.{Accepted, LongFile, UnknownFlag, InvalidUtf8, AreaFull, FaultyFile, BrokenSheet, BrokenMap}
-use Rattle.answers.specs.declared.Number.TheVariants.{StartRefused, BrokenRun, RowMismatch, NoSuchPlace, Done, Stopped, Unlinked, Skip, Token}
+use Rattle.answers.specs.declared.Number.TheVariants.{StartRefused, BrokenRun, RowMismatch, NoSuchPlace, TextMismatch, Done, Stopped, Unlinked, Skip, Token}
 
 -- ---- accepted, and the refusals
 
@@ -53,6 +53,10 @@ row_mismatch_number = 10
 abbrev pub no_such_place_number : ℕ
 no_such_place_number = 11
 
+-- the text of the entry is not well-formed UTF-8, or has not n bytes (02, 2/13)
+abbrev pub text_mismatch_number : ℕ
+text_mismatch_number = 12
+
 -- the most bytes of a file (01, Numbers given at the counter, 1)
 abbrev pub most_source : ℕ
 most_source = 65535
@@ -94,6 +98,7 @@ number_of StartRefused = start_refused_number
 number_of BrokenRun = broken_run_number
 number_of RowMismatch = row_mismatch_number
 number_of NoSuchPlace = no_such_place_number
+number_of TextMismatch = text_mismatch_number
 number_of Done = done_number
 number_of Stopped = stopped_number
 number_of Unlinked = unlinked_number

@@ -22,6 +22,7 @@ pub enum Number {
     BrokenRun = 9,
     RowMismatch = 10,
     NoSuchPlace = 11,
+    TextMismatch = 12,
     Done = 256,
     Stopped = 257,
     Unlinked = 258,

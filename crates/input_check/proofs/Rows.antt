@@ -75,6 +75,16 @@ module _ (text : List ℕ) (left position rules : ℕ) (row : List ℕ) where
   pub top_inside : (x : Row) → RowFits (λ l. leb l left) rules row x → position + left ≤ length text → position + x.top ≤ length text
   top_inside x fits h = omega (arith, h, top_low left rules row x fits)
 
+  -- a row that fits has no length above what is left
+  pub row_low : (x : Row) → RowFits test rules row x → RowFits (λ l. leb l left) rules row x
+  row_low x fits = record {
+    good = row_good (λ l. leb l left) rules row (row_long test rules row fits.good)
+        (λ k h. fits_low text left position (entry_at row k) (row-length test rules row fits.good k h));
+    bytes_are = fits.bytes_are;
+    rules_are = fits.rules_are;
+    greatest_is = fits.greatest_is;
+  }
+
   module _ (x : Row) (fits : RowFits (λ l. leb l left) rules row x) (t : Bool) (is : t ≡ at_edges x.rules x.bytes.now) where
     edges_are : t ≡ at_edges rules row
     edges_are = is ∙ ap₂ at_edges fits.rules_are fits.bytes_are

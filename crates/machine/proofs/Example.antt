@@ -1,8 +1,8 @@
--- The hypotheses of demand 3 can be met, and its machine does something: a small file with pushes, pops below the bottom, a replace, skips, and
--- a refused row in the middle, computed.
+-- The hypotheses of demand 3 can be met, and its machine does something: a small file with pushes, pops below the bottom, a replace, skips, an entry
+-- with characters of 2, 3 and 4 bytes, and rows in between that are refused, for cutting a character or for being too long, computed.
 use mathlib.Core.Path.{◌≡◌, refl, ap, ◌∙◌}
 use mathlib.Core.Bool.{true}
-use mathlib.Core.List.{List, [], ◌∷◌}
+use mathlib.Core.List.{List, [], ◌∷◌, map}
 use mathlib.Core.Option.{some}
 use Prim.Native.Nat.{ℕ, zero, suc, ◌<◌}
 use native.Mathlib.Omega.{arith}
@@ -23,7 +23,7 @@ use Rattle.machine.specs.Computing.{computing}
 use Rattle.machine.specs.File.{FileRule}
 use Rattle.machine.specs.Machine.{Given, Machine, fresh, step}
 use Rattle.machine.specs.Means.{EntryOf}
-use Rattle.machine.specs.Demand.{Demand, Session, start_left_of, session_file, session_map, given, MapHolds, Accepts, session_calls, DemandHolds}
+use Rattle.machine.specs.Demand.{Demand, Session, start_left_of, session_file, session_map, given, MapHolds, Accepts, session_calls, AllOver, DemandHolds}
 use Rattle.machine.proofs.Options.{some_is, none_some}
 use Rattle.machine.specs.Words.{AcceptsInWords, InWords, InWordsHolds}
 use Rattle.machine.proofs.Theorem.{demand}
@@ -51,24 +51,45 @@ names_of_map = 0x41 ∷ 0x43 ∷ 0x45 ∷ []
 abbrev pub entries_of_map : List ℕ
 entries_of_map = 0 ∷ 0 ∷ 1 ∷ 0 ∷ 44 ∷ 1 ∷ 1 ∷ 0 ∷ 1 ∷ 0 ∷ 45 ∷ 1 ∷ 2 ∷ 0 ∷ 1 ∷ 0 ∷ 46 ∷ 1 ∷ []
 
-abbrev pub row : ℕ → ℕ → ℕ → ℕ → ℕ → Input
-row a b c d e = input (a ∷ 0 ∷ b ∷ 0 ∷ c ∷ 0 ∷ d ∷ 0 ∷ e ∷ 0 ∷ [])
+-- `éb€c😀ae`: its edges are 0, 2, 3, 6, 7, 11, 12 and 13
+abbrev pub entry_text : List ℕ
+entry_text =
+    0xc3 ∷ 0xa9
+    ∷ 0x62
+    ∷ 0xe2 ∷ 0x82 ∷ 0xac
+    ∷ 0x63
+    ∷ 0xf0 ∷ 0x9f ∷ 0x98 ∷ 0x80
+    ∷ 0x61
+    ∷ 0x65
+    ∷ []
 
-abbrev pub entry_rows : List Input
-entry_rows =
-    row 2 1 0 0 0
+abbrev pub row : ℕ → ℕ → ℕ → ℕ → ℕ → List ℕ
+row a b c d e = a ∷ 0 ∷ b ∷ 0 ∷ c ∷ 0 ∷ d ∷ 0 ∷ e ∷ 0 ∷ []
+
+-- four are refused: the winner of the first cuts `é`, and in the second a rule that is not live does; the fifth is too long; and in the eighth a live
+-- rule that would not win cuts `😀`
+abbrev pub rows : List (List ℕ)
+rows =
+    row 1 0 0 0 0
+    ∷ row 2 0 1 0 0
+    ∷ row 2 2 0 0 0
     ∷ row 0 1 0 0 0
-    ∷ row 6 0 0 1 0
-    ∷ row 5 0 0 1 0
-    ∷ row 1 1 1 0 0
-    ∷ row 0 0 0 0 1
+    ∷ row 11 0 0 3 0
+    ∷ row 10 0 0 3 0
+    ∷ row 1 5 1 0 0
+    ∷ row 0 2 0 0 4
+    ∷ row 0 0 0 0 4
     ∷ row 1 1 0 0 1
     ∷ row 0 0 1 1 0
     ∷ row 0 0 0 0 1
-    ∷ input []
+    ∷ []
     ∷ []
 
--- the file and the map, and the start of an entry of 8 bytes, over a stack of 18 bytes 7
+-- each given with the text
+abbrev pub entry_rows : List Input
+entry_rows = map (input entry_text) rows
+
+-- the file and the map, and the start of that entry of 13 bytes, over a stack of 28 bytes 7
 abbrev pub session : Run → Session
 session r = record {
   request = asked lex_file 0 [];
@@ -77,8 +98,9 @@ session r = record {
   entries = entries_of_map;
   area7 = [];
   area8 = [];
-  n = 8;
-  running = running r (replicate 18 7);
+  n = 13;
+  text = entry_text;
+  running = running r (replicate 28 7);
 }
 
 -- the machine's answers
@@ -109,15 +131,20 @@ met r = record { parsed = refl; unmapped = 0; unused = 0; linked = refl; started
 
 -- and these are the answers
 pub met_answers : (r : Run) → answers (given (session r)) fresh entry_rows
-    ≡ Ok (Token 300 0 2) ∷ (Ok Skip) ∷ (Err RowMismatch) ∷ (Ok Skip) ∷ Ok (Token 301 4 1) ∷ Ok (Token 302 5 1) ∷ Ok (Token 300 6 1)
-    ∷ (Ok Stopped) ∷ Ok (Token 302 7 1) ∷ (Ok Done) ∷ []
+    ≡ Err RowMismatch ∷ Err RowMismatch ∷ Ok (Token 300 0 2) ∷ Ok Skip ∷ Err RowMismatch ∷ Ok Skip ∷ Ok (Token 301 6 1) ∷ Err RowMismatch
+    ∷ Ok (Token 302 7 4) ∷ Ok (Token 300 11 1) ∷ Ok Stopped ∷ Ok (Token 302 12 1) ∷ Ok Done ∷ []
 unfolding computing answers
 met_answers r = refl
+
+all_over : (text : List ℕ) (ls : List (List ℕ)) → AllOver text (map (input text) ls)
+unfolding AllOver
+all_over text [] = tt
+all_over text (l ∷ ls) = (refl, all_over text ls)
 
 -- so demand 3 holds of the calls with these rows
 pub met_demand : (r : Run) → Demand (given (session r)) (session r).running.stack (start_left_of (session r)) entry_rows (session_calls (session r) entry_rows)
 unfolding DemandHolds
-met_demand r = demand (session r) (met r) entry_rows
+met_demand r = demand (session r) (met r) entry_rows (all_over entry_text rows)
 
 -- ---- the same in words
 
@@ -137,4 +164,4 @@ met_words r = record { parsed = refl; linked = refl; started = refl }
 
 pub met_in_words : (r : Run) → InWords (session r) entry_rows
 unfolding InWordsHolds
-met_in_words r = in_words (session r) entries_are_bytes (met_words r) entry_rows
+met_in_words r = in_words (session r) entries_are_bytes (met_words r) entry_rows (all_over entry_text rows)

@@ -12,6 +12,7 @@ pub mod Winners
 pub mod Stepping
 pub mod Relinking
 pub mod Whole
+pub mod Characters
 pub mod Theorem
 pub mod AnswerLimits
 pub mod Worded

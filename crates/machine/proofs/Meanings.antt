@@ -1,29 +1,32 @@
 -- What the machine answers means what it should: of every row, by the machine's own definitions.
-use mathlib.Core.Path.{◌≡◌, refl, sym, ap, ap₂, ◌∙◌}
-use mathlib.Core.Bool.{Bool, true, false, not, ◌&&◌, ◌||◌, false≢true, true≢false, or-true}
+use mathlib.Core.Path.{◌≡◌, refl, sym, ap, ap₂, subst, ◌∙◌}
+use mathlib.Core.Bool.{Bool, true, false, ◌&&◌, ◌||◌, false≢true, true≢false, or-true}
 use mathlib.Core.List.{List, [], ◌∷◌}
 use mathlib.Core.Logic.{inl, inr}
 use mathlib.Core.Option.{Option, none, some}
 use Prim.Native.Nat.{ℕ, zero, suc, ◌+◌, ◌*◌, ◌-◌, ◌≤◌, ◌<◌}
 use native.Mathlib.Omega.{arith}
-use borrow.Author.Tests.{eq-eqb, eqb-true, eqb-false, leb-true, leb-false, ltb-true, ltb-false, not-true}
-use lib.Dec.{eqb, ltb}
+use borrow.Author.Tests.{eq-eqb, eqb-true, eqb-false, le-leb, leb-true, ltb-true, ltb-false, not-true}
+use lib.Dec.{eqb, leb, ltb}
 use lib.ListN.{length, get_or, get_elem?}
 use Rattle.std.proofs.lemmas.Bool.{cond_both, and_parts}
 use Rattle.text.specs.Range.{same_bytes}
+use Rattle.characters.specs.Utf8.{is_edge}
 use Rattle.characters.proofs.Tests.{or_cases}
 use Rattle.text.proofs.Ranges.{same_equal, same_self}
 use Rattle.area.specs.Lists.{all}
 use Rattle.area.proofs.All.{all-at}
 use Rattle.name_map.specs.Map.{Entry}
 use Rattle.std.specs.Prelude.{Ok, Err}
-use Rattle.run.specs.declared.StepError.TheVariants.{RowMismatch}
-use Rattle.run.specs.declared.Step.TheVariants.{Done, Stopped}
-use Rattle.run.specs.Run.{Input}
+use Rattle.input_check.specs.InputCheck.{EdgeOf, JudgesEdges}
+use Rattle.input_check.proofs.Edges.{edge_complete}
+use Rattle.run.specs.declared.StepError.TheVariants.{BrokenSheet, TextMismatch, BrokenRun, RowMismatch}
+use Rattle.run.specs.declared.Step.TheVariants.{Done, Stopped, Unlinked, Skip, Token}
+use Rattle.run.specs.Run.{StepAnswer, Input}
 use Rattle.machine.specs.File.{FileState, FileRule}
-use Rattle.machine.specs.Machine.{Given, Machine, current_state, lengths, fits, not_above, has, is_empty, is_live, Winner}
-use Rattle.machine.specs.Machine.{winner, first_or_longer, winner_of, id_in, Answered, answered, token, wins, chooses, step}
-use Rattle.machine.specs.Means.{length_at, Fitting, Misfit, Has, Live, Won, EntryOf, Means}
+use Rattle.machine.specs.Machine.{Given, Machine, current_state, lengths, fits, fits_here, has, is_empty, is_live, Winner}
+use Rattle.machine.specs.Machine.{winner, first_or_longer, winner_of, id_in, move, Answered, answered, token, wins, chooses, step}
+use Rattle.machine.specs.Means.{length_at, LengthFits, Fitting, Misfit, Has, Live, Won, EntryOf, Means}
 use Rattle.machine.proofs.Options.{some_is, none_some, place_inside}
 
 -- ---- live rules
@@ -93,39 +96,50 @@ some_fails test (l ∷ ls) e = go (test l) refl e (λ d. some_fails test ls d)
         let r = later d in
         (suc r.0, omega (arith, r.1), r.2)
 
+-- a length passes the machine's test exactly where it fits, on well-formed text
+module _ (g : Given) (m : Machine) (l : ℕ) where
+  length_fitting : JudgesEdges g.text → fits_here g m l ≡ true → LengthFits g m l
+  length_fitting judged e =
+      let both = and_parts (leb l (g.n - m.position)) (is_edge g.text (m.position + l)) e in
+      record { low = leb-true l (g.n - m.position) both.0; edge = judged.sound (m.position + l) both.1 }
+
+  length_passes : LengthFits g m l → fits_here g m l ≡ true
+  length_passes h = rw (le-leb l (g.n - m.position) h.low) (edge_complete g.text (m.position + l) h.edge)
+
 module _ (g : Given) (m : Machine) (i : Input) (off : m.position ≡ g.n → ⊥) where
   n : ℕ
   n = length g.file.rules
 
-  left : ℕ
-  left = g.n - m.position
+  test : ℕ → Bool
+  test = fits_here g m
 
-  pub row_fitting : fits (not_above (g.n - m.position)) (length g.file.rules) i.row ≡ true → Fitting g m i
-  unfolding fits n left
-  row_fitting e =
+  pub row_fitting : JudgesEdges g.text → fits (fits_here g m) (length g.file.rules) i.row ≡ true → Fitting g m i
+  unfolding fits n test
+  row_fitting judged e =
       let row : List ℕ = i.row in
       let size : length row ≡ n * 2 = eqb-true (length row) (n * 2) (and_parts (eqb (length row) (n * 2)) _ e).0 in
-      let pass : all (not_above left) (lengths row) ≡ true = (and_parts (eqb (length row) (n * 2)) _ e).1 in
+      let pass : all test (lengths row) ≡ true = (and_parts (eqb (length row) (n * 2)) _ e).1 in
       record {
         before = off;
         size = size;
-        low = λ k h.
+        each = λ k h.
             let here : k < length (lengths row) = omega (arith, lengths_count n row size, h) in
-            rw (← lengths-at row k (omega (arith, size, h))) (leb-true (get_or (lengths row) k 0) left (all-at (not_above left) (lengths row) 0 k pass here));
+            rw (← lengths-at row k (omega (arith, size, h)))
+            (length_fitting g m (get_or (lengths row) k 0) judged (all-at test (lengths row) 0 k pass here));
       }
 
-  pub misfits : fits (not_above (g.n - m.position)) (length g.file.rules) i.row ≡ false → Misfit g m i
-  unfolding fits n left
+  pub misfits : fits (fits_here g m) (length g.file.rules) i.row ≡ false → Misfit g m i
+  unfolding fits n test
   misfits e = go (eqb (length i.row) (n * 2)) refl e
     where
-      go : (t : Bool) → eqb (length i.row) (n * 2) ≡ t → t && all (not_above left) (lengths i.row) ≡ false → Misfit g m i
+      go : (t : Bool) → eqb (length i.row) (n * 2) ≡ t → t && all test (lengths i.row) ≡ false → Misfit g m i
       go false f d = inl (eqb-false (length i.row) (n * 2) f)
       go true f d =
           let row : List ℕ = i.row in
           let size : length row ≡ n * 2 = eqb-true (length row) (n * 2) f in
-          let r = some_fails (not_above left) (lengths row) d in
+          let r = some_fails test (lengths row) d in
           let h : r.0 < n = omega (arith, lengths_count n row size, r.1) in
-          inr (r.0, h, rw (← lengths-at row r.0 (omega (arith, size, h))) (leb-false (get_or (lengths row) r.0 0) left r.2))
+          inr (r.0, h, rw (← lengths-at row r.0 (omega (arith, size, h))) (λ q. true≢false (sym (length_passes g m (get_or (lengths row) r.0 0) q) ∙ r.2)))
 
 -- ---- the winner
 
@@ -265,13 +279,40 @@ module _ (g : Given) (m : Machine) (i : Input) where
         (λ z. (fitting, λ k x e l. omega (arith, has-length k x e, p.greatest k x e (live_says g m x l), eqb-true w.bytes 0 z), refl))
         (λ z. wins_means w (won w (omega (arith, eqb-false w.bytes 0 z)) p) w.rule.name refl)
 
-  pub means : Means g m i (step g m i).answer (step g m i).machine
+  pub means : JudgesEdges g.text → Means g m i (step g m i).answer (step g m i).machine
   unfolding step
-  means =
+  means judged =
       cond_both (eqb m.position g.n) (answered (Ok Done) m) _ Meant (λ e. (eqb-true m.position g.n e, refl))
-      (λ e. cond_both (fits (not_above (g.n - m.position)) (length g.file.rules) i.row) _ (answered (Err RowMismatch) m) Meant
+      (λ e. cond_both _ _ (answered (Err RowMismatch) m) Meant
       (λ f.
-      let fitting : Fitting g m i = row_fitting g m i (eqb-false m.position g.n e) f in
+      let fitting : Fitting g m i = row_fitting g m i (eqb-false m.position g.n e) judged f in
       let count = lengths_count (length g.file.rules) i.row fitting.size in
       chooses_means fitting _ (picked g.file.states (current_state m.stack) g.file.rules ls count))
       (λ f. (eqb-false m.position g.n e, misfits g m i (eqb-false m.position g.n e) f, refl)))
+
+  -- ---- where it ends
+
+  -- a move by a winner ends where its length does, at an edge
+  won_edge : (w : Winner) → Won g m i w → EdgeOf g.text (move w m).position
+  unfolding move
+  won_edge w h =
+      let fits : LengthFits g m (length_at i.row h.place) = h.fitting.each h.place (place_inside g.file.rules h.place w.rule h.rule) in
+      subst (λ (l : ℕ). EdgeOf g.text (m.position + l)) h.has fits.edge
+
+  moved : (next : Machine) (w : Winner) → Won g m i w → next ≡ move w m → EdgeOf g.text next.position
+  moved next w h q = subst (λ (x : Machine). EdgeOf g.text x.position) (sym q) (won_edge w h)
+
+  stayed : (next : Machine) → next ≡ m → EdgeOf g.text m.position → EdgeOf g.text next.position
+  stayed next q e = subst (λ (x : Machine). EdgeOf g.text x.position) (sym q) e
+
+  -- so from an edge the machine comes to an edge
+  pub edge_next : (a : StepAnswer) (next : Machine) → Means g m i a next → EdgeOf g.text m.position → EdgeOf g.text next.position
+  edge_next (Err BrokenSheet) next h e = absurd h
+  edge_next (Err TextMismatch) next h e = absurd h
+  edge_next (Err BrokenRun) next h e = absurd h
+  edge_next (Err RowMismatch) next h e = stayed next h.2 e
+  edge_next (Ok Done) next h e = stayed next h.1 e
+  edge_next (Ok Stopped) next h e = stayed next h.2 e
+  edge_next (Ok Unlinked) next h e = stayed next h.5 e
+  edge_next (Ok Skip) next h e = moved next h.0 h.1 h.3
+  edge_next (Ok (Token id start bytes)) next (w, won, name, named, entry, from, long, q) e = moved next w won q

@@ -9,7 +9,7 @@ use lib.ListN.{get_elem?}
 use Rattle.characters.proofs.Tests.{le_or_lt}
 use Rattle.name_map.specs.Map.{Entry}
 use Rattle.std.specs.Prelude.{Ok, Err}
-use Rattle.run.specs.declared.StepError.TheVariants.{BrokenSheet, BrokenRun, RowMismatch}
+use Rattle.run.specs.declared.StepError.TheVariants.{BrokenSheet, TextMismatch, BrokenRun, RowMismatch}
 use Rattle.run.specs.declared.Step.TheVariants.{Done, Stopped, Unlinked, Skip, Token}
 use Rattle.run.specs.Run.{StepAnswer, Input}
 use Rattle.machine.specs.Machine.{Given, Machine, Winner, winner, move, answered}
@@ -23,7 +23,7 @@ pub record Distinct (es : List Entry) : Type 0 where
 module _ (g : Given) (m : Machine) (i : Input) where
   fits_not : Fitting g m i → Misfit g m i → ⊥
   fits_not t (inl wrong) = wrong t.size
-  fits_not t (inr (k, h, more)) = omega (arith, t.low k h, more)
+  fits_not t (inr (k, h, off)) = off (t.each k h)
 
   won_not : (w : Winner) → Won g m i w → NoneMatches g m i → ⊥
   won_not w h z = omega (arith, z h.place w.rule h.rule h.live, h.has, h.some_bytes)
@@ -60,8 +60,10 @@ module _ (g : Given) (m : Machine) (i : Input) where
   module _ (distinct : Distinct g.map) where
     pub only : (a : StepAnswer) (x : Machine) (b : StepAnswer) (y : Machine) → Means g m i a x → Means g m i b y → answered a x ≡ answered b y
     only (Err BrokenSheet) x b y p q = absurd p
+    only (Err TextMismatch) x b y p q = absurd p
     only (Err BrokenRun) x b y p q = absurd p
     only (Ok Done) x (Err BrokenSheet) y p q = absurd q
+    only (Ok Done) x (Err TextMismatch) y p q = absurd q
     only (Ok Done) x (Err BrokenRun) y p q = absurd q
     only (Ok Done) x (Ok Done) y p q = ap (answered (Ok Done)) (p.1 ∙ sym q.1)
     only (Ok Done) x (Err RowMismatch) y p q = absurd (q.0 p.0)
@@ -70,6 +72,7 @@ module _ (g : Given) (m : Machine) (i : Input) where
     only (Ok Done) x (Ok Skip) y p q = absurd (q.1.fitting.before p.0)
     only (Ok Done) x (Ok (Token id start bytes)) y p q = absurd (q.1.fitting.before p.0)
     only (Err RowMismatch) x (Err BrokenSheet) y p q = absurd q
+    only (Err RowMismatch) x (Err TextMismatch) y p q = absurd q
     only (Err RowMismatch) x (Err BrokenRun) y p q = absurd q
     only (Err RowMismatch) x (Ok Done) y p q = absurd (p.0 q.0)
     only (Err RowMismatch) x (Err RowMismatch) y p q = ap (answered (Err RowMismatch)) (p.2 ∙ sym q.2)
@@ -78,6 +81,7 @@ module _ (g : Given) (m : Machine) (i : Input) where
     only (Err RowMismatch) x (Ok Skip) y p q = absurd (fits_not q.1.fitting p.1)
     only (Err RowMismatch) x (Ok (Token id start bytes)) y p q = absurd (fits_not q.1.fitting p.1)
     only (Ok Stopped) x (Err BrokenSheet) y p q = absurd q
+    only (Ok Stopped) x (Err TextMismatch) y p q = absurd q
     only (Ok Stopped) x (Err BrokenRun) y p q = absurd q
     only (Ok Stopped) x (Ok Done) y p q = absurd (p.0.before q.0)
     only (Ok Stopped) x (Err RowMismatch) y p q = absurd (fits_not p.0 q.1)
@@ -86,6 +90,7 @@ module _ (g : Given) (m : Machine) (i : Input) where
     only (Ok Stopped) x (Ok Skip) y p q = absurd (won_not q.0 q.1 p.1)
     only (Ok Stopped) x (Ok (Token id start bytes)) y p q = absurd (won_not q.0 q.1 p.1)
     only (Ok Unlinked) x (Err BrokenSheet) y p q = absurd q
+    only (Ok Unlinked) x (Err TextMismatch) y p q = absurd q
     only (Ok Unlinked) x (Err BrokenRun) y p q = absurd q
     only (Ok Unlinked) x (Ok Done) y p q = absurd (p.1.fitting.before q.0)
     only (Ok Unlinked) x (Err RowMismatch) y p q = absurd (fits_not p.1.fitting q.1)
@@ -95,6 +100,7 @@ module _ (g : Given) (m : Machine) (i : Input) where
     only (Ok Unlinked) x (Ok (Token id start bytes)) y (v, pv, n, nv, nobody, ev) (w, qw, k, nw, (j, e, at, is, id_is), from, long, ew) =
         absurd (nobody id (j, e, at, is ∙ sym (same_name v w pv qw n k nv nw), id_is))
     only (Ok Skip) x (Err BrokenSheet) y p q = absurd q
+    only (Ok Skip) x (Err TextMismatch) y p q = absurd q
     only (Ok Skip) x (Err BrokenRun) y p q = absurd q
     only (Ok Skip) x (Ok Done) y p q = absurd (p.1.fitting.before q.0)
     only (Ok Skip) x (Err RowMismatch) y p q = absurd (fits_not p.1.fitting q.1)
@@ -103,6 +109,7 @@ module _ (g : Given) (m : Machine) (i : Input) where
     only (Ok Skip) x (Ok Skip) y p q = ap (answered (Ok Skip)) (moved_same p.0 q.0 p.1 q.1 x y p.3 q.3)
     only (Ok Skip) x (Ok (Token id start bytes)) y p q = absurd (name_not p.0 q.0 p.1 q.1 p.2 q.2 q.3)
     only (Ok (Token id start bytes)) x (Err BrokenSheet) y p q = absurd q
+    only (Ok (Token id start bytes)) x (Err TextMismatch) y p q = absurd q
     only (Ok (Token id start bytes)) x (Err BrokenRun) y p q = absurd q
     only (Ok (Token id start bytes)) x (Ok Done) y p q = absurd (p.1.fitting.before q.0)
     only (Ok (Token id start bytes)) x (Err RowMismatch) y p q = absurd (fits_not p.1.fitting q.1)

@@ -1,10 +1,10 @@
--- One step call on a run that is as the machine has it: the run passes its check, the current state is the machine's, and the scan's winner is the
--- machine's, so that the call leaves what the machine does.
+-- One step call, given the machine's text, on a run that is as the machine has it: text and run pass their checks, the current state is the machine's,
+-- and the scan's winner is the machine's, so that the call leaves what the machine does.
 use mathlib.Core.Path.{◌≡◌, refl, sym, ap, ◌∙◌}
 use mathlib.Core.Bool.{Bool, true, false, cond}
 use mathlib.Core.List.{List, map}
 use mathlib.Core.Option.{Option, none, some}
-use Prim.Native.Nat.{ℕ, ◌*◌, ◌-◌, ◌≤◌, ◌<◌}
+use Prim.Native.Nat.{ℕ, ◌*◌, ◌≤◌, ◌<◌}
 use native.Mathlib.Omega.{arith}
 use borrow.Author.Tests.{eq-eqb, eqb-false}
 use lib.Dec.{eqb}
@@ -18,11 +18,12 @@ use Rattle.link.proofs.Outcomes.{link_count, link_at}
 use Rattle.winner.specs.Winner.{weight, greatest, earliest, best}
 use Rattle.winner.proofs.Winning.{greatest_low}
 use Rattle.std.specs.Prelude.{Ok, Err}
+use Rattle.input_check.specs.InputCheck.{good_text, length_fits}
 use Rattle.run.specs.declared.StepError.TheVariants.{RowMismatch}
 use Rattle.run.specs.declared.Step.TheVariants.{Done, Stopped}
 use Rattle.run.specs.Run.{StepAnswer, running, current, Input, RunLeft, run_left, good_run, won_by, choose, step_row, step_run, lexer_of}
 use Rattle.machine.specs.File.{FileRule, file_state, file_rule, file_in}
-use Rattle.machine.specs.Machine.{Given, Machine, current_state, lengths, fits, not_above, Winner, winner, winner_of, Answered, wins, chooses, step}
+use Rattle.machine.specs.Machine.{Given, Machine, current_state, lengths, fits, fits_here, Winner, winner, winner_of, Answered, wins, chooses, step}
 use Rattle.machine.proofs.Laid.{left_as}
 use Rattle.machine.specs.Demand.{run_as}
 use Rattle.machine.proofs.Meanings.{lengths_count, Picks, picked}
@@ -37,9 +38,9 @@ by_same_test : (n : ℕ) (b : List ℕ) (t : Bool) (x y : RunLeft StepAnswer) (p
 by_same_test n b true x y p q f k = f refl
 by_same_test n b false x y p q f k = k refl
 
-module _ (name : Rule → List ℕ) (c : Contents) (es : List Entry) (limit n : ℕ) (sound : Sound c) where
+module _ (name : Rule → List ℕ) (c : Contents) (es : List Entry) (limit n : ℕ) (text : List ℕ) (formed : good_text n text ≡ true) (sound : Sound c) where
   abbrev g : Given
-  g = record { file = file_in name c; map = es; limit = limit; n = n }
+  g = record { file = file_in name c; map = es; limit = limit; n = n; text = text }
 
   module _ (size : ℕ) (m : Machine) (b : List ℕ) (h : Runs g size m b) where
     -- the run passes its check
@@ -84,7 +85,7 @@ module _ (name : Rule → List ℕ) (c : Contents) (es : List Entry) (limit n : 
 
     -- the test of a length, how many rules there are, and the current state
     abbrev test : ℕ → Bool
-    test = not_above (n - m.position)
+    test = fits_here g m
 
     abbrev count : ℕ
     count = length c.rules
@@ -102,9 +103,9 @@ module _ (name : Rule → List ℕ) (c : Contents) (es : List Entry) (limit n : 
         chooses_as i.row fit (omega (arith, eqb-false m.position n e, (numbers g size m b h).inside)) _
         (picked (map file_state c.states) state (map (file_rule name c) c.rules) (lengths i.row) same)
 
-    pub step_as : (i : Input) → step_run (linked_lexer name es c) (running (run_as n m) b) i ≡ left_as n b (step g m i)
-    unfolding step_run step step_row
-    step_as i =
-        rw (run_good, length-map c.rules (file_rule name c), link_count name es c.rules, row_same test count i.row, weights_as i.row)
+    pub step_as : (i : Input) → i.text ≡ text → step_run (linked_lexer name es c) (running (run_as n m) b) i ≡ left_as n b (step g m i)
+    unfolding step_run step step_row length_fits
+    step_as i same =
+        rw (same, formed, run_good, length-map c.rules (file_rule name c), link_count name es c.rules, row_same test count i.row, weights_as i.row)
         (by_same_test n b (eqb m.position n) _ _ _ _ (λ _. still_as n m b h.begins (Ok Done))
         (λ e. by_same_test n b (fits test count i.row) _ _ _ _ (chosen i e) (λ _. still_as n m b h.begins (Err RowMismatch))))

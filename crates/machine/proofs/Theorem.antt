@@ -16,14 +16,17 @@ use Rattle.parsed_sheet.proofs.Decoding.{accepted_decodes, accepted_checks, answ
 use Rattle.parsed_sheet.proofs.Growing.{accepted_meaning}
 use Rattle.name_map.specs.Map.{Entry, entries_of}
 use Rattle.winner.specs.Winner.{Lexer}
+use Rattle.characters.proofs.Decoding.{utf8_judges}
+use Rattle.input_check.specs.InputCheck.{EdgeOf}
+use Rattle.input_check.proofs.Edges.{edges_judged, start_edge, text_formed}
 use Rattle.run.specs.Run.{StartAnswer, start_accepted, Running, most_bytes, put_state, Input, RunLeft, leaving, run_left, first_run, start_call}
 use Rattle.run_laws.specs.Calls.{calls, EachCall}
 use Rattle.run_laws.specs.Always.{SoundRun, SoundCall, AlwaysHolds}
-use Rattle.run_laws.proofs.Started.{start_small, start_long, start_left}
+use Rattle.run_laws.proofs.Started.{start_text, start_small, start_long, start_left}
 use Rattle.run_laws.proofs.Always.{always}
 use Rattle.machine.specs.File.{File, file_state, name_at, file_in, file_by, file_of}
 use Rattle.machine.specs.Machine.{Given, fresh}
-use Rattle.machine.specs.Demand.{AsMachine, Follows, sheet_parsed, link_left_of, linked_sheet, start_left_of, session_file, session_map, DemandHolds}
+use Rattle.machine.specs.Demand.{AsMachine, Follows, sheet_parsed, link_left_of, linked_sheet, start_left_of, session_file, session_map, given, AllOver, session_calls, DemandHolds}
 use Rattle.machine.proofs.Laid.{stack_as, running_as}
 use Rattle.machine.proofs.Stacks.{Begins, laid_bottom, laid_begins}
 use Rattle.machine.proofs.Relinking.{relink}
@@ -34,52 +37,57 @@ use Rattle.machine.proofs.Places.{place_next, place_first}
 use Rattle.machine.proofs.Operations.{linked_lexer}
 use Rattle.machine.proofs.Reading.{Sound}
 use Rattle.machine.proofs.Whole.{Sheet, as_machine, sheet_calls, AllSound, follows}
+use Rattle.machine.proofs.Characters.{whole_characters}
 
 -- ---- the start
 
-module _ (n : ℕ) (x : Running) (started : (start_call n x).answer ≡ start_accepted) where
+module _ (n : ℕ) (text : List ℕ) (x : Running) (started : (start_call n text x).answer ≡ start_accepted) where
   -- state 0 alone at the bottom
   first_as : put_state x.stack 0 0 ≡ stack_as x.stack fresh
-  first_as = laid_bottom x.stack 0 (omega (arith, start_long n x started))
+  first_as = laid_bottom x.stack 0 (omega (arith, start_long n text x started))
 
   -- it leaves the machine's first run
-  start_as : start_call n x ≡ leaving start_accepted (running_as n x.stack fresh)
-  start_as = start_left n x started ∙ ap (run_left start_accepted (first_run n)) first_as
+  start_as : start_call n text x ≡ leaving start_accepted (running_as n x.stack fresh)
+  start_as = start_left n text x started ∙ ap (run_left start_accepted (first_run n)) first_as
 
   start_begins : Begins fresh.stack (stack_as x.stack fresh)
-  start_begins = laid_begins x.stack fresh.stack (omega (arith, start_long n x started))
+  start_begins = laid_begins x.stack fresh.stack (omega (arith, start_long n text x started))
 
 -- ---- the calls
 
 -- the calls on a sheet with the linked rules follow the machine, from an accepted start on
 module _ (name : Rule → List ℕ) (c : Contents) (es : List Entry) (limit : ℕ) (sound : Sound c) (differ : Distinct es)
-    (b : SheetBytes) (sheet : Sheet name c es b) (n : ℕ) (x : Running) (started : (start_call n x).answer ≡ start_accepted) (is : List Input) where
+    (b : SheetBytes) (sheet : Sheet name c es b) (n : ℕ) (text : List ℕ) (x : Running) (started : (start_call n text x).answer ≡ start_accepted)
+    (is : List Input) (over : AllOver text is) where
   abbrev Followed : File → List Entry → RunLeft StartAnswer → Type 0
   Followed f map left =
-      let g : Given = record { file = f; map = map; limit = limit; n = n } in
+      let g : Given = record { file = f; map = map; limit = limit; n = n; text = text } in
       AsMachine g fresh [] x.stack left.after × Follows g x.stack fresh [] is (calls b left.after is)
 
-  followed : Followed (file_in name c) es (start_call n x)
+  followed : Followed (file_in name c) es (start_call n text x)
   unfolding AlwaysHolds
   followed =
-      let g : Given = record { file = file_in name c; map = es; limit = limit; n = n } in
+      let g : Given = record { file = file_in name c; map = es; limit = limit; n = n; text = text } in
       let size : ℕ = length x.stack in
       let first : List ℕ = stack_as x.stack fresh in
       let states : length (decoded b).states ≡ length g.file.states =
       ap (λ (l : Lexer). length l.states) sheet.reads ∙ sym (length-map c.states file_state) in
-      let w = always b sheet.checks n x started is in
-      let sound-first = subst (λ (k : ℕ). SoundRun k n size (start_call n x).after) states w.first in
-      let sound-each = subst (λ (k : ℕ). EachCall (SoundCall k n size) (start_call n x).after (calls b (start_call n x).after is)) states w.each in
-      let left = start_as n x started in
+      let w = always b sheet.checks n text x started is in
+      let sound-first = subst (λ (k : ℕ). SoundRun k n size (start_call n text x).after) states w.first in
+      let sound-each = subst (λ (k : ℕ). EachCall (SoundCall k n size) (start_call n text x).after (calls b (start_call n text x).after is)) states w.each in
+      let left = start_as n text x started in
+      let formed = start_text n text x started in
+      let judged = edges_judged text (text_formed n text formed) in
+      let edge : EdgeOf text 0 = start_edge text ((utf8_judges text).sound (text_formed n text formed)) in
       let runs : Runs g size fresh first = record {
         sound = subst (λ (z : RunLeft StartAnswer). SoundAs g size z.after) left sound-first;
-        begins = start_begins n x started;
+        begins = start_begins n text x started;
       } in
       let each = subst (λ (z : RunLeft StartAnswer). AllSound g size z.after (calls b z.after is)) left sound-each in
       let places = place_next [] fresh.stack x.stack x.stack (place_first x.stack) in
       subst⁻¹ (Followed (file_in name c) es) left (
-        as_machine g fresh [] x.stack first runs places,
-        follows g differ b (sheet_calls name c es limit n sound b sheet) x.stack is fresh [] first runs places each,
+        as_machine g fresh [] x.stack first runs places edge,
+        follows g judged differ b (sheet_calls name c es limit n text formed sound b sheet) x.stack is over fresh [] first runs places edge each,
       )
 
 -- ---- the demand
@@ -96,7 +104,7 @@ file_is asked k c e = ap (file_by asked.source) (accepted_meaning asked k c e)
 
 pub demand : DemandHolds
 unfolding DemandHolds AlwaysHolds
-demand q ok is =
+demand q ok is over =
     let name : Rule → List ℕ = name_at q.request.source in
     let got = answer_accepted q.request q.capacities ok.parsed in
     let c : Contents = got.0 in
@@ -116,15 +124,16 @@ demand q ok is =
           ∙ ap (λ (f : Rule → List ℕ). linked_lexer f es c) (name_same (sheet_parsed q));
     } in
     let Met : File → List Entry → Type 0 =
-    λ f map. Followed name c es most_bytes sound link.differ b sheet q.n q.running ok.started is f map (start_left_of q) in
-    let by-file : Met (file_in name c) es = followed name c es most_bytes sound link.differ b sheet q.n q.running ok.started is in
+    λ f map. Followed name c es most_bytes sound link.differ b sheet q.n q.text q.running ok.started is over f map (start_left_of q) in
+    let by-file : Met (file_in name c) es = followed name c es most_bytes sound link.differ b sheet q.n q.text q.running ok.started is over in
     let met : Met (session_file q) (session_map q) = subst (Met (session_file q)) maps (subst⁻¹ (λ (f : File). Met f es) same by-file) in
-    let w = always b link.checks q.n q.running ok.started is in
+    let w = always b link.checks q.n q.text q.running ok.started is in
     record {
-      small = start_small q.n q.running ok.started;
+      small = start_small q.n q.text q.running ok.started;
       first = met.0;
       each = met.1;
       cover = w.cover;
       once = w.once;
+      whole = whole_characters (given q) q.running.stack is (session_calls q is) fresh [] met.1 met.0.edge;
       few = w.few;
     }

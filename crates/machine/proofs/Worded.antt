@@ -19,9 +19,10 @@ use Rattle.link.specs.declared.LinkError.TheVariants as L
 use Rattle.name_map.specs.Map.{Entry}
 use Rattle.link.specs.Link.{LinkAnswer, linked_answer, link_fields, link_word}
 use Rattle.std.specs.Prelude.{Ok, Err}
-use Rattle.run.specs.declared.StepError.TheVariants.{BrokenSheet, BrokenRun, RowMismatch}
+use Rattle.run.specs.declared.StartError.TheVariants as Start
+use Rattle.run.specs.declared.StepError.TheVariants.{BrokenSheet, TextMismatch, BrokenRun, RowMismatch}
 use Rattle.run.specs.declared.Step.TheVariants.{Done, Stopped, Unlinked, Skip, Token}
-use Rattle.run.specs.Run.{StartAnswer, start_accepted, start_refused, StepAnswer, Running, Input, RunLeft}
+use Rattle.run.specs.Run.{StartAnswer, start_accepted, StepAnswer, Running, Input, RunLeft}
 use Rattle.run.specs.Run.{step_call, start_fields, start_word, view, view_fields, step_fields, step_word}
 use Rattle.run.proofs.RunWords.{step_tells}
 use Rattle.run_laws.specs.Calls.{calls}
@@ -56,7 +57,8 @@ link_zero (Err (L.AreaFull Area.Unused)) e = absurd (omega (arith, e))
 start_zero : (x : StartAnswer) → start_word x ≡ 0 → x ≡ start_accepted
 unfolding start_fields
 start_zero (Ok _) e = refl
-start_zero (Err _) e = absurd (omega (arith, e))
+start_zero (Err Start.StartRefused) e = absurd (omega (arith, e))
+start_zero (Err Start.TextMismatch) e = absurd (omega (arith, e))
 
 accepts : (q : Session) → AcceptsInWords q → Accepts q
 accepts q h =
@@ -88,6 +90,7 @@ means_small : (g : Given) (m : Machine) (i : Input) (a : StepAnswer) (next : Mac
     → TwoBytes (step_fields a)
 unfolding view view_fields
 means_small g m i (Err BrokenSheet) next h l e = absurd e
+means_small g m i (Err TextMismatch) next h l e = absurd e
 means_small g m i (Err BrokenRun) next h l e = absurd e
 means_small g m i (Err RowMismatch) next h l e = no_values row_mismatch_number (omega arith)
 means_small g m i (Ok Done) next h l e = no_values done_number (omega arith)
@@ -95,7 +98,7 @@ means_small g m i (Ok Stopped) next h l e = no_values stopped_number (omega arit
 means_small g m i (Ok Unlinked) next h l e = no_values unlinked_number (omega arith)
 means_small g m i (Ok Skip) next h l e = no_values skip_number (omega arith)
 means_small g m i (Ok (Token id start bytes)) next h l (w, won, name, named, (j, x, at, same, is), from, long, _) =
-    let low = won.fitting.low won.place (place_inside g.file.rules won.place w.rule won.rule) in
+    let low = (won.fitting.each won.place (place_inside g.file.rules won.place w.rule won.rule)).low in
     two_bytes token_number id start bytes (omega arith) (omega (arith, is, l j x at))
     (omega (arith, from, low, won.has, won.some_bytes, h)) (omega (arith, long, low, won.has, h))
 
@@ -120,8 +123,8 @@ same_words b (i ∷ is) x = let o : RunLeft StepAnswer = step_call b x i in ap (
 
 pub in_words : InWordsHolds
 unfolding InWordsHolds DemandHolds
-in_words q bytes h is =
-    let d = demand q (accepts q h) is in
+in_words q bytes h is over =
+    let d = demand q (accepts q h) is over in
     let b : SheetBytes = linked_sheet (sheet_parsed q) (link_left_of q) in
     let ids = ids_low q.names q.entries bytes in
     record {

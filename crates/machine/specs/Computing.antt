@@ -16,14 +16,15 @@ use Rattle.parsed_sheet.specs.Computing.{computing as parsed-sheet-computing}
 use Rattle.name_map.specs.Computing.{computing as name-map-computing}
 use Rattle.link.specs.Computing.{computing as link-computing}
 use Rattle.winner.specs.Computing.{computing as winner-computing}
+use Rattle.input_check.specs.Computing.{computing as input-check-computing}
 use Rattle.run.specs.Computing.{computing as run-computing}
-use Rattle.machine.specs.Demand.{last_held, Follows, DemandHolds}
+use Rattle.machine.specs.Demand.{last_held, Follows, OfCharacters, AllOver, DemandHolds}
 use Rattle.machine.specs.File.{operation_by, name_at, name_from, map_of, file_of}
 use Rattle.machine.specs.Machine.{lengths, fits, has, is_empty, is_live, first_or_longer, winner_of, id_in, operate, move, token, wins, chooses, step}
 use Rattle.machine.specs.Words.{FollowsInWords, calls_in_words, InWordsHolds}
 
 unfoldable demand_file : Unit {0}
-unfolding last_held Follows DemandHolds
+unfolding last_held Follows OfCharacters AllOver DemandHolds
 demand_file = tt
 
 unfoldable file_file : Unit {0}
@@ -43,7 +44,7 @@ unfolding characters-computing text-computing area-computing fault-computing sec
 part = tt
 
 unfoldable part_2 : Unit {0}
-unfolding sheet-check-computing parsed-sheet-computing name-map-computing link-computing winner-computing run-computing demand_file file_file machine_file words_file
+unfolding sheet-check-computing parsed-sheet-computing name-map-computing link-computing winner-computing input-check-computing run-computing demand_file file_file machine_file words_file
 part_2 = tt
 
 unfoldable pub computing : Unit {0}

@@ -1,5 +1,5 @@
--- Demand 3: one statement about a whole list of step calls, from an accepted parse, an accepted link and an accepted start. Where the link's map
--- holds all rule names no answer is 'unlinked'; all else holds of any map (01, The run machine).
+-- Demand 3: one statement about a whole list of step calls, from an accepted parse, an accepted link and an accepted start, each step given the text of
+-- the start. Where the link's map holds all rule names no answer is 'unlinked'; all else holds of any map (01, The run machine; 02, 2/13).
 use Rattle.std.specs.Prelude.{ℕ, ◌+◌, ◌*◌, ◌/◌, ◌%◌, ◌≤◌, ◌<◌, ◌≡◌, cond, List, [], ◌∷◌, ltb, length, get_or, Ok, Err}
 use Rattle.std.proofs.Math.Option.{Option, none, some}
 use Rattle.std.proofs.Math.ListN.{get_elem?}
@@ -9,12 +9,13 @@ use Rattle.sheet_check.specs.SheetCheck.{SheetBytes, sheet_bytes}
 use Rattle.parsed_sheet.specs.Accepted.{sheet_left_by}
 use Rattle.name_map.specs.Map.{Entry}
 use Rattle.link.specs.Link.{linked_answer, LinkLeft, link_call}
-use Rattle.run.specs.declared.StepError.TheVariants.{BrokenSheet, BrokenRun}
+use Rattle.input_check.specs.InputCheck.{EdgeOf}
+use Rattle.run.specs.declared.StepError.TheVariants.{BrokenSheet, TextMismatch, BrokenRun}
 use Rattle.run.specs.declared.Step.TheVariants.{Unlinked}
 use Rattle.run.specs.declared.Run.{Run}
 use Rattle.run.specs.Run.{StartAnswer, start_accepted, StepAnswer, Running, most_bytes, Input, RunLeft, start_call}
 use Rattle.run_laws.specs.Calls.{calls, last_position}
-use Rattle.run_laws.specs.Pieces.{pieces, Adjoin, covered}
+use Rattle.run_laws.specs.Pieces.{Piece, pieces, Adjoin, covered}
 use Rattle.machine.specs.File.{FileRule, File, map_of, file_of}
 use Rattle.machine.specs.Machine.{Given, Machine, fresh, current_state, answered, step}
 use Rattle.machine.specs.Means.{EntryOf, Means}
@@ -39,12 +40,14 @@ PlaceHolds (some v) p s b = (get_or b (p * 2) 0 ≡ v % 256) × (get_or b (p * 2
 abbrev pub run_as : ℕ → Machine → Run
 run_as n m = record { n = n; position = m.position; depth = length m.stack; moves = m.moves }
 
--- the run x and its stack's bytes are as the machine has them, which held these stacks before; and the current state is declared
+-- the run x and its stack's bytes are as the machine has them, which held these stacks before; the current state is declared, and the position is at
+-- the edge of a character
 pub record AsMachine (g : Given) (m : Machine) (held : List (List ℕ)) (s : List ℕ) (x : Running) : Type 0 where
   pub run : x.run ≡ run_as g.n m
   pub places : (p : ℕ) → PlaceHolds (last_held p (m.stack ∷ held)) p s x.stack
   pub size : length x.stack ≡ length s
   pub declared : current_state m.stack < length g.file.states
+  pub edge : EdgeOf g.text m.position
 
 -- ---- each call
 
@@ -52,10 +55,11 @@ pub record AsMachine (g : Given) (m : Machine) (held : List (List ℕ)) (s : Lis
 pub record MapHolds (f : File) (es : List Entry) : Type 0 where
   pub holds : (k : ℕ) (x : FileRule) (name : List ℕ) → get_elem? f.rules k ≡ some x → x.name ≡ some name → (id : ℕ) × EntryOf es name id
 
--- the answer is neither 6 nor 9, nor 'unlinked' where the map holds all rule names
+-- the answer is none of 6, 9 and 12, nor 'unlinked' where the map holds all rule names
 pub record Allowed (g : Given) (a : StepAnswer) : Type 0 where
   pub not_6 : a ≡ Err BrokenSheet → ⊥
   pub not_9 : a ≡ Err BrokenRun → ⊥
+  pub not_12 : a ≡ Err TextMismatch → ⊥
   pub not_unlinked : MapHolds g.file g.map → a ≡ Ok Unlinked → ⊥
 
 -- a call that left o: its answer is the machine's; this and what the machine holds then mean what they should, and nothing else would; and the run
@@ -76,6 +80,11 @@ Follows g s m held (i ∷ is) (o ∷ os) = Call g s m held i o × Follows g s (s
 
 -- ---- the demand
 
+-- each piece starts at the edge of a character and ends at one, so that its bytes are whole characters (02, 2/13)
+unfoldable pub OfCharacters : List ℕ → List Piece → Type 0
+OfCharacters text [] = Unit {0}
+OfCharacters text (x ∷ xs) = (EdgeOf text x.start × EdgeOf text (x.start + x.bytes)) × OfCharacters text xs
+
 -- of step calls with these inputs that left os, after a start call that left f, over a stack whose bytes were s before it
 pub record Demand (g : Given) (s : List ℕ) (f : RunLeft StartAnswer) (is : List Input) (os : List (RunLeft StepAnswer)) : Type 0 where
   -- n is within the limit, and at first the run is as the machine has it
@@ -87,6 +96,8 @@ pub record Demand (g : Given) (s : List ℕ) (f : RunLeft StartAnswer) (is : Lis
   pub cover : Adjoin 0 (pieces 0 os) (last_position f.after os)
   -- so each of these bytes is covered once, and no other
   pub once : (x : ℕ) → covered x (pieces 0 os) ≡ cond (ltb x (last_position f.after os)) 1 0
+  -- each of them is of whole characters
+  pub whole : OfCharacters g.text (pieces 0 os)
   -- at most n calls move
   pub few : length (pieces 0 os) ≤ g.n
 
@@ -101,6 +112,7 @@ pub record Session : Type 0 where
   pub area7 : List ℕ
   pub area8 : List ℕ
   pub n : ℕ
+  pub text : List ℕ
   pub running : Running
 
 -- the sheet that the parse call left
@@ -117,7 +129,7 @@ linked_sheet b l = sheet_bytes b.source b.area1 l.area2 b.area3 b.area4 b.area5 
 
 -- what the start call left
 abbrev pub start_left_of : Session → RunLeft StartAnswer
-start_left_of q = start_call q.n q.running
+start_left_of q = start_call q.n q.text q.running
 
 -- the file and the map, by their bytes alone
 abbrev pub session_file : Session → File
@@ -126,9 +138,9 @@ session_file q = file_of q.request
 abbrev pub session_map : Session → List Entry
 session_map q = map_of q.names q.entries
 
--- what the machine is given: the file, flags and verdicts by what they mean, the map and n; and the limit of n, which 01 sets at 4,096
+-- what the machine is given: the file, flags and verdicts by what they mean, the map, n and the text; and the limit of n, which 01 sets at 4,096
 abbrev pub given : Session → Given
-given q = record { file = session_file q; map = session_map q; limit = most_bytes; n = q.n }
+given q = record { file = session_file q; map = session_map q; limit = most_bytes; n = q.n; text = q.text }
 
 -- the file, the link and the start are accepted
 pub record Accepts (q : Session) : Type 0 where
@@ -142,6 +154,12 @@ pub record Accepts (q : Session) : Type 0 where
 abbrev pub session_calls : Session → List Input → List (RunLeft StepAnswer)
 session_calls q is = calls (linked_sheet (sheet_parsed q) (link_left_of q)) (start_left_of q).after is
 
--- the demand, of every session whose calls are accepted and of every list of rows
+-- each step is given this text
+unfoldable pub AllOver : List ℕ → List Input → Type 0
+AllOver text [] = Unit {0}
+AllOver text (i ∷ is) = (i.text ≡ text) × AllOver text is
+
+-- the demand, of every session whose calls are accepted and of every list of rows given with the text of the start
 unfoldable pub DemandHolds : Type 0
-DemandHolds = (q : Session) → Accepts q → (is : List Input) → Demand (given q) q.running.stack (start_left_of q) is (session_calls q is)
+DemandHolds = (q : Session) → Accepts q → (is : List Input) → AllOver q.text is
+    → Demand (given q) q.running.stack (start_left_of q) is (session_calls q is)

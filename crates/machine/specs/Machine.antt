@@ -1,6 +1,8 @@
--- The run machine (01, The run machine). It is given a file's states and rules, a map, n and the limit of n, and reads neither sheet nor run.
+-- The run machine (01, The run machine; 02, 2/13). It is given a file's states and rules, a map, n, the limit of n and the entry's text, and reads
+-- neither sheet nor run.
 use Rattle.std.specs.Prelude.{ℕ, ◌+◌, ◌*◌, ◌-◌, Bool, true, false, cond, not, ◌&&◌, ◌||◌, List, [], ◌∷◌, ◌++◌, eqb, ltb, leb, length, get_or, take, Ok, Err}
 use Rattle.std.proofs.Math.Option.{Option, none, some}
+use Rattle.characters.specs.Utf8.{is_edge}
 use Rattle.text.specs.Range.{same_bytes}
 use Rattle.area.specs.Lists.{all}
 use Rattle.name_map.specs.Map.{Entry}
@@ -17,6 +19,7 @@ pub record Given : Type 0 where
   pub map : List Entry
   pub limit : ℕ
   pub n : ℕ
+  pub text : List ℕ
 
 -- the last of the stack is the current state
 pub record Machine : Type 0 where
@@ -39,6 +42,10 @@ unfoldable pub lengths : List ℕ → List ℕ
 lengths [] = []
 lengths (low ∷ []) = []
 lengths (low ∷ high ∷ row) = (low + high * 256) ∷ lengths row
+
+-- a length is not above what is left, and position plus length is at the edge of a character of the text (02, 2/13)
+abbrev pub fits_here : Given → Machine → ℕ → Bool
+fits_here g m l = leb l (g.n - m.position) && is_edge g.text (m.position + l)
 
 -- two bytes for each rule, and each length passes the test
 unfoldable pub fits : (ℕ → Bool) → ℕ → List ℕ → Bool
@@ -133,15 +140,11 @@ unfoldable pub chooses : Given → Option Winner → Machine → Answered
 chooses g none m = answered (Ok Stopped) m
 chooses g (some w) m = cond (eqb w.bytes 0) (answered (Ok Stopped) m) (wins g w.rule.name w m)
 
--- a length is not above what is left
-abbrev pub not_above : ℕ → ℕ → Bool
-not_above left l = leb l left
-
 -- 'done' at n; 10 where the row does not fit; both change nothing; else by the winner
 unfoldable pub step : Given → Machine → Input → Answered
 step g m i =
     let f = g.file in
     cond (eqb m.position g.n) (answered (Ok Done) m)
-    (cond (fits (not_above (g.n - m.position)) (length f.rules) i.row)
+    (cond (fits (fits_here g m) (length f.rules) i.row)
     (chooses g (winner_of f.states (current_state m.stack) f.rules (lengths i.row)) m)
     (answered (Err RowMismatch) m))

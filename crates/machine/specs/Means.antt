@@ -1,10 +1,11 @@
--- What an answer of the run machine means, and the machine that is next, in 01's words (01, The run machine). The winner is stated here: by every
--- live rule of the file, and not by how a machine looks for it.
+-- What an answer of the run machine means, and the machine that is next, in 01's words (01, The run machine; 02, 2/13). The winner is stated here: by
+-- every live rule of the file, and not by how a machine looks for it. So is where a length may end: by the characters of the text, and not by its bytes.
 use Rattle.std.specs.Prelude.{ℕ, ◌+◌, ◌*◌, ◌-◌, ◌≤◌, ◌<◌, ◌≡◌, false, List, [], ◌⊎◌, length, get_or, Ok, Err}
 use Rattle.std.proofs.Math.Option.{none, some}
 use Rattle.std.proofs.Math.ListN.{get_elem?}
 use Rattle.name_map.specs.Map.{Entry}
-use Rattle.run.specs.declared.StepError.TheVariants.{BrokenSheet, BrokenRun, RowMismatch}
+use Rattle.input_check.specs.InputCheck.{EdgeOf}
+use Rattle.run.specs.declared.StepError.TheVariants.{BrokenSheet, TextMismatch, BrokenRun, RowMismatch}
 use Rattle.run.specs.declared.Step.TheVariants.{Done, Stopped, Unlinked, Skip, Token}
 use Rattle.run.specs.Run.{StepAnswer, Input}
 use Rattle.machine.specs.File.{FileRule}
@@ -16,17 +17,22 @@ use Rattle.machine.specs.Machine.{Given, Machine, current_state, is_exclusive, W
 abbrev pub length_at : List ℕ → ℕ → ℕ
 length_at row k = get_or row (k * 2) 0 + get_or row (k * 2 + 1) 0 * 256
 
--- the position is not n, and the input's row fits: two bytes for each rule, and no length above what is left
+-- a length fits: it is not above what is left, and position plus length is at the edge of a character of the text
+pub record LengthFits (g : Given) (m : Machine) (l : ℕ) : Type 0 where
+  pub low : l ≤ g.n - m.position
+  pub edge : EdgeOf g.text (m.position + l)
+
+-- the position is not n, and the input's row fits: two bytes for each rule, and every length fits
 pub record Fitting (g : Given) (m : Machine) (i : Input) : Type 0 where
   pub before : m.position ≡ g.n → ⊥
   pub size : length i.row ≡ length g.file.rules * 2
-  pub low : (k : ℕ) → k < length g.file.rules → length_at i.row k ≤ g.n - m.position
+  pub each : (k : ℕ) → k < length g.file.rules → LengthFits g m (length_at i.row k)
 
--- the row has another size, or some rule's length is above what is left
+-- the row has another size, or some rule's length does not fit
 abbrev pub Misfit : Given → Machine → Input → Type 0
 Misfit g m i =
     (length i.row ≡ length g.file.rules * 2 → ⊥)
-    ⊎ ((k : ℕ) × (k < length g.file.rules) × (g.n - m.position < length_at i.row k))
+    ⊎ ((k : ℕ) × (k < length g.file.rules) × (LengthFits g m (length_at i.row k) → ⊥))
 
 -- ---- the winner
 
@@ -61,9 +67,10 @@ EntryOf es name id = (j : ℕ) × (e : Entry) × (get_elem? es j ≡ some e) × 
 
 -- ---- the answers
 
--- what an answer means of the machine m, an input, and the machine that is next; 6 and 9 the machine never gives
+-- what an answer means of the machine m, an input, and the machine that is next; 6, 9 and 12 the machine never gives
 abbrev pub Means : Given → Machine → Input → StepAnswer → Machine → Type 0
 Means g m i (Err BrokenSheet) next = ⊥
+Means g m i (Err TextMismatch) next = ⊥
 Means g m i (Err BrokenRun) next = ⊥
 Means g m i (Ok Done) next = (m.position ≡ g.n) × (next ≡ m)
 Means g m i (Err RowMismatch) next = (m.position ≡ g.n → ⊥) × Misfit g m i × (next ≡ m)

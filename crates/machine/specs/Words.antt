@@ -10,7 +10,7 @@ use Rattle.troymantle.specs.Words.{LeftInWords, in_words}
 use Rattle.troymantle.specs.LinkWords.{LinkInWords, in_link_words}
 use Rattle.troymantle.specs.RunWords.{start_in_words, step_in_words}
 use Rattle.machine.specs.Machine.{Given, Machine, fresh, step}
-use Rattle.machine.specs.Demand.{AsMachine, Demand, Session, start_left_of, given, session_calls}
+use Rattle.machine.specs.Demand.{AsMachine, Demand, Session, start_left_of, given, AllOver, session_calls}
 
 -- what the exported parse call gives back
 abbrev pub parse_gives : Session → LeftInWords
@@ -34,7 +34,7 @@ linked_given q =
 
 -- what the exported start call gives back
 abbrev pub start_gives : Session → RunLeft ℕ
-start_gives q = start_in_words (start_call q.n q.running)
+start_gives q = start_in_words (start_call q.n q.text q.running)
 
 -- the file, the link and the start are accepted, by the numbers in the words
 pub record AcceptsInWords (q : Session) : Type 0 where
@@ -74,4 +74,4 @@ pub record InWords (q : Session) (is : List Input) : Type 0 where
 
 -- for every map of bytes
 unfoldable pub InWordsHolds : Type 0
-InWordsHolds = (q : Session) → AllBytes q.entries → AcceptsInWords q → (is : List Input) → InWords q is
+InWordsHolds = (q : Session) → AllBytes q.entries → AcceptsInWords q → (is : List Input) → AllOver q.text is → InWords q is

@@ -25,14 +25,16 @@ use Rattle.winner.proofs.Winning.{winner_inside, weights_low}
 use Rattle.winner.proofs.Topping.{none_won, one_won}
 use Rattle.run.specs.declared.Run.{Run}
 use Rattle.run.specs.declared.After.{After}
-use Rattle.run.specs.declared.StepError.TheVariants.{BrokenSheet, BrokenRun, RowMismatch}
+use Rattle.run.specs.declared.StepError.TheVariants.{BrokenSheet, TextMismatch, BrokenRun, RowMismatch}
 use Rattle.run.specs.declared.Step.TheVariants.{Done, Stopped}
-use Rattle.run.specs.Run.{most_bytes, stack_bytes, Running, running, Input, input, current, put_state, RunLeft, leaving}
-use Rattle.run.specs.Run.{run_left, StepAnswer, start_accepted, start_refused, first_run, start_call, good_start}
+use Rattle.run.specs.Run.{most_bytes, stack_bytes, Running, running, Input, current, put_state, RunLeft, leaving}
+use Rattle.run.specs.Run.{run_left, StepAnswer, start_accepted, start_refused, start_text_mismatch, first_run, start_call, good_start}
 use Rattle.run.specs.Run.{good_run, fits_in, won_by, choose, lexer_of, step_row, step_run, step_call}
-use Rattle.run.specs.Phrases.{Inside}
+use Rattle.run.specs.Phrases.{Inside, within_left}
 use Rattle.winner.specs.Top.{good_row, RowFits}
 use Rattle.winner.proofs.Fitting.{row-length}
+use Rattle.input_check.specs.InputCheck.{good_text}
+use Rattle.input_check.proofs.Rows.{row_low}
 use Rattle.run.proofs.Fitting.{GoodNumbers, run_is}
 
 -- what a run and an answer beside it leave
@@ -42,21 +44,25 @@ left_with {A} x a r s y p q e = (λ i. run_left (p i) (q i) s) ∙ e
 
 -- ---- the start call
 
-module _ (n : ℕ) (r : Run) (s : List ℕ) where
-  pub start_long : most_bytes < n → run_left start_refused r s ≡ start_call n (running r s)
+module _ (n : ℕ) (text : List ℕ) (r : Run) (s : List ℕ) where
+  pub start_long : most_bytes < n → run_left start_refused r s ≡ start_call n text (running r s)
   unfolding start_call good_start
   start_long h = rw (lt-leb n most_bytes h)
 
-  pub start_short : length s < stack_bytes n → run_left start_refused r s ≡ start_call n (running r s)
+  pub start_short : length s < stack_bytes n → run_left start_refused r s ≡ start_call n text (running r s)
   unfolding start_call good_start
   start_short h = rw (lt-leb (stack_bytes n) (length s) h, and-false)
 
-  pub start_good : (e : List ℕ) → n ≤ most_bytes → stack_bytes n ≤ length s → e ≡ put_state s 0 0
-      → run_left start_accepted (first_run n) e ≡ start_call n (running r s)
-  unfolding start_call good_start
-  start_good e h g q = rw (le-leb n most_bytes h, le-leb (stack_bytes n) (length s) g, q)
+  module _ (h : n ≤ most_bytes) (g : stack_bytes n ≤ length s) (t : Bool) (is : t ≡ good_text n text) where
+    pub start_misfit : t ≡ false → run_left start_text_mismatch r s ≡ start_call n text (running r s)
+    unfolding start_call good_start
+    start_misfit e = rw (le-leb n most_bytes h, le-leb (stack_bytes n) (length s) g, ← is, e)
 
-pub ruleset starting = (rules, start_long, start_short, start_good)
+    pub start_good : t ≡ true → (e : List ℕ) → e ≡ put_state s 0 0 → run_left start_accepted (first_run n) e ≡ start_call n text (running r s)
+    unfolding start_call good_start
+    start_good f e q = rw (le-leb n most_bytes h, le-leb (stack_bytes n) (length s) g, ← is, f, q)
+
+pub ruleset starting = (rules, start_long, start_short, start_misfit, start_good)
 
 -- ---- a row that fits
 
@@ -68,7 +74,7 @@ module _ (lexer : Lexer) (r : Run) (s : List ℕ) (x : Row) (state : ℕ) (top :
   g = running r s
 
   abbrev after_row : RunLeft StepAnswer
-  after_row = step_row lexer g (input x.bytes.now)
+  after_row = step_row lexer g x.bytes.now
 
   row_choice : choose lexer g won ≡ after_row
   unfolding step_row
@@ -122,48 +128,58 @@ move_inside r bytes space g h l = record {
 pub short_of : (states : ℕ) (r : Run) (s : List ℕ) → good_run states (running r s) ≡ true → (r.position ≡ r.n → ⊥) → r.position < r.n
 short_of states r s e h = omega (arith, (run_is states r s e).inside, h)
 
-module _ (b : SheetBytes) (z : Sizes) (of : z ≡ sizes_of b) (r : Run) (s : List ℕ) (row : List ℕ) (t : Bool)
+-- a text that does not fit
+pub run_misfit : (x : Lexer) (r : Run) (s : List ℕ) (i : Input) → good_text r.n i.text ≡ false
+    → run_left (Err TextMismatch) r s ≡ step_run x (running r s) i
+unfolding step_run
+run_misfit x r s i e = rw e
+
+module _ (b : SheetBytes) (z : Sizes) (of : z ≡ sizes_of b) (r : Run) (s : List ℕ) (i : Input) (formed : good_text r.n i.text ≡ true) (t : Bool)
     (is : t ≡ good_run z.states (running r s)) where
   abbrev after_check : RunLeft StepAnswer
-  after_check = step_run (lexer_of (decoded b)) (running r s) (input row)
+  after_check = step_run (lexer_of (decoded b)) (running r s) i
+
+  abbrev fits : ℕ → Bool
+  fits = fits_in i.text r
 
   ran : good_run (length (decoded b).states) (running r s) ≡ t
   ran = ap (λ (m : ℕ). good_run m (running r s)) (states_count b ∙ ap (λ (y : Sizes). y.states) (sym of)) ∙ sym is
 
   pub run_refused : t ≡ false → run_left (Err BrokenRun) r s ≡ after_check
   unfolding step_run
-  run_refused e = rw (ran, e)
+  run_refused e = rw (formed, ran, e)
 
   pub run_done : t ≡ true → r.position ≡ r.n → run_left (Ok Done) r s ≡ after_check
   unfolding step_run
-  run_done e h = rw (ran, e, eq-eqb r.position r.n h)
+  run_done e h = rw (formed, ran, e, eq-eqb r.position r.n h)
 
   module _ (e : t ≡ true) (h : r.position ≡ r.n → ⊥) where
     counted : length (decoded b).rules ≡ z.rules
     counted = rules_count b ∙ ap (λ (y : Sizes). y.rules) (sym of)
 
-    rowed : good_row (fits_in r) (length (decoded b).rules) row ≡ good_row (fits_in r) z.rules row
-    rowed = ap (λ (m : ℕ). good_row (fits_in r) m row) counted
+    rowed : good_row fits (length (decoded b).rules) i.row ≡ good_row fits z.rules i.row
+    rowed = ap (λ (m : ℕ). good_row fits m i.row) counted
 
-    pub run_ill : good_row (fits_in r) z.rules row ≡ false → run_left (Err RowMismatch) r s ≡ after_check
+    pub run_ill : good_row fits z.rules i.row ≡ false → run_left (Err RowMismatch) r s ≡ after_check
     unfolding step_run
-    run_ill g = rw (ran, e, ne_eqb r.position r.n h, rowed, g)
+    run_ill g = rw (formed, ran, e, ne_eqb r.position r.n h, rowed, g)
 
-    module _ (x : Row) (fits : RowFits (fits_in r) z.rules row x) (lexer : Lexer) (made : lexer ≡ lexer_of (decoded b)) where
+    module _ (x : Row) (read : RowFits fits z.rules i.row x) (lexer : Lexer) (made : lexer ≡ lexer_of (decoded b)) where
       pub lexer_run : good_run (length lexer.states) (running r s) ≡ true
       lexer_run = ap (λ (y : Lexer). good_run (length y.states) (running r s)) made ∙ ran ∙ e
 
-      pub lexer_row : RowFits (fits_in r) (length lexer.rules) x.bytes.now x
+      pub lexer_row : RowFits (within_left r) (length lexer.rules) x.bytes.now x
       lexer_row =
+          let low : RowFits (within_left r) z.rules i.row x = row_low i.text (r.n - r.position) r.position z.rules i.row x read in
           let n : length lexer.rules ≡ z.rules = ap (λ (y : Lexer). length y.rules) made ∙ counted in
-          let there : RowFits (fits_in r) (length lexer.rules) row x = subst (λ (m : ℕ). RowFits (fits_in r) m row x) (sym n) fits in
-          subst (λ (l : List ℕ). RowFits (fits_in r) (length lexer.rules) l x) (sym fits.bytes_are) there
+          let there : RowFits (within_left r) (length lexer.rules) i.row x = subst (λ (m : ℕ). RowFits (within_left r) m i.row x) (sym n) low in
+          subst (λ (l : List ℕ). RowFits (within_left r) (length lexer.rules) l x) (sym read.bytes_are) there
 
-      pub run_row : (y : RunLeft StepAnswer) → y ≡ step_row lexer (running r s) (input x.bytes.now) → y ≡ after_check
+      pub run_row : (y : RunLeft StepAnswer) → y ≡ step_row lexer (running r s) x.bytes.now → y ≡ after_check
       unfolding step_run
       run_row y q =
-          rw (ran, e, ne_eqb r.position r.n h, rowed, fits.good)
-          (q ∙ ap (λ (l : List ℕ). step_row lexer (running r s) (input l)) fits.bytes_are ∙ ap (λ (v : Lexer). step_row v (running r s) (input row)) made)
+          rw (formed, ran, e, ne_eqb r.position r.n h, rowed, read.good)
+          (q ∙ ap (step_row lexer (running r s)) read.bytes_are ∙ ap (λ (v : Lexer). step_row v (running r s) i.row) made)
 
 -- ---- the sheet
 

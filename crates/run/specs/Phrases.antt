@@ -1,8 +1,17 @@
 -- What the contracts of the code speak of: what a function may rely on.
-use Rattle.std.specs.Prelude.{ℕ, ◌+◌, ◌*◌, ◌≤◌}
+use Rattle.std.specs.Prelude.{ℕ, ◌+◌, ◌*◌, ◌-◌, ◌≤◌, Bool, leb}
 use Rattle.area.specs.Records.{entry_width}
 use Rattle.run.specs.declared.Run.{Run}
-use Rattle.run.specs.Run.{most_bytes, moves_of}
+use Rattle.run.specs.declared.LentInput.{LentInput}
+use Rattle.run.specs.Run.{Input, input, most_bytes, moves_of}
+
+-- what a step is given beside the sheet and the run, as it is lent
+abbrev pub lent_input : LentInput → Input
+lent_input i = input i.text.now i.row.now
+
+-- a length is not above the bytes that are left
+abbrev pub within_left : Run → ℕ → Bool
+within_left r l = leb l (r.n - r.position)
 
 -- a stack of so many bytes is not empty and has room for a push
 pub record HasRoom (r : Run) (space : ℕ) : Type 0 where

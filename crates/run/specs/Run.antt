@@ -1,4 +1,4 @@
--- A run as a call takes it, and what the start call and the step call do (01, The run, and Numbers given at the counter, 6, 8, 9, 10).
+-- A run as a call takes it, and what the start call and the step call do (01, The run, and Numbers given at the counter, 6, 8, 9, 10; 02, 2/13).
 use Rattle.std.specs.Prelude.{ℕ, ◌+◌, ◌*◌, ◌-◌, Bool, cond, ◌&&◌, List, eqb, leb, length, Result, Ok, Err}
 use Rattle.std.proofs.lemmas.List.Edits.{sets}
 use Rattle.area.specs.declared.Rule.{Rule}
@@ -6,7 +6,7 @@ use Rattle.area.specs.Bytes.{two}
 use Rattle.area.specs.Lists.{all}
 use Rattle.area.specs.Records.{entry_at, nth_rule, entry_width}
 use Rattle.area.specs.Contents.{contents, entry_format}
-use Rattle.answers.specs.Numbers.{accepted_number, start_refused_number, broken_sheet_number, broken_run_number, row_mismatch_number}
+use Rattle.answers.specs.Numbers.{accepted_number, start_refused_number, text_mismatch_number, broken_sheet_number, broken_run_number, row_mismatch_number}
 use Rattle.answers.specs.Numbers.{done_number, stopped_number, unlinked_number, skip_number, token_number}
 use Rattle.answers.specs.Words.{Fields, fields, word}
 use Rattle.parse.specs.Parse.{Contents}
@@ -14,10 +14,12 @@ use Rattle.sheet_check.specs.SheetCheck.{SheetBytes, decoded, sheet_check, decla
 use Rattle.winner.specs.declared.Best.{Best}
 use Rattle.winner.specs.Winner.{Lexer, weight, best}
 use Rattle.winner.specs.Top.{good_row}
+use Rattle.input_check.specs.InputCheck.{good_text, length_fits}
 use Rattle.run.specs.declared.Run.{Run}
-use Rattle.run.specs.declared.StartRefused.{StartRefused}
+use Rattle.run.specs.declared.StartError.{StartError}
+use Rattle.run.specs.declared.StartError.TheVariants.{StartRefused, TextMismatch as StartTextMismatch}
 use Rattle.run.specs.declared.StepError.{StepError}
-use Rattle.run.specs.declared.StepError.TheVariants.{BrokenSheet, BrokenRun, RowMismatch}
+use Rattle.run.specs.declared.StepError.TheVariants.{BrokenSheet, TextMismatch, BrokenRun, RowMismatch}
 use Rattle.run.specs.declared.Step.{Step}
 use Rattle.run.specs.declared.Step.TheVariants.{Done, Stopped, Unlinked, Skip, Token}
 
@@ -53,12 +55,13 @@ current g = entry_at g.stack (g.run.depth - 1)
 
 -- ---- what a call is given, and what it leaves
 
--- what a step is given beside the sheet and the run: a length for each rule
+-- what a step is given beside the sheet and the run: the entry's text, and a length for each rule (01, The run; 02, 2/13)
 pub record Input : Type 0 where
+  pub text : List ℕ
   pub row : List ℕ
 
-abbrev pub input : List ℕ → Input
-input row = record { row = row }
+abbrev pub input : List ℕ → List ℕ → Input
+input text row = record { text = text; row = row }
 
 -- what a call leaves: its answer, and the run afterwards
 pub record RunLeft (A : Type 0) : Type 0 where
@@ -73,13 +76,16 @@ run_left a r s = leaving a (running r s)
 
 -- what the start call answers: that the run began, or that it is refused
 abbrev pub StartAnswer : Type 0
-StartAnswer = Result (Unit {0}) StartRefused
+StartAnswer = Result (Unit {0}) StartError
 
 abbrev pub start_accepted : StartAnswer
 start_accepted = Ok tt
 
 abbrev pub start_refused : StartAnswer
-start_refused = Err (record {})
+start_refused = Err StartRefused
+
+abbrev pub start_text_mismatch : StartAnswer
+start_text_mismatch = Err StartTextMismatch
 
 -- what the step call answers: what the step does, or why it is refused
 abbrev pub StepAnswer : Type 0
@@ -95,9 +101,12 @@ first_run n = record { n = n; position = 0; depth = 1; moves = 0 }
 unfoldable pub good_start : ℕ → List ℕ → Bool
 good_start n s = leb n most_bytes && leb (stack_bytes n) (length s)
 
--- accepted, only the first entry of the stack is changed; refused, nothing is
-unfoldable pub start_call : ℕ → Running → RunLeft StartAnswer
-start_call n g = cond (good_start n g.stack) (run_left start_accepted (first_run n) (put_state g.stack 0 0)) (leaving start_refused g)
+-- 8, then 12; accepted, only the first entry of the stack is changed; refused, nothing is (01, The run; 02, 2/13)
+unfoldable pub start_call : ℕ → List ℕ → Running → RunLeft StartAnswer
+start_call n text g =
+    cond (good_start n g.stack)
+    (cond (good_text n text) (run_left start_accepted (first_run n) (put_state g.stack 0 0)) (leaving start_text_mismatch g))
+    (leaving start_refused g)
 
 -- ---- the tests of the step call
 
@@ -112,9 +121,9 @@ good_numbers g =
 unfoldable pub good_run : ℕ → Running → Bool
 good_run states g = good_numbers g && all (declared states) (contents entry_format g.stack g.run.depth)
 
--- a length is not above the bytes that are left
-abbrev pub fits_in : Run → ℕ → Bool
-fits_in r l = leb l (r.n - r.position)
+-- a length is not above the bytes that are left, and ends at an edge of the text (01, Numbers given at the counter, 10; 02, 2/13)
+abbrev pub fits_in : List ℕ → Run → ℕ → Bool
+fits_in text r = length_fits text (r.n - r.position) r.position
 
 -- ---- a move
 
@@ -161,17 +170,19 @@ module _ (x : Lexer) (g : Running) where
   choose b = cond (eqb b.length 0) (leaving (Ok Stopped) g) (won_by g (nth_rule x.rules b.rule) b.length)
 
   -- a row that fits
-  unfoldable pub step_row : Input → RunLeft StepAnswer
-  step_row i = choose (best (weight x (current g) i.row) (length x.rules))
+  unfoldable pub step_row : List ℕ → RunLeft StepAnswer
+  step_row row = choose (best (weight x (current g) row) (length x.rules))
 
-  -- 9, 'done', 10, then the winner
+  -- 12, 9, 'done', 10, then the winner
   unfoldable pub step_run : Input → RunLeft StepAnswer
   step_run i =
-      cond (good_run (length x.states) g)
+      cond (good_text g.run.n i.text)
+      (cond (good_run (length x.states) g)
       (cond (eqb g.run.position g.run.n)
       (leaving (Ok Done) g)
-      (cond (good_row (fits_in g.run) (length x.rules) i.row) (step_row i) (leaving (Err RowMismatch) g)))
-      (leaving (Err BrokenRun) g)
+      (cond (good_row (fits_in i.text g.run) (length x.rules) i.row) (step_row i.row) (leaving (Err RowMismatch) g)))
+      (leaving (Err BrokenRun) g))
+      (leaving (Err TextMismatch) g)
 
 -- what a step reads of the contents of a sheet
 abbrev pub lexer_of : Contents → Lexer
@@ -186,7 +197,8 @@ step_call b g i = cond (sheet_check b) (step_run (lexer_of (decoded b)) g i) (le
 -- the number of each answer, and its values (01, Numbers given at the counter)
 unfoldable pub start_fields : StartAnswer → Fields
 start_fields (Ok _) = fields accepted_number 0 0 0
-start_fields (Err _) = fields start_refused_number 0 0 0
+start_fields (Err StartRefused) = fields start_refused_number 0 0 0
+start_fields (Err StartTextMismatch) = fields text_mismatch_number 0 0 0
 
 -- an answer of the step by what it does: it stays, by the number that says why; it skips; or it gives a token, with its id, start and length
 pub data View : Type 0 where
@@ -196,6 +208,7 @@ pub data View : Type 0 where
 
 unfoldable pub view : StepAnswer → View
 view (Err BrokenSheet) = stays broken_sheet_number
+view (Err TextMismatch) = stays text_mismatch_number
 view (Err BrokenRun) = stays broken_run_number
 view (Err RowMismatch) = stays row_mismatch_number
 view (Ok Done) = stays done_number

@@ -26,23 +26,37 @@ pub struct Run {
     pub moves: u16,
 }
 
-// What the start call refuses: number 8 of 01.
-#[derive(Clone, Copy, PartialEq, Eq, Debug)]
-pub struct StartRefused;
+// What a step is given beside the sheet and the run: the entry's text, and the row, two bytes for the length of each rule.
+#[derive(Clone, Copy)]
+pub struct LentInput<'a> {
+    pub text: &'a [u8],
+    pub row: &'a [u8],
+}
 
-impl From<StartRefused> for Number {
-    ghost from_gives = { λ refused number. fields (number_of number) 0 0 0 ≡ start_fields (Err refused) };
+// What the start call refuses: number 8 of 01, and 12 of 02.
+#[derive(Clone, Copy, PartialEq, Eq, Debug)]
+pub enum StartError {
+    StartRefused,
+    TextMismatch,
+}
+
+impl From<StartError> for Number {
+    ghost from_gives = { λ error number. fields (number_of number) 0 0 0 ≡ start_fields (Err error) };
 
     #[tactic(auto, unfolding(crate::specs::Run::start_fields))]
-    fn from(_refused: StartRefused) -> Number {
-        Number::StartRefused
+    fn from(error: StartError) -> Number {
+        match error {
+            StartError::StartRefused => Number::StartRefused,
+            StartError::TextMismatch => Number::TextMismatch,
+        }
     }
 }
 
-// What the step call refuses: numbers 6, 9 and 10 of 01. An enum of its own, for an error of three kinds is no `Option`.
+// What the step call refuses: numbers 6, 9 and 10 of 01, and 12 of 02. An enum of its own, for an error of several kinds is no `Option`.
 #[derive(Clone, Copy, PartialEq, Eq, Debug)]
 pub enum StepError {
     BrokenSheet,
+    TextMismatch,
     BrokenRun,
     RowMismatch,
 }
@@ -55,6 +69,7 @@ impl From<StepError> for Number {
     fn from(error: StepError) -> Number {
         match error {
             StepError::BrokenSheet => Number::BrokenSheet,
+            StepError::TextMismatch => Number::TextMismatch,
             StepError::BrokenRun => Number::BrokenRun,
             StepError::RowMismatch => Number::RowMismatch,
         }

@@ -11,6 +11,12 @@ enum Command {
     Link,
     // `count K VALUE`: another count of the sheet.
     Count,
+    // `text TEXT`: another text.
+    Text,
+    // `fill BYTES`: the text cut, or `a`s behind it.
+    Fill,
+    // `damage K VALUE`: another byte of the text.
+    Damage,
     // `start N BYTES`: over an entry of N bytes, with so many bytes of the stack.
     Start,
     // `put K ID`: another entry of the stack.
@@ -30,6 +36,9 @@ fn command_of(line: &[u8]) -> Option<Command> {
     match line.first()? {
         b'l' => Some(Command::Link),
         b'c' => Some(Command::Count),
+        b't' => Some(Command::Text),
+        b'f' => Some(Command::Fill),
+        b'd' => Some(Command::Damage),
         b's' => Some(Command::Start),
         b'p' => Some(Command::Put),
         b'n' => Some(Command::Numbers),
@@ -52,6 +61,18 @@ pub fn answer(sheet: &mut Sheet, runs: &mut Runs, line: &[u8]) -> Outcome {
         Command::Link => sheet.link(fields).into(),
         Command::Count => {
             sheet.set_count(number(0), number(1));
+            Outcome::Changed
+        }
+        Command::Text => {
+            runs.set_text(line.strip_prefix(b"text ").unwrap_or(b""));
+            Outcome::Changed
+        }
+        Command::Fill => {
+            runs.fill(number(0));
+            Outcome::Changed
+        }
+        Command::Damage => {
+            runs.damage(number(0), number(1));
             Outcome::Changed
         }
         Command::Start => runs.start(number(0), number(1)).into(),

@@ -2,7 +2,7 @@
 use answers::Number;
 use link::{LinkError, Linked};
 use parse::{FileCounts, ParseError};
-use run::{StartRefused, Step, StepError};
+use run::{StartError, Step, StepError};
 use std::fmt;
 
 // Each number with a blank before it.
@@ -78,11 +78,11 @@ impl From<Result<Linked, LinkError>> for Outcome {
     }
 }
 
-impl From<Result<(), StartRefused>> for Outcome {
-    fn from(answer: Result<(), StartRefused>) -> Outcome {
+impl From<Result<(), StartError>> for Outcome {
+    fn from(answer: Result<(), StartError>) -> Outcome {
         match answer {
             Ok(_) => Outcome::Started,
-            Err(refused) => Outcome::Refused(refused.into()),
+            Err(error) => Outcome::Refused(error.into()),
         }
     }
 }

@@ -1,14 +1,16 @@
-// A run with its stack. The stack would do for an entry of 4,097 bytes, so that a run can be broken by n alone.
+// A run with its stack, and the entry's text. They would do for an entry of 4,097 bytes, so that a run can be broken by n alone.
 use crate::numbers::number_at;
 use crate::printing::Listed;
 use crate::sheet::Sheet;
+use arrayvec::ArrayVec;
 use run::call::start;
-use run::{Run, StartRefused, Step, StepError};
+use run::{LentInput, Run, StartError, Step, StepError};
 use std::fmt;
 
 #[derive(Drop)]
 pub struct Runs {
     pub run: Run,
+    text: ArrayVec<u8, 4097>,
     stack: [u8; 8196],
 }
 
@@ -16,14 +18,37 @@ impl Runs {
     pub fn new() -> Self {
         Runs {
             run: Run::default(),
+            text: ArrayVec::new(),
             stack: [0; 8196],
         }
     }
 
+    // Another text; of one that is too long nothing is kept.
+    pub fn set_text(&mut self, text: &[u8]) {
+        self.text.truncate(0);
+        let _ = self.text.try_extend_from_slice(text);
+    }
+
+    // The text cut to so many bytes, or with as many `a`s behind it; 4,097 are the most.
+    pub fn fill(&mut self, bytes: u16) {
+        self.text.truncate(bytes as usize);
+        let filling = [b'a'; 4097];
+        let more = filling.get(self.text.len()..bytes as usize);
+        let _ = self.text.try_extend_from_slice(more.unwrap_or(&[]));
+    }
+
+    // Another byte of the text.
+    pub fn damage(&mut self, k: u16, value: u16) {
+        if let Some(byte) = self.text.get_mut(k as usize) {
+            *byte = (value % 256) as u8;
+        }
+    }
+
     // Over an entry of n bytes, with so many bytes of the stack, or all of it.
-    pub fn start(&mut self, n: u16, bytes: u16) -> Result<(), StartRefused> {
+    pub fn start(&mut self, n: u16, bytes: u16) -> Result<(), StartError> {
         let most = self.stack.len().min(bytes as usize);
-        let begun = start(n as u64, self.run, &mut self.stack[..most]);
+        let stack = &mut self.stack[..];
+        let begun = start(n as u64, &self.text, self.run, &mut stack[..most]);
         self.run = begun.run;
         begun.answer
     }
@@ -31,7 +56,12 @@ impl Runs {
     // With so many bytes of the stack, or all of it.
     pub fn step(&mut self, sheet: &Sheet, bytes: u16, row: &[u8]) -> Result<Step, StepError> {
         let most = self.stack.len().min(bytes as usize);
-        let stepped = sheet.step(self.run, &mut self.stack[..most], row);
+        let input = LentInput {
+            text: &self.text,
+            row,
+        };
+        let stack = &mut self.stack[..];
+        let stepped = sheet.step(self.run, &mut stack[..most], input);
         self.run = stepped.run;
         stepped.answer
     }

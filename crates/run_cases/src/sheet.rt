@@ -4,7 +4,7 @@ use link::{LinkError, Linked};
 use parse::call::parse;
 use parse::{FileCounts, ParseError, counts_left};
 use run::call::step;
-use run::{After, Run, Step, StepError};
+use run::{After, LentInput, Run, Step, StepError};
 
 #[derive(Drop)]
 pub struct Sheet<'a> {
@@ -70,7 +70,12 @@ impl<'a> Sheet<'a> {
         }
     }
 
-    pub fn step(&self, run: Run, stack: &mut [u8], row: &[u8]) -> After<Result<Step, StepError>> {
+    pub fn step(
+        &self,
+        run: Run,
+        stack: &mut [u8],
+        input: LentInput,
+    ) -> After<Result<Step, StepError>> {
         let sheet = sheet_check::Sheet {
             source: self.source,
             states: &self.area1,
@@ -80,6 +85,6 @@ impl<'a> Sheet<'a> {
             expected: &self.area5,
             counts: &self.counts,
         };
-        step(sheet, run, stack, row)
+        step(sheet, run, stack, input)
     }
 }

@@ -62,10 +62,10 @@ module _ (b : SheetBytes) (passed : sheet_check b ≡ true) where
           moves = omega (arith, c.moves, s.moves, length-append here behind);
         }
 
-  first_sound : (n : ℕ) (x : Running) → (start_call n x).answer ≡ start_accepted
+  first_sound : (n : ℕ) (text : List ℕ) (x : Running) → (start_call n text x).answer ≡ start_accepted
       → SoundRun states n (length x.stack) (running (first_run n) (put_state x.stack 0 0))
-  first_sound n x ok =
-      let good = first_good n x ok states (omega (arith, states_count b, (checked_counts b passed).0)) in
+  first_sound n text x ok =
+      let good = first_good n text x ok states (omega (arith, states_count b, (checked_counts b passed).0)) in
       record {
         good = good;
         declared = current_declared states (first_run n) (put_state x.stack 0 0) good;
@@ -75,17 +75,17 @@ module _ (b : SheetBytes) (passed : sheet_check b ≡ true) where
 
 pub always : AlwaysHolds
 unfolding AlwaysHolds
-always b passed n x ok is =
+always b passed n text x ok is =
     let first : Running = running (first_run n) (put_state x.stack 0 0) in
     let os : List (RunLeft StepAnswer) = calls b first is in
     let states : ℕ = length (decoded b).states in
     let bytes : ℕ = length x.stack in
-    let h = first_sound b passed n x ok in
+    let h = first_sound b passed n text x ok in
     let s = sums b passed n bytes is first h in
     let keeps = run_kept b passed n bytes in
     let end : SoundRun states n bytes (last_running first os) = calls_last b (SoundRun states n bytes) keeps is first h in
     let g = run_is states (last_running first os).run (last_running first os).stack end.good in
-    subst⁻¹ (λ (f : RunLeft StartAnswer). Always b n x.stack f.after (calls b f.after is)) (start_left n x ok)
+    subst⁻¹ (λ (f : RunLeft StartAnswer). Always b n x.stack f.after (calls b f.after is)) (start_left n text x ok)
     (record {
       first = h;
       each = calls_each b (SoundRun states n bytes) keeps (SoundCall states n bytes) (call_sound b passed n bytes) is first h;

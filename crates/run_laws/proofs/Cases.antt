@@ -10,12 +10,14 @@ use lib.ListN.{length}
 use Rattle.std.proofs.lemmas.Bool.{cond_both}
 use Rattle.area.specs.declared.Rule.{Rule}
 use Rattle.area.specs.Records.{nth_rule}
-use Rattle.answers.specs.Numbers.{broken_sheet_number, broken_run_number, row_mismatch_number, done_number, stopped_number, unlinked_number}
+use Rattle.answers.specs.Numbers.{broken_sheet_number, broken_run_number, row_mismatch_number, text_mismatch_number, done_number, stopped_number, unlinked_number}
 use Rattle.sheet_check.specs.SheetCheck.{SheetBytes, decoded, sheet_check}
 use Rattle.winner.specs.Winner.{Lexer, live, length_in, weight, greatest, earliest}
 use Rattle.winner.proofs.Winning.{earliest_has, winner_inside, weights_low}
 use Rattle.std.specs.Prelude.{Ok, Err}
-use Rattle.run.specs.declared.StepError.TheVariants.{RowMismatch}
+use Rattle.input_check.specs.InputCheck.{good_text}
+use Rattle.input_check.proofs.Rows.{fits_low}
+use Rattle.run.specs.declared.StepError.TheVariants.{TextMismatch, RowMismatch}
 use Rattle.run.specs.declared.Step.TheVariants.{Done, Stopped, Unlinked, Skip, Token}
 use Rattle.run.specs.Run.{StepAnswer, Running, current, Input, RunLeft, leaving, good_run, fits_in}
 use Rattle.run.specs.Run.{move_by, won_by, choose, step_row, step_run, lexer_of, step_call, stays, view}
@@ -47,7 +49,7 @@ weighs : (t : Bool) (bytes : ℕ) → (cond t bytes 0 ≡ 0 → ⊥) → (t ≡ 
 weighs true bytes h = (refl, refl)
 weighs false bytes h = absurd (h refl)
 
-wins : (c : Lexer) (x : Running) (i : Input) → good_row (fits_in x.run) (length c.rules) i.row ≡ true
+wins : (c : Lexer) (x : Running) (i : Input) → good_row (fits_in i.text x.run) (length c.rules) i.row ≡ true
     → (greatest (weight c (current x) i.row) (length c.rules) ≡ 0 → ⊥)
     → Wins c x i (earliest (weight c (current x) i.row) (length c.rules)) (greatest (weight c (current x) i.row) (length c.rules))
 unfolding weight
@@ -64,7 +66,8 @@ wins c x i fits some =
       is_live = w.0;
       has = w.1 ∙ has;
       some = omega (arith, some);
-      left = weights_low c (current x) i.row left n (λ j h. leb-true (length_in i.row j) left (row-length (fits_in x.run) n i.row fits j h));
+      left = weights_low c (current x) i.row left n
+          (λ j h. leb-true (length_in i.row j) left (fits_low i.text left x.run.position (length_in i.row j) (row-length (fits_in i.text x.run) n i.row fits j h)));
     }
 
 -- ---- the call
@@ -83,7 +86,7 @@ module _ (c : Lexer) (x : Running) (i : Input) (P : RunLeft StepAnswer → Type 
       (λ _. still (Ok Unlinked) unlinked_number refl (omega arith)))
       (λ e. holds.skipped k bytes w (eqb-false r.named 1 e))
 
-  row_cases : good_row (fits_in x.run) (length c.rules) i.row ≡ true → P (step_row c x i)
+  row_cases : good_row (fits_in i.text x.run) (length c.rules) i.row ≡ true → P (step_row c x i.row)
   unfolding step_row choose view
   row_cases fits =
       let f : ℕ → ℕ = weight c (current x) i.row in
@@ -95,9 +98,11 @@ module _ (c : Lexer) (x : Running) (i : Input) (P : RunLeft StepAnswer → Type 
   unfolding step_run view
   run_cases good =
       rw good
-      (cond_both (eqb x.run.position x.run.n) _ _ P (λ _. still (Ok Done) done_number refl (omega arith))
-      (λ _. cond_both (good_row (fits_in x.run) (length c.rules) i.row) _ _ P row_cases
+      (cond_both (good_text x.run.n i.text) _ _ P
+      (λ _. cond_both (eqb x.run.position x.run.n) _ _ P (λ _. still (Ok Done) done_number refl (omega arith))
+      (λ _. cond_both (good_row (fits_in i.text x.run) (length c.rules) i.row) _ _ P row_cases
       (λ _. still (Err RowMismatch) row_mismatch_number refl (omega arith))))
+      (λ _. still (Err TextMismatch) text_mismatch_number refl (omega arith)))
 
 pub call_cases : (b : SheetBytes) → sheet_check b ≡ true → (x : Running) → good_run (length (decoded b).states) x ≡ true
     → (i : Input) (P : RunLeft StepAnswer → Type 0)

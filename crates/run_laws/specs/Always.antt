@@ -38,8 +38,8 @@ pub record Always (b : SheetBytes) (n : ℕ) (s : List ℕ) (x : Running) (os : 
   pub moves : moves_of (last_running x os).run ≡ length (pieces 0 os)
   pub few : length (pieces 0 os) ≤ n
 
--- of every sheet that passes the check, every accepted start and every list of inputs
+-- of every sheet that passes the check, every accepted start and every list of inputs, whatever their texts
 unfoldable pub AlwaysHolds : Type 0
 AlwaysHolds = (b : SheetBytes) → sheet_check b ≡ true
-    → (n : ℕ) (x : Running) → (start_call n x).answer ≡ start_accepted
-    → (is : List Input) → Always b n x.stack (start_call n x).after (calls b (start_call n x).after is)
+    → (n : ℕ) (text : List ℕ) (x : Running) → (start_call n text x).answer ≡ start_accepted
+    → (is : List Input) → Always b n x.stack (start_call n text x).after (calls b (start_call n text x).after is)

@@ -99,15 +99,15 @@ pub extern "C" fn troymantle_link(
     )
 }
 
-// Begins a run over an entry of n bytes. A refusal changes nothing.
+// Begins a run over an entry of n bytes, which is this text. A refusal changes nothing.
 #[unsafe(no_mangle)]
-pub extern "C" fn troymantle_start(n: u64, run: &mut Run, stack: &mut [u8]) -> u64
-    ensures { run_left result run.new stack.new ≡ start_in_words (start_call n (running run.old stack.old)) }
+pub extern "C" fn troymantle_start(n: u64, text: &[u8], run: &mut Run, stack: &mut [u8]) -> u64
+    ensures { run_left result run.new stack.new ≡ start_in_words (start_call n text.now (running run.old stack.old)) }
 {
-    troymantle::running::troymantle_start(n, run, stack)
+    troymantle::running::troymantle_start(n, text, run, stack)
 }
 
-// Moves a run on by a row, one length for each rule. A refusal changes nothing.
+// Moves a run over this text on by a row, one length for each rule. A refusal changes nothing.
 #[unsafe(no_mangle)]
 pub extern "C" fn troymantle_step(
     src: &[u8],
@@ -117,15 +117,16 @@ pub extern "C" fn troymantle_step(
     area4: &[u8],
     area5: &[u8],
     counts: &[u16; 6],
+    text: &[u8],
     run: &mut Run,
     stack: &mut [u8],
     row: &[u8],
 ) -> u64
     ensures { run_left result
-        run.new stack.new ≡ step_in_words (step_call (sheet_in src.now area1.now area2.now area3.now area4.now area5.now counts.now) (running run.old stack.old) (input row.now)) }
+        run.new stack.new ≡ step_in_words (step_call (sheet_in src.now area1.now area2.now area3.now area4.now area5.now counts.now) (running run.old stack.old) (input text.now row.now)) }
 {
     troymantle::running::troymantle_step(
-        src, area1, area2, area3, area4, area5, counts, run, stack, row,
+        src, area1, area2, area3, area4, area5, counts, text, run, stack, row,
     )
 }
 

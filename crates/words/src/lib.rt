@@ -17,7 +17,7 @@ use area::RuleText;
 use lines::{Byte, Place, PlaceError};
 use link::{LinkError, Linked};
 use parse::{FileCounts, ParseError};
-use run::{StartRefused, Step, StepError};
+use run::{StartError, Step, StepError};
 
 // An answer as one word.
 #[derive(Clone, Copy, PartialEq, Eq, Debug)]
@@ -92,11 +92,11 @@ impl From<Result<Linked, LinkError>> for Word {
 }
 
 // That of a start's answer.
-impl From<Result<(), StartRefused>> for Word {
+impl From<Result<(), StartError>> for Word {
     ghost from_gives = { λ answer word. word.0 ≡ start_word answer };
 
     #[tactic(auto, unfolding(run::specs::Run::start_fields))]
-    fn from(answer: Result<(), StartRefused>) -> Word {
+    fn from(answer: Result<(), StartError>) -> Word {
         match answer {
             Ok(_) => Word::of(Number::Accepted),
             Err(refused) => Word::of(refused.into()),

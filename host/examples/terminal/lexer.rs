@@ -39,10 +39,9 @@ pub enum End {
     Stopped,
     /// The rule's name, and how many bytes it matches.
     Unlinked(String, usize),
-    /// The entry is too long.
+    /// The entry is too long, or not UTF-8 from the position on. A row is not refused: what the engine matches in a text ends at
+    /// the edge of a character.
     Refused(Refusal),
-    /// The entry is not UTF-8 from the position on.
-    NotText,
 }
 
 impl<'a> Lexer<'a> {
@@ -58,19 +57,13 @@ impl<'a> Lexer<'a> {
 
     /// Reads an entry to its end, or as far as it goes.
     pub fn read(&self, entry: &Entry) -> Reading {
-        let mut run = match self.sheet.start(entry.length) {
+        // the whole entry, or what stands before the first byte that is not UTF-8
+        let text = entry.bytes.utf8_chunks().next().map_or("", |chunk| chunk.valid());
+        let mut run = match self.sheet.start(&entry.bytes) {
             Ok(run) => run,
-            Err(refusal) => return Reading { moves: vec![], end: End::Refused(refusal), position: 0, stack: vec![] },
-        };
-        let text = match std::str::from_utf8(&entry.bytes) {
-            Ok(text) => text,
-            Err(error) => {
-                return Reading {
-                    moves: vec![],
-                    end: End::NotText,
-                    position: error.valid_up_to(),
-                    stack: run.states(),
-                };
+            Err(refusal) => {
+                let position = if refusal == Refusal::TextMismatch { text.len() } else { 0 };
+                return Reading { moves: vec![], end: End::Refused(refusal), position, stack: vec![] };
             }
         };
         let mut moves = vec![];
@@ -82,8 +75,8 @@ impl<'a> Lexer<'a> {
         }
     }
 
-    fn step(&self, entry: &str, run: &mut Run) -> Result<Move, End> {
-        let rest = entry.get(run.position()..).unwrap_or_default();
+    fn step(&self, text: &str, run: &mut Run) -> Result<Move, End> {
+        let rest = text.get(run.position()..).unwrap_or_default();
         let row: Row = self.patterns.iter().map(|pattern| length(pattern, rest)).collect();
         let (name, length) = self.winner(run, &row);
         match run.step(&row).map_err(End::Refused)? {
@@ -99,7 +92,8 @@ impl<'a> Lexer<'a> {
     /// rules may have or the winner may lack; the same step on the sheet before its link tells the position.
     fn winner(&self, run: &Run, row: &Row) -> (String, usize) {
         let (numbers, stack) = run.clone().into_parts();
-        let Ok(Step::Token { id: position, range }) = Run::from_parts(self.unlinked, numbers, stack).step(row) else {
+        let mut unlinked = Run::from_parts(self.unlinked, run.text(), numbers, stack);
+        let Ok(Step::Token { id: position, range }) = unlinked.step(row) else {
             return Default::default();
         };
         let name = self.rules.get(usize::from(position)).and_then(|rule| rule.name.as_deref());
@@ -154,8 +148,12 @@ mod tests {
     #[test]
     fn entries_are_text() {
         let loaded = loaded("%%\na+ ;\n", &[]);
-        let reading = Lexer::new(&loaded).read(&Entry::new(b"aa\xff".to_vec()));
-        assert_eq!((reading.end, reading.position, reading.moves.len()), (End::NotText, 2, 0));
+        let lexer = Lexer::new(&loaded);
+        for (bytes, position) in [(b"aa\xff".to_vec(), 2), (b"\xe2\x82".to_vec(), 0), (b"a\xc3\xa9\xc3a".to_vec(), 3)] {
+            let reading = lexer.read(&Entry::new(bytes));
+            let ended = (reading.end, reading.position, reading.moves.len());
+            assert_eq!(ended, (End::Refused(Refusal::TextMismatch), position, 0));
+        }
     }
 
     #[test]
@@ -166,7 +164,8 @@ mod tests {
         assert_eq!(end(&[b'a'; 4_096]), End::Done);
         assert_eq!(end(&[b'a'; 4_097]), End::Refused(Refusal::StartRefused));
         assert_eq!(end(&[255; 4_097]), End::Refused(Refusal::StartRefused));
-        assert_eq!(lexer.read(&Entry { bytes: vec![], length: usize::MAX }).end, End::Refused(Refusal::StartRefused));
+        let kept = vec![b'a'; 4_097];
+        assert_eq!(lexer.read(&Entry { bytes: kept, length: usize::MAX }).end, End::Refused(Refusal::StartRefused));
         assert_eq!(end(&[]), End::Done);
     }
 }

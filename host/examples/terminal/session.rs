@@ -131,7 +131,7 @@ impl Counts {
             End::Done => &mut self.done,
             End::Stopped => &mut self.stopped,
             End::Unlinked(..) => &mut self.unlinked,
-            End::Refused(_) | End::NotText => &mut self.refused,
+            End::Refused(_) => &mut self.refused,
         } += 1;
     }
 
@@ -157,8 +157,8 @@ mod tests {
     #[test]
     fn ends_are_counted() {
         let mut counts = Counts::default();
-        let refused = End::Refused(Refusal::StartRefused);
-        [End::Done, End::Stopped, End::Done, refused, End::NotText].iter().for_each(|end| counts.add(end));
+        let [long, no_text] = [Refusal::StartRefused, Refusal::TextMismatch].map(End::Refused);
+        [End::Done, End::Stopped, End::Done, long, no_text].iter().for_each(|end| counts.add(end));
         assert_eq!(counts.words(), "5 entries: 2 done, 1 stopped, 2 refused");
         assert_eq!([counted(1, "state"), counted(1_000, "rule")], ["1 state", "1,000 rules"]);
     }

@@ -6,7 +6,9 @@ use crate::lexer::{End, Lexer, Move, Reading};
 use crate::message::painted_marks;
 use crate::paint::{Paint, Style};
 use crate::source::{grouped, marked, visible};
+use crate::width::{self, padded};
 use std::io::{self, Write};
+use troymantle::Refusal;
 
 /// Names, states and texts that are longer than this are not waited for by the columns.
 const WIDEST: usize = 24;
@@ -25,7 +27,7 @@ impl Columns {
         let names = lexer.rules.iter().filter_map(|rule| rule.name.as_deref());
         let ids = lexer.rules.iter().filter_map(|rule| rule.id.filter(|_| rule.name.is_some()));
         Columns {
-            name: widest(names.map(|name| name.chars().count())),
+            name: widest(names.map(|name| width::of(&visible(name)))),
             id: widest(ids.map(|id| id.to_string().len())),
             state: widest(lexer.states.iter().map(|state| state.name.len())),
         }
@@ -56,7 +58,7 @@ pub fn lines(
 ) -> io::Result<()> {
     let text = String::from_utf8_lossy(&entry.bytes);
     let texts: Vec<_> = reading.moves.iter().map(|made| format!("{:?}", part(&text, made))).collect();
-    let text_width = widest(texts.iter().map(|text| text.chars().count()));
+    let text_width = widest(texts.iter().map(|text| width::of(text)));
     for (made, quoted) in reading.moves.iter().zip(&texts) {
         writeln!(out, "{}", move_line(lexer, columns, text_width, paint, made, quoted))?;
     }
@@ -93,17 +95,16 @@ fn move_line(lexer: &Lexer, columns: &Columns, text_width: usize, paint: Paint, 
     let Columns { name: name_width, id: id_width, state: state_width } = columns;
     let current = made.stack.last().map_or("", |state| lexer.state_name(*state));
     let stack = stack_words(lexer, &made.stack);
-    let (state_width, text_width) = (if stack.is_empty() { &0 } else { state_width }, text_width);
+    let (state_width, text) = (if stack.is_empty() { &0 } else { state_width }, padded(text, text_width));
     let state = paint.paint(Style::State, &format!("{current:state_width$}"));
     let stack = if stack.is_empty() { stack } else { format!("  {}", paint.paint(Style::Dim, &stack)) };
     match &made.token {
         Some((name, id)) => {
-            let name = paint.paint(Style::Bold, &format!("{:name_width$}", visible(name)));
-            format!("  token  {name}  {id:id_width$}  {text:text_width$}  {state}{stack}")
+            let name = paint.paint(Style::Bold, &padded(&visible(name), *name_width));
+            format!("  token  {name}  {id:id_width$}  {text}  {state}{stack}")
         }
         None => {
-            let skipped =
-                paint.paint(Style::Dim, &format!("skip   {:name_width$}  {:id_width$}  {text:text_width$}", "", ""));
+            let skipped = paint.paint(Style::Dim, &format!("skip   {:name_width$}  {:id_width$}  {text}", "", ""));
             format!("  {skipped}  {state}{stack}")
         }
     }
@@ -129,16 +130,24 @@ pub fn end_words(lexer: &Lexer, reading: &Reading) -> (&'static str, Option<Stri
         End::Done => ("done", None),
         End::Stopped => ("stopped", Some(format!("no rule of state {state} matches here"))),
         End::Unlinked(name, _) => ("unlinked", Some(format!("rule {} is not in the map", visible(name)))),
-        End::Refused(refusal) => ("refused", Some(refusal.to_string())),
-        End::NotText => ("refused", Some("the entry is not UTF-8 from here on".to_string())),
+        End::Refused(refusal) => ("refused", Some(refusal_words(refusal))),
+    }
+}
+
+fn refusal_words(refusal: &Refusal) -> String {
+    match refusal {
+        Refusal::TextMismatch => {
+            format!("{} ({}): the entry is not UTF-8 from here on", refusal.words(), refusal.number())
+        }
+        refusal => refusal.to_string(),
     }
 }
 
 /// How many bytes at the position are marked, where an entry was not read to its end.
 fn marked_length(reading: &Reading) -> Option<usize> {
     match reading.end {
-        End::Done | End::Refused(_) => None,
-        End::Stopped | End::NotText => Some(0),
+        End::Done | End::Refused(Refusal::StartRefused) => None,
+        End::Stopped | End::Refused(_) => Some(0),
         End::Unlinked(_, length) => Some(length),
     }
 }
@@ -166,8 +175,11 @@ fn end_object(lexer: &Lexer, number: usize, entry: &Entry, reading: &Reading) ->
             let object = object.text("name", name).number("start", reading.position).number("length", *length);
             with_states(object.text("text", text), lexer, &reading.stack)
         }
-        End::Refused(refusal) => object.number("length", entry.length).number("number", usize::from(refusal.number())),
-        End::NotText => object.number("start", reading.position).number("length", entry.length),
+        End::Refused(refusal) => {
+            let is_whole = *refusal == Refusal::StartRefused;
+            let object = if is_whole { object } else { object.number("start", reading.position) };
+            object.number("length", entry.length).number("number", usize::from(refusal.number()))
+        }
     };
     words.iter().fold(object, |object, words| object.text("message", words))
 }
@@ -175,4 +187,27 @@ fn end_object(lexer: &Lexer, number: usize, entry: &Entry, reading: &Reading) ->
 fn with_states(object: Object, lexer: &Lexer, stack: &[u16]) -> Object {
     let current = stack.last().map_or("", |state| lexer.state_name(*state));
     object.text("state", current).texts("stack", stack.iter().map(|state| lexer.state_name(*state)))
+}
+
+#[cfg(test)]
+mod tests {
+    use super::*;
+    use troymantle::LexFile;
+
+    /// What the engine matches in a text always fits; a refused row would be told as this.
+    #[test]
+    fn a_refused_row_is_told_where_the_run_stands() {
+        let sheet = LexFile::new("%%\n. ;\n").parse().unwrap();
+        let (unlinked, name) = (sheet.clone(), String::new());
+        let loaded = crate::load::Loaded { sheet, unlinked, patterns: vec![], name, sample: "", warnings: vec![] };
+        let (lexer, entry) = (Lexer::new(&loaded), Entry::new("😀é".into()));
+        let reading = Reading { moves: vec![], end: End::Refused(Refusal::RowMismatch), position: 4, stack: vec![0] };
+        let (mut told, mut object) = (vec![], vec![]);
+        lines(&mut told, &lexer, &Columns::new(&lexer), Paint { on: false }, &entry, &reading).unwrap();
+        objects(&mut object, &lexer, 1, &entry, &reading).unwrap();
+        let words = Refusal::RowMismatch.to_string();
+        assert_eq!(String::from_utf8_lossy(&told), format!("  refused: {words}\n    😀é\n      ^\n"));
+        let fields = r#""event":"refused","entry":1,"start":4,"length":6,"number":10"#;
+        assert_eq!(String::from_utf8_lossy(&object), format!("{{{fields},\"message\":\"{words}\"}}\n"));
+    }
 }

@@ -1,6 +1,7 @@
 //! Files, and parts of them with their lines and columns.
 
 use crate::places::Places;
+use crate::width;
 use std::fs::File;
 use std::io::{self, Read};
 use std::ops::Range;
@@ -89,10 +90,15 @@ pub fn marked(left: &str, right: &str, length: usize) -> (String, String) {
     let cut = |is_cut: bool| if is_cut { "..." } else { "" };
     let (before, behind) = (cut(near.len() < left.len()), cut(rest.len() < right.len()));
     let shown = format!("{before}{}{}{behind}", visible(near), visible(rest));
-    let mut marks: String = before.chars().chain(near.chars()).map(|c| if c == '\t' { '\t' } else { ' ' }).collect();
-    marks.push('^');
-    marks.extend(part.chars().zip(rest.chars()).skip(1).map(|_| '~'));
+    let marked = if part.len() < rest.len() { part } else { rest };
+    let mut marks = format!("{}{}^", " ".repeat(before.len()), blanks(&visible(near)));
+    marks.extend(std::iter::repeat_n('~', width::of(&visible(marked)).saturating_sub(1)));
     (shown, marks)
+}
+
+/// Blanks as wide as a text; tabs stay.
+fn blanks(text: &str) -> String {
+    text.chars().map(|c| if c == '\t' { "\t".to_string() } else { " ".repeat(width::of_character(c)) }).collect()
 }
 
 /// The start of a long line.
@@ -161,7 +167,11 @@ mod tests {
         let found = excerpt(text, at..at + 1);
         assert_eq!((found.place, found.start, found.length), (place(2, 6), at, 1));
         assert_eq!(found.shown, "ä€😀 'N'");
-        assert_eq!(found.marks, "     ^");
+        // the picture is two columns wide
+        assert_eq!(found.marks, "      ^");
+        let at = text.find('€').unwrap();
+        assert_eq!(excerpt(text, at..at + 7).marks, " ^~~");
+        assert_eq!(excerpt("e\u{301}x", 3..4).marks, " ^");
     }
 
     #[test]

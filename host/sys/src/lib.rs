@@ -76,14 +76,15 @@ functions! {
         area8: *mut u8, area8_length: usize,
     );
 
-    /// Begins a run over an entry of n bytes.
+    /// Begins a run over an entry of n bytes, of which the text is lent.
     fn troymantle_start as Start(
         n: u64,
+        text: *const u8, text_length: usize,
         run: *mut [u16; 4],
         stack: *mut u8, stack_length: usize,
     );
 
-    /// Moves a run on by a row.
+    /// Moves a run on by a row; the text is that of the start.
     fn troymantle_step as Step(
         source: *const u8, source_length: usize,
         area1: *const u8, area1_length: usize,
@@ -92,6 +93,7 @@ functions! {
         area4: *const u8, area4_length: usize,
         area5: *const u8, area5_length: usize,
         counts: *const [u16; 6],
+        text: *const u8, text_length: usize,
         run: *mut [u16; 4],
         stack: *mut u8, stack_length: usize,
         row: *const u8, row_length: usize,

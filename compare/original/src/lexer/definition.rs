@@ -61,10 +61,10 @@ impl Definition {
         self.definition.set_rule_ids_spanned(map);
     }
 
-    /// The lexer loop over an entry of n bytes. `rows[p]` has the lengths of all rules at position p.
-    pub fn run(&self, n: usize, rows: &[Vec<usize>]) -> Vec<Lexed> {
-        lend_rows(&rows[..n]);
-        self.definition.lexer(&"a".repeat(n)).lexemes.iter().map(lexed).collect()
+    /// The lexer loop over an entry. `rows[p]` has the lengths of all rules at position p.
+    pub fn run(&self, entry: &str, rows: &[Vec<usize>]) -> Vec<Lexed> {
+        lend_rows(&rows[..entry.len()]);
+        self.definition.lexer(entry).lexemes.iter().map(lexed).collect()
     }
 
     /// The lexer loop on rows that were lent before, for the number of its lexemes: what the bench measures.
@@ -121,8 +121,8 @@ mod tests {
         definition.link(&[("A", 5)]);
         // a token that enters S, a skip that leaves it, then a rule without id
         let rows = [vec![2, 9, 1], vec![], vec![9, 1, 9], vec![0, 1, 1]];
-        let answers = definition.run(4, &rows);
+        let answers = definition.run("aaaa", &rows);
         assert_eq!(answers, [Lexed::Token { id: 5, start: 0, length: 2 }, Lexed::Unlinked { at: 3 }]);
-        assert_eq!(definition.run(1, &[vec![0, 1, 0]]), [Lexed::Stopped { at: 0, state: 0 }]);
+        assert_eq!(definition.run("a", &[vec![0, 1, 0]]), [Lexed::Stopped { at: 0, state: 0 }]);
     }
 }
