@@ -22,7 +22,7 @@ use Rattle.winner.specs.declared.Row.{Row}
 use Rattle.winner.specs.Winner.{length_in, greatest}
 use Rattle.winner.specs.Top.{good_row, RowFits}
 use Rattle.winner.proofs.Winning.{below_greatest}
-use Rattle.winner.proofs.Fitting.{length_passes, all_lengths, row_long, row-length, row_good, row_narrower, top_low}
+use Rattle.winner.proofs.Fitting.{length_passes, all_lengths, row_long, row-length, row_good, row_wider, row_narrower, top_low}
 use Rattle.input_check.specs.InputCheck.{length_fits}
 
 -- ---- one length
@@ -78,8 +78,7 @@ module _ (text : List ℕ) (left position rules : ℕ) (row : List ℕ) where
   -- a row that fits has no length above what is left
   pub row_low : (x : Row) → RowFits test rules row x → RowFits (λ l. leb l left) rules row x
   row_low x fits = record {
-    good = row_good (λ l. leb l left) rules row (row_long test rules row fits.good)
-        (λ k h. fits_low text left position (entry_at row k) (row-length test rules row fits.good k h));
+    good = row_wider test (λ l. leb l left) rules row (λ l. fits_low text left position l) fits.good;
     bytes_are = fits.bytes_are;
     rules_are = fits.rules_are;
     greatest_is = fits.greatest_is;

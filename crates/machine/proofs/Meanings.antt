@@ -1,4 +1,4 @@
--- What the machine answers means what it should: of every row, by the machine's own definitions.
+-- What the machine answers means what it should: of every row, by the machine's own definitions. And from an edge of the text it comes to an edge.
 use mathlib.Core.Path.{◌≡◌, refl, sym, ap, ap₂, subst, ◌∙◌}
 use mathlib.Core.Bool.{Bool, true, false, ◌&&◌, ◌||◌, false≢true, true≢false, or-true}
 use mathlib.Core.List.{List, [], ◌∷◌}

@@ -72,6 +72,6 @@ pub record InWords (q : Session) (is : List Input) : Type 0 where
   pub demand : Demand (given q) q.running.stack (start_left_of q) is (session_calls q is)
   pub each : FollowsInWords (given q) q.running.stack fresh [] is (session_words q is)
 
--- for every map of bytes
+-- for every map of bytes, and every list of rows given with the text of the start
 unfoldable pub InWordsHolds : Type 0
 InWordsHolds = (q : Session) → AllBytes q.entries → AcceptsInWords q → (is : List Input) → AllOver q.text is → InWords q is

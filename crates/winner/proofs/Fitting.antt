@@ -51,15 +51,17 @@ module _ (test : ℕ → Bool) (rules : ℕ) (row : List ℕ) where
   unfolding good_row
   row_good e f = rw (eq-eqb (length row) (rules * entry_width) e) (all_lengths f)
 
--- a row that does not fit does not fit under a test that passes less
-pub row_narrower : (test wide : ℕ → Bool) (rules : ℕ) (row : List ℕ) → ((l : ℕ) → test l ≡ true → wide l ≡ true)
-    → good_row wide rules row ≡ false → good_row test rules row ≡ false
-row_narrower test wide rules row passes bad = by (good_row test rules row) refl
-  where
-    by : (b : Bool) → good_row test rules row ≡ b → b ≡ false
-    by true e =
-        sym (row_good wide rules row (row_long test rules row e) (λ k h. passes (entry_at row k) (row-length test rules row e k h))) ∙ bad
-    by false e = refl
+-- a row fits under a test that passes more, and one that does not fit does not under a test that passes less
+module _ (test wide : ℕ → Bool) (rules : ℕ) (row : List ℕ) (passes : (l : ℕ) → test l ≡ true → wide l ≡ true) where
+  pub row_wider : good_row test rules row ≡ true → good_row wide rules row ≡ true
+  row_wider e = row_good wide rules row (row_long test rules row e) (λ k h. passes (entry_at row k) (row-length test rules row e k h))
+
+  pub row_narrower : good_row wide rules row ≡ false → good_row test rules row ≡ false
+  row_narrower bad = by (good_row test rules row) refl
+    where
+      by : (b : Bool) → good_row test rules row ≡ b → b ≡ false
+      by true e = sym (row_wider e) ∙ bad
+      by false e = refl
 
 -- every length fits where the greatest does
 module _ (left rules : ℕ) (row : List ℕ) (top : ℕ) (is : top ≡ greatest (length_in row) rules) where
