@@ -1,7 +1,7 @@
 /* Troymantle: reads lex files, gives their rules token ids, and runs them over what is typed.
  *
  * Link with target/staticlib/libtroymantle.a, which `tools/library` proves and builds (x86-64). The calls have no state of
- * their own, keep nothing that they are lent, end on every input and refuse bad input by number. Of the caller they ask this alone:
+ * their own, keep nothing that they are lent, end on every input and refuse bad input by number. Of the host they ask this alone:
  * each pointer is not null and points to as many bytes or numbers as stand beside it, also where that is none; what a call may write
  * overlaps nothing else that it is lent; arrays of numbers are aligned. docs/CALLS.md has the calls in full.
  *
@@ -25,21 +25,22 @@ extern "C" {
 
 /* Numbers: accepted, and the refusals. */
 #define TROYMANTLE_ACCEPTED 0
-#define TROYMANTLE_LONG_FILE 1      /* parse, line_column, offset_at: the file has more than 65,535 bytes */
-#define TROYMANTLE_UNKNOWN_FLAG 2   /* parse: the flags are above 3 */
-#define TROYMANTLE_INVALID_UTF8 3   /* parse, line_column, offset_at: the file is not UTF-8 */
-#define TROYMANTLE_AREA_FULL 4      /* parse, link: a record does not fit its area or passes its limit; A is the area */
-#define TROYMANTLE_FAULTY_FILE 5    /* parse: area 6 has the faults; A is the number of their spans */
-#define TROYMANTLE_BROKEN_SHEET 6   /* pattern, pattern_test, link, step: the sheet fails its check; the first two: or no such rule */
-#define TROYMANTLE_BROKEN_MAP 7     /* link: length no multiple of 6, above 2,048 entries, a range past the names, or equal names */
-#define TROYMANTLE_START_REFUSED 8  /* start: n is above 4,096, or the stack has fewer than 2 * (n + 1) bytes */
-#define TROYMANTLE_BROKEN_RUN 9     /* step: n above 4,096, position above n, depth 0 or above position + 1, moves above position, a short
-                                       stack, or an id in use that is not declared */
-#define TROYMANTLE_ROW_MISMATCH 10  /* step: the row has not two bytes for each rule, or a length of any rule that is above the bytes
-                                       left or does not end at a character's edge */
-#define TROYMANTLE_NO_SUCH_PLACE 11 /* line_column: the offset is above the file's length or inside a character; offset_at: no
-                                       offset has that line and column */
-#define TROYMANTLE_TEXT_MISMATCH 12 /* start, step: the entry's text is not UTF-8, or not n bytes long; tested behind 8, and behind 6 */
+#define TROYMANTLE_LONG_FILE 1       /* parse, line_column, offset_at: the file has more than 65,535 bytes */
+#define TROYMANTLE_UNKNOWN_FLAG 2    /* parse: the flags are above 3 */
+#define TROYMANTLE_INVALID_UTF8 3    /* parse, line_column, offset_at: the file is not UTF-8 */
+#define TROYMANTLE_AREA_FULL 4       /* parse, link: a record does not fit its area or passes its limit; A is the area */
+#define TROYMANTLE_FAULTY_FILE 5     /* parse: area 6 has the faults; A is the number of their spans */
+#define TROYMANTLE_BROKEN_SHEET 6    /* pattern, pattern_test, link, step: the sheet fails its check; the first two: or no such rule */
+#define TROYMANTLE_BROKEN_MAP 7      /* link: length no multiple of 6, above 2,048 entries, a range past the names, or equal names */
+#define TROYMANTLE_START_REFUSED 8   /* start: n is above the limit of the caller's kind, or the stack has fewer than 2 * (n + 1) bytes */
+#define TROYMANTLE_BROKEN_RUN 9      /* step: the run's kind of caller is unknown, n above the limit of that kind, position above n, depth 0
+                                        or above position + 1, moves above position, a short stack, or an id in use that is not declared */
+#define TROYMANTLE_ROW_MISMATCH 10   /* step: the row has not two bytes for each rule, or a length of any rule that is above the bytes
+                                        left or does not end at a character's edge */
+#define TROYMANTLE_NO_SUCH_PLACE 11  /* line_column: the offset is above the file's length or inside a character; offset_at: no
+                                        offset has that line and column */
+#define TROYMANTLE_TEXT_MISMATCH 12  /* start, step: the entry's text is not UTF-8, or not n bytes long; tested behind 8, and behind 6 */
+#define TROYMANTLE_UNKNOWN_CALLER 13 /* start: the kind of caller is neither 0, a seller, nor 1, a kiosk; tested before 8 */
 
 /* Numbers: the answers of a step. */
 #define TROYMANTLE_DONE 256     /* the position is n; nothing changed */
@@ -53,6 +54,10 @@ extern "C" {
 #define TROYMANTLE_FLAG_POSIX_ESCAPES 2 /* `\b` becomes `\x08` */
 #define TROYMANTLE_MOST_FLAGS 3
 
+/* Kinds of callers: how long an entry may be depends on who starts its run. */
+#define TROYMANTLE_SELLER 0
+#define TROYMANTLE_KIOSK 1
+
 /* Bytes of a record. All fields are two bytes, the low one first. */
 #define TROYMANTLE_STATE_WIDTH 6    /* area 1: name start, name end, exclusive */
 #define TROYMANTLE_RULE_WIDTH 28    /* area 2: has id, id, named, span start, span end, name from, name length, place, text from,
@@ -64,12 +69,13 @@ extern "C" {
 #define TROYMANTLE_NUMBER_WIDTH 2   /* areas 7 and 8: a rule, an entry of the map; a row: a length; a stack: a state id */
 
 /* Limits. */
-#define TROYMANTLE_MOST_SOURCE 65535 /* bytes of a file */
+#define TROYMANTLE_MOST_SOURCE 65535    /* bytes of a file */
 #define TROYMANTLE_MOST_STATES 64
 #define TROYMANTLE_MOST_RULES 2048
-#define TROYMANTLE_MOST_OTHERS 65535 /* list entries, rewritten bytes, expected names, fault spans */
-#define TROYMANTLE_MOST_MAP 2048     /* entries of a map */
-#define TROYMANTLE_MOST_ENTRY 4096   /* bytes of an entry that is run over */
+#define TROYMANTLE_MOST_OTHERS 65535    /* list entries, rewritten bytes, expected names, fault spans */
+#define TROYMANTLE_MOST_MAP 2048        /* entries of a map */
+#define TROYMANTLE_MOST_ENTRY 4096      /* bytes of an entry that a seller's run goes over */
+#define TROYMANTLE_MOST_KIOSK_ENTRY 512 /* bytes of an entry that a kiosk's run goes over */
 
 /* Bytes that hold whatever the limits allow: areas 1 to 8, and a stack. */
 #define TROYMANTLE_AREA1_BYTES 384
@@ -153,12 +159,13 @@ uint64_t troymantle_link(
     uint8_t *area7, size_t area7_length,
     uint8_t *area8, size_t area8_length);
 
-/* Begins a run over an entry of n bytes, of which the text is lent: n, position, depth, moves. Refuses by 8, 12, and then changes
- * nothing. */
+/* Begins a run of a kind of caller, TROYMANTLE_SELLER or TROYMANTLE_KIOSK, over an entry of n bytes, of which the text is lent: run gets
+ * n, position, depth, moves and the kind. Refuses by 13, 8, 12, and then changes nothing. */
 uint64_t troymantle_start(
+    uint64_t kind,
     uint64_t n,
     const uint8_t *text, size_t text_length,
-    uint16_t run[4],
+    uint16_t run[5],
     uint8_t *stack, size_t stack_length);
 
 /* Moves a run on by a row: for each rule how many bytes from the position on its pattern matches, 0 where it does not. The text is that
@@ -172,7 +179,7 @@ uint64_t troymantle_step(
     const uint8_t *area5, size_t area5_length,
     const uint16_t counts[6],
     const uint8_t *text, size_t text_length,
-    uint16_t run[4],
+    uint16_t run[5],
     uint8_t *stack, size_t stack_length,
     const uint8_t *row, size_t row_length);
 

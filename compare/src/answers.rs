@@ -14,6 +14,7 @@ pub const BROKEN_RUN: u64 = 9;
 pub const ROW_MISMATCH: u64 = 10;
 pub const NO_SUCH_PLACE: u64 = 11;
 pub const TEXT_MISMATCH: u64 = 12;
+pub const UNKNOWN_CALLER: u64 = 13;
 
 pub const DONE: u64 = 256;
 pub const STOPPED: u64 = 257;

@@ -3,9 +3,8 @@
 use crate::case::{AREAS, Answer, Case};
 use crate::library::LINKED;
 use crate::link::{Call, Left};
-use crate::sheet::Sheet;
 use crate::side::Side;
-use crate::step::Run;
+use crate::step::{Run, Start, Step};
 use std::ops::Range;
 
 pub struct Ours;
@@ -36,22 +35,28 @@ pub fn link(call: &Call) -> Left {
     Left { word, area_2, area_7, area_8 }
 }
 
-pub fn start(n: u64, text: &[u8], run: &Run) -> (u64, Run) {
-    on_text(text, run, |text, numbers, stack| LINKED.start(n, text, numbers, stack))
+pub fn start(call: Start) -> (u64, Run) {
+    let Start { kind, n, text, run } = call;
+    on_text(text, run, |text, numbers, stack| LINKED.start(kind, n, text, numbers, stack))
 }
 
-pub fn step(sheet: &Sheet, text: &[u8], run: &Run, row: &[u8]) -> (u64, Run) {
+pub fn step(call: Step) -> (u64, Run) {
+    let Step { sheet, text, run, row } = call;
     on_text(text, run, |text, numbers, stack| LINKED.step(sheet, text, numbers, stack, row))
 }
 
 /// The text lies between continuation bytes: if they were read as a part of it, a cut character would be whole, and the
 /// end no edge.
-fn on_text(text: &[u8], run: &Run, call: impl Fn(&[u8], &mut [u16; 4], &mut [u8]) -> u64) -> (u64, Run) {
+fn on_text(text: &[u8], run: &Run, call: impl Fn(&[u8], &mut [u16; 5], &mut [u8]) -> u64) -> (u64, Run) {
     let text = Source::new(text, run.numbers[1] as usize % 8, 0x80);
-    let mut numbers = run.numbers;
+    let mut lent_numbers = [GUARD_NUMBER as u16; 9];
+    let [_, _, numbers @ .., _, _] = &mut lent_numbers;
+    *numbers = run.numbers;
     let mut lent = guarded(&run.stack);
-    let word = call(text.lent(), &mut numbers, between_guards(&mut lent));
+    let word = call(text.lent(), numbers, between_guards(&mut lent));
     assert!(text.is_unchanged(), "the call wrote into the text or beside it");
+    let [one, two, numbers @ .., eight, nine] = lent_numbers;
+    assert_eq!([one, two, eight, nine], [GUARD_NUMBER as u16; 4], "the call wrote outside the run that was lent to it");
     (word, Run { numbers, stack: unguarded(lent) })
 }
 
@@ -123,12 +128,15 @@ fn unguarded(bytes: Vec<u8>) -> Vec<u8> {
 #[cfg(test)]
 mod tests {
     use super::*;
-    use crate::answers::{self, BROKEN_SHEET, DONE, NO_SUCH_PLACE, ROW_MISMATCH, TEXT_MISMATCH, TOKEN};
+    use crate::answers::{
+        self, ACCEPTED, BROKEN_SHEET, DONE, NO_SUCH_PLACE, ROW_MISMATCH, TEXT_MISMATCH, TOKEN, UNKNOWN_CALLER,
+    };
+    use crate::step::KIOSK;
     use crate::{link, sheet};
 
     const SOURCE: &str = "%%\na 'A'";
 
-    fn linked() -> Sheet {
+    fn linked() -> sheet::Sheet {
         let call = link::call(sheet::parsed(SOURCE, 3), &[("A".to_string(), 9), ("AB".to_string(), 5)]);
         let left = link(&call);
         assert_eq!((left.word, &left.area_8[..]), (answers::word(0, &[0, 1]), &[1, 0, 0, 0][..]));
@@ -145,20 +153,23 @@ mod tests {
     #[test]
     fn the_library_runs_over_four_bytes() {
         let (sheet, text) = (linked(), "éaa".as_bytes());
-        let before = Run { numbers: [7; 4], stack: vec![7; 10] };
-        assert_eq!(start(4, &text[..3], &before), (TEXT_MISMATCH, before.clone()));
-        let (word, mut run) = start(4, text, &before);
-        assert_eq!((word, run.numbers), (0, [4, 0, 1, 0]));
+        let before = Run { numbers: [7; 5], stack: vec![7; 10] };
+        let whole = Start { kind: KIOSK, n: 4, text, run: &before };
+        assert_eq!(start(Start { kind: 2, ..whole }), (UNKNOWN_CALLER, before.clone()));
+        assert_eq!(start(Start { text: &text[..3], ..whole }), (TEXT_MISMATCH, before.clone()));
+        let (word, mut run) = start(whole);
+        assert_eq!((word, run.numbers), (ACCEPTED, [4, 0, 1, 0, 1]));
         let mut words = vec![];
         for length in [1, 3, 2, 1, 1] {
-            let (word, after) = step(&sheet, text, &run, &[length, 0]);
+            let (word, after) = step(Step { sheet: &sheet, text, run: &run, row: &[length, 0] });
             words.push(word);
             run = after;
         }
         let token = |start, length| answers::word(TOKEN, &[9, start, length]);
         assert_eq!(words, [ROW_MISMATCH, token(0, 3), ROW_MISMATCH, token(3, 1), DONE]);
-        assert_eq!(step(&sheet, b"aaa\xc3", &run, &[]), (TEXT_MISMATCH, run.clone()));
-        assert_eq!(run, Run { numbers: [4, 4, 1, 2], stack: vec![0, 0, 7, 7, 7, 7, 7, 7, 7, 7] });
+        let other = Step { sheet: &sheet, text: b"aaa\xc3", run: &run, row: &[] };
+        assert_eq!(step(other), (TEXT_MISMATCH, run.clone()));
+        assert_eq!(run, Run { numbers: [4, 4, 1, 2, 1], stack: vec![0, 0, 7, 7, 7, 7, 7, 7, 7, 7] });
     }
 
     #[test]

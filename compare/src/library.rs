@@ -3,7 +3,6 @@
 use crate::case::AREAS;
 use crate::link::Call;
 use crate::sheet::Sheet;
-use crate::without_text;
 use std::ffi::{CStr, CString, c_char, c_int, c_void};
 use std::mem::transmute;
 use std::os::unix::ffi::OsStrExt;
@@ -37,17 +36,11 @@ pub struct Library {
     parse: Parse,
     pattern_test: PatternTest,
     link: Link,
-    run_calls: RunCalls,
+    start: Start,
+    step: Step,
     /// None in a build from before these calls.
     line_column: Option<LineColumn>,
     offset_at: Option<OffsetAt>,
-}
-
-/// Start and step.
-#[derive(Clone, Copy)]
-enum RunCalls {
-    OnText(Start, Step),
-    WithoutText(without_text::Start, without_text::Step),
 }
 
 /// The static library that this program was built with.
@@ -56,7 +49,8 @@ pub const LINKED: Library = Library {
     parse: troymantle_sys::troymantle_parse,
     pattern_test: troymantle_sys::troymantle_pattern_test,
     link: troymantle_sys::troymantle_link,
-    run_calls: RunCalls::OnText(troymantle_sys::troymantle_start, troymantle_sys::troymantle_step),
+    start: troymantle_sys::troymantle_start,
+    step: troymantle_sys::troymantle_step,
     line_column: Some(troymantle_sys::troymantle_line_column),
     offset_at: Some(troymantle_sys::troymantle_offset_at),
 };
@@ -75,24 +69,14 @@ impl Library {
             let function = unsafe { dlsym(object, name.as_ptr()) };
             if function.is_null() { Err(format!("{}: {}", path.display(), said())) } else { Ok(function) }
         };
-        let (start, step) = (find(c"troymantle_start")?, find(c"troymantle_step")?);
-        // SAFETY: a function of this name has the type that is declared here, or that without a text where the object
-        // is marked.
+        // SAFETY: a function of this name has the type that is declared here.
         unsafe {
-            let run_calls = match find(without_text::MARK) {
-                Ok(_) => RunCalls::WithoutText(
-                    transmute::<*mut c_void, without_text::Start>(start),
-                    transmute::<*mut c_void, without_text::Step>(step),
-                ),
-                Err(_) => {
-                    RunCalls::OnText(transmute::<*mut c_void, Start>(start), transmute::<*mut c_void, Step>(step))
-                }
-            };
             Ok(Library {
                 parse: transmute::<*mut c_void, Parse>(find(c"troymantle_parse")?),
                 pattern_test: transmute::<*mut c_void, PatternTest>(find(c"troymantle_pattern_test")?),
                 link: transmute::<*mut c_void, Link>(find(c"troymantle_link")?),
-                run_calls,
+                start: transmute::<*mut c_void, Start>(find(c"troymantle_start")?),
+                step: transmute::<*mut c_void, Step>(find(c"troymantle_step")?),
                 line_column: find(c"troymantle_line_column").ok().map(|it| transmute::<*mut c_void, LineColumn>(it)),
                 offset_at: find(c"troymantle_offset_at").ok().map(|it| transmute::<*mut c_void, OffsetAt>(it)),
             })
@@ -110,10 +94,7 @@ impl Library {
 
     /// Where the code lies, by one of its functions.
     pub fn address(&self) -> usize {
-        match self.run_calls {
-            RunCalls::OnText(_, step) => step as usize,
-            RunCalls::WithoutText(_, step) => step as usize,
-        }
+        self.step as usize
     }
 
     pub fn parse(
@@ -177,31 +158,20 @@ impl Library {
         }
     }
 
-    pub fn start(&self, n: u64, text: &[u8], numbers: &mut [u16; 4], stack: &mut [u8]) -> u64 {
-        let (stack, stack_length) = (stack.as_mut_ptr(), stack.len());
-        // SAFETY: every slice is lent whole; the numbers are four.
-        unsafe {
-            match self.run_calls {
-                RunCalls::OnText(start, _) => start(n, text.as_ptr(), text.len(), numbers, stack, stack_length),
-                RunCalls::WithoutText(start, _) => start(n, numbers, stack, stack_length),
-            }
-        }
+    pub fn start(&self, kind: u64, n: u64, text: &[u8], numbers: &mut [u16; 5], stack: &mut [u8]) -> u64 {
+        // SAFETY: every slice is lent whole; the numbers are five.
+        unsafe { (self.start)(kind, n, text.as_ptr(), text.len(), numbers, stack.as_mut_ptr(), stack.len()) }
     }
 
     #[rustfmt::skip]
-    pub fn step(&self, sheet: &Sheet, text: &[u8], numbers: &mut [u16; 4], stack: &mut [u8], row: &[u8]) -> u64 {
+    pub fn step(&self, sheet: &Sheet, text: &[u8], numbers: &mut [u16; 5], stack: &mut [u8], row: &[u8]) -> u64 {
         let (stack, stack_length) = (stack.as_mut_ptr(), stack.len());
-        // SAFETY: every slice is lent whole; the call writes the four numbers and the stack alone.
+        // SAFETY: every slice is lent whole; the call writes the five numbers and the stack alone.
         unsafe {
-            match self.run_calls {
-                RunCalls::OnText(_, step) => on_sheet!(
-                    step, sheet, sheet.areas[1], as_ptr, text.as_ptr(), text.len(), numbers, stack, stack_length,
-                    row.as_ptr(), row.len()
-                ),
-                RunCalls::WithoutText(_, step) => on_sheet!(
-                    step, sheet, sheet.areas[1], as_ptr, numbers, stack, stack_length, row.as_ptr(), row.len()
-                ),
-            }
+            on_sheet!(
+                (self.step), sheet, sheet.areas[1], as_ptr, text.as_ptr(), text.len(), numbers, stack, stack_length,
+                row.as_ptr(), row.len()
+            )
         }
     }
 

@@ -26,7 +26,6 @@ mod show;
 mod shrink;
 mod side;
 mod step;
-mod without_text;
 
 use options::Options;
 use side::Side;
@@ -64,7 +63,7 @@ compare link        compares the answers of many link calls, and hand-made broke
     --seed S        (1)
     --first I       the number of the first case (0)
 compare step        compares runs over texts with the original's lexer loop and with the run machine of 01, call by call,
-                    and hand-made broken runs, sheets and texts
+                    and hand-made starts, runs, sheets and texts
     --cases N       how many runs (20000)
     --seed S        (1)
     --first I       the number of the first run (0)
@@ -87,13 +86,11 @@ compare bench [WORDS]
                     contains one of the words, or of all
     --layouts N     our code lies at so many places in turn, 16 bytes apart (8)
     --library FILE  another static library in the place of ours (target/staticlib/libtroymantle.a)
-    --before FILE   a static library to compare it with in the same run
-    --before-without-text FILE
-                    the same, for a library from before request 2/13, whose start and step take no text of the entry
+    --before FILE   a static library with today's calls to compare it with in the same run
     --plot FILE     where the plot of the growth is written, if all of it is timed (target/bench/growth.svg)
 compare count [WORDS]
-                    prints the instructions a call of the same shapes, counted by valgrind's callgrind; --library, --before
-                    and --before-without-text as for bench
+                    prints the instructions a call of the same shapes, counted by valgrind's callgrind; --library and --before
+                    as for bench
 compare once SHAPE  does a shape once, by the original or by the shared object --library FILE: what count runs under valgrind
 tools/compare test  runs the unit tests of this program and looks for warnings
 compare --help      prints this",
@@ -148,12 +145,12 @@ fn dispatch(arguments: &[String]) -> Result<(), String> {
             record::check_record(&options.answers("--input"), our_side().as_deref())
         }
         "bench" => {
-            let known = ["--layouts", "--library", "--before", "--before-without-text", "--plot"];
-            bench::bench(&wanted(Options::read_with_words(rest, &known)?)?)
+            let options = Options::read_with_words(rest, &["--layouts", "--library", "--before", "--plot"])?;
+            bench::bench(&wanted(options)?)
         }
         "count" => {
-            let known = ["--library", "--before", "--before-without-text"];
-            bench::count(&wanted(Options::read_with_words(rest, &known)?)?)
+            let options = Options::read_with_words(rest, &["--library", "--before"])?;
+            bench::count(&wanted(options)?)
         }
         "once" => {
             let options = Options::read_with_words(rest, &["--library"])?;
@@ -168,14 +165,9 @@ fn dispatch(arguments: &[String]) -> Result<(), String> {
 }
 
 fn wanted(options: Options) -> Result<bench::Wanted, String> {
-    let (before, without_text) = (options.path("--before"), options.path("--before-without-text"));
-    if before.is_some() && without_text.is_some() {
-        return Err("`--before` and `--before-without-text` exclude each other.".to_string());
-    }
     Ok(bench::Wanted {
         library: options.path("--library"),
-        text_before: without_text.is_none(),
-        before: without_text.or(before),
+        before: options.path("--before"),
         layouts: options.number("--layouts", 8)?,
         plot: options.path("--plot"),
         words: options.words,

@@ -25,7 +25,7 @@ static uint8_t area1[TROYMANTLE_AREA1_BYTES], area2[TROYMANTLE_AREA2_BYTES], are
 static uint8_t area4[TROYMANTLE_AREA4_BYTES], area5[TROYMANTLE_AREA5_BYTES], area6[TROYMANTLE_AREA6_BYTES];
 static uint8_t area7[TROYMANTLE_AREA7_BYTES], area8[TROYMANTLE_AREA8_BYTES], stack[TROYMANTLE_STACK_BYTES];
 static uint8_t row[TROYMANTLE_NUMBER_WIDTH * TROYMANTLE_MOST_RULES];
-static uint16_t counts[6], run[4];
+static uint16_t counts[6], run[5];
 
 /* The bytes of a string constant, and the arguments that make a sheet of the lex file. */
 #define BYTES(text) (const uint8_t *)(text), sizeof(text) - 1
@@ -121,7 +121,7 @@ static void show_refused_rows(void)
 /* An entry that ends inside its last character. */
 static void show_refused_text(void)
 {
-    uint64_t word = troymantle_start(2, BYTES("\xe2\x82"), run, stack, sizeof stack);
+    uint64_t word = troymantle_start(TROYMANTLE_SELLER, 2, BYTES("\xe2\x82"), run, stack, sizeof stack);
     expect("start", word, TROYMANTLE_TEXT_MISMATCH);
     printf("refused by %d: an entry that is not UTF-8\n", TROYMANTLE_TEXT_MISMATCH);
 }
@@ -151,7 +151,8 @@ int main(void)
     expect("link", word, TROYMANTLE_ACCEPTED);
     printf("%d rules, of which %d are not in the map\n", counts[1], TROYMANTLE_A(word));
     show_refused_text();
-    expect("start", troymantle_start(sizeof ENTRY - 1, BYTES(ENTRY), run, stack, sizeof stack), TROYMANTLE_ACCEPTED);
+    word = troymantle_start(TROYMANTLE_SELLER, sizeof ENTRY - 1, BYTES(ENTRY), run, stack, sizeof stack);
+    expect("start", word, TROYMANTLE_ACCEPTED);
     show_refused_rows();
     print_tokens();
     return 0;

@@ -90,11 +90,9 @@ static void try_run(const struct sheet *sheet)
 {
     static struct run run;
     static struct bytes text;
-    uint64_t n = one_in(12) ? ONE_OF(4095, 4096, 4096, 4097, 65535, 65536, 1ull << 32, 1ull << 63, UINT64_MAX - 1,
-                                     UINT64_MAX, random_word())
-                            : below(30);
+    uint64_t kind = choose_kind(), n = choose_n(kind);
     size_t length = n <= 65535 ? 2 * (n + 1) : below(100);
-    for (size_t k = 0; k < 4; k++) {
+    for (size_t k = 0; k < 5; k++) {
         run.numbers[k] = (uint16_t)random_word();
     }
     run.stack.length = 0;
@@ -103,7 +101,7 @@ static void try_run(const struct sheet *sheet)
     if (one_in(8)) {
         change_entry(&text);
     }
-    if (try_start(n, &text, &run) != TROYMANTLE_ACCEPTED || one_in(10)) {
+    if (try_start(kind, n, &text, &run) != TROYMANTLE_ACCEPTED || one_in(10)) {
         make_random_run(&run);
         make_entry(&text, run.numbers[0] <= 4096 || one_in(4) ? run.numbers[0] : below(100));
     }

@@ -155,13 +155,26 @@ bool is_map(const struct map *map)
     return k >= count;
 }
 
+/* ---- 13, and the limits of 8 and 9 (02, 3/13) */
+
+bool is_kind(uint64_t kind)
+{
+    return kind == 0 || kind == 1;
+}
+
+unsigned most_entry(uint64_t kind)
+{
+    return kind == 0 ? 4096 : kind == 1 ? 512 : 0;
+}
+
 /* ---- 9 and 10: the run and the row */
 
 bool is_run(const struct run *run, unsigned states)
 {
-    unsigned n = run->numbers[0], position = run->numbers[1], depth = run->numbers[2], moves = run->numbers[3], k = 0;
-    if (n > 4096 || position > n || depth == 0 || depth > position + 1 || moves > position ||
-        run->stack.length < 2 * ((size_t)n + 1)) {
+    unsigned n = run->numbers[0], position = run->numbers[1], depth = run->numbers[2], moves = run->numbers[3];
+    unsigned kind = run->numbers[4], k = 0;
+    if (!is_kind(kind) || n > most_entry(kind) || position > n || depth == 0 || depth > position + 1 ||
+        moves > position || run->stack.length < 2 * ((size_t)n + 1)) {
         return false;
     }
     while (k < depth && field(run->stack.data, k) < states) {

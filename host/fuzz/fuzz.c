@@ -145,7 +145,7 @@ static bool saw_all(void)
 {
     bool all = true;
     for (size_t k = 0; k <= TROYMANTLE_TOKEN; k++) {
-        bool is_answer = k <= TROYMANTLE_TEXT_MISMATCH || k >= TROYMANTLE_DONE;
+        bool is_answer = k <= TROYMANTLE_UNKNOWN_CALLER || k >= TROYMANTLE_DONE;
         if (is_answer && answers[k] == 0) {
             fprintf(stderr, "fuzz: no call answered %zu\n", k);
             all = false;

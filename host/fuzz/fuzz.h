@@ -124,7 +124,7 @@ struct map {
 };
 
 struct run {
-    uint16_t numbers[4]; /* n, position, depth, moves */
+    uint16_t numbers[5]; /* n, position, depth, moves, kind */
     struct bytes stack;
 };
 
@@ -135,6 +135,9 @@ unsigned rule_field(const struct sheet *sheet, size_t rule, size_t number);
 void make_random_sheet(struct sheet *sheet);
 void change_sheet(struct sheet *sheet);
 void make_map(struct map *map, const struct sheet *sheet);
+/* A kind of caller, mostly one of the two, and the bytes of an entry: few, about as many as its limit allows, or far above all limits. */
+uint64_t choose_kind(void);
+uint64_t choose_n(uint64_t kind);
 void make_random_run(struct run *run);
 void copy_run(struct run *to, const struct run *run);
 /* One more, one less, none or any number. */
@@ -151,6 +154,9 @@ void choose_pair(const struct bytes *text, bool is_text, uint64_t pair[2]);
 bool is_utf8(const uint8_t *data, size_t length);
 bool is_sound(const struct sheet *sheet);
 bool is_map(const struct map *map);
+bool is_kind(uint64_t kind);
+/* The limit of a kind's entries; of one that is not there, none at all. */
+unsigned most_entry(uint64_t kind);
 bool is_run(const struct run *run, unsigned states);
 bool is_entry(const struct bytes *text, uint64_t n);
 /* The run and its text are good. */
@@ -184,7 +190,7 @@ void lend_sheet(struct loan *loan, const struct sheet *sheet, enum access area_2
 /* Accepted, the sheet is linked. */
 void try_link(struct sheet *sheet, const struct map *map, size_t length7, size_t length8);
 /* Run and stack are as the call left them. */
-uint64_t try_start(uint64_t n, const struct bytes *text, struct run *run);
+uint64_t try_start(uint64_t kind, uint64_t n, const struct bytes *text, struct run *run);
 void try_step(const struct sheet *sheet, const struct bytes *text, struct run *run, const struct bytes *row);
 /* Lines and columns of so many offsets, and offsets of so many lines and columns. */
 void try_places(const struct bytes *source, size_t tries);

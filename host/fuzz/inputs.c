@@ -161,11 +161,32 @@ void make_map(struct map *map, const struct sheet *sheet)
 
 /* ---- runs and rows */
 
+uint64_t choose_kind(void)
+{
+    return one_in(8) ? ONE_OF(2, 3, 255, 256, 257, 65535, 65536, 65537, 1ull << 32, (1ull << 32) + 1, 1ull << 63,
+                              UINT64_MAX, random_word())
+                     : below(2);
+}
+
+/* The bytes of an entry that are about as many as a limit allows, or far above all limits. */
+static uint64_t choose_edge(uint64_t kind)
+{
+    uint64_t most = most_entry(kind);
+    return ONE_OF(most, most, most + 1, most + 1, most - (most > 0), 512, 513, 4095, 4096, 4097, 65535, 65536,
+                  1ull << 32, 1ull << 63, UINT64_MAX - 1, UINT64_MAX, random_word());
+}
+
+uint64_t choose_n(uint64_t kind)
+{
+    return one_in(6) ? choose_edge(kind) : below(30);
+}
+
 void make_random_run(struct run *run)
 {
-    size_t n = one_in(20) ? below(65536) : below(40);
-    const uint64_t numbers[] = {n, below(n + 1), 1 + below(4), below(4)};
-    for (size_t k = 0; k < 4; k++) {
+    uint64_t kind = choose_kind();
+    size_t n = one_in(20) ? below(65536) : one_in(6) ? (uint16_t)choose_edge(kind) : below(40);
+    const uint64_t numbers[] = {n, below(n + 1), 1 + below(4), below(4), kind};
+    for (size_t k = 0; k < 5; k++) {
         run->numbers[k] = (uint16_t)(one_in(8) ? random_word() : numbers[k]);
     }
     run->stack.length = 0;
@@ -181,15 +202,18 @@ void copy_run(struct run *to, const struct run *run)
 void change_run(struct run *run)
 {
     unsigned n = run->numbers[0], at = (unsigned)below(run->stack.length / 2);
-    uint16_t *number = &run->numbers[below(4)];
-    switch (below(4)) {
+    uint16_t *number = &run->numbers[below(5)];
+    switch (below(5)) {
     case 0:
         *number = (uint16_t)(*number + ONE_OF(1, 2, 65535));
         break;
     case 1:
-        *number = (uint16_t)ONE_OF(0, n, n + 1, 4096, 4097, 65535, random_word());
+        *number = (uint16_t)ONE_OF(0, n, n + 1, 512, 513, 4096, 4097, 65535, random_word());
         break;
     case 2:
+        run->numbers[4] = (uint16_t)choose_kind();
+        break;
+    case 3:
         resize(&run->stack, other_length(run->stack.length));
         break;
     default:

@@ -1,4 +1,4 @@
-/* The start call and the step call (01, The run; 02, 2/13). */
+/* The start call and the step call (01, The run; 02, 2/13 and 3/13). */
 #include "fuzz.h"
 
 #include <string.h>
@@ -16,36 +16,39 @@ static void take_run(struct run *run, const struct lent *numbers, const struct l
 static void lend_run(struct loan *loan, const struct bytes *text, const struct run *run)
 {
     lend(loan, READ, "the text", text->data, text->length);
-    lend_numbers(loan, WRITE, "the run", run->numbers, 4, sizeof *run->numbers);
+    lend_numbers(loan, WRITE, "the run", run->numbers, 5, sizeof *run->numbers);
     lend(loan, WRITE, "the stack", run->stack.data, run->stack.length);
 }
 
 /* ---- start */
 
-/* 8, 12; 0 where the run begins. */
-static unsigned start_answer(uint64_t n, const struct bytes *text, const struct run *run)
+/* 13, 8, 12; 0 where the run begins. */
+static unsigned start_answer(uint64_t kind, uint64_t n, const struct bytes *text, const struct run *run)
 {
-    if (n > 4096 || run->stack.length < 2 * (n + 1)) {
+    if (!is_kind(kind)) {
+        return TROYMANTLE_UNKNOWN_CALLER;
+    }
+    if (n > most_entry(kind) || run->stack.length < 2 * (n + 1)) {
         return TROYMANTLE_START_REFUSED;
     }
     return is_entry(text, n) ? TROYMANTLE_ACCEPTED : TROYMANTLE_TEXT_MISMATCH;
 }
 
-uint64_t try_start(uint64_t n, const struct bytes *text, struct run *run)
+uint64_t try_start(uint64_t kind, uint64_t n, const struct bytes *text, struct run *run)
 {
     struct loan loan = {0};
-    unsigned right = start_answer(n, text, run);
+    unsigned right = start_answer(kind, n, text, run);
     begin_call(START);
     lend_run(&loan, text, run);
     const struct lent *numbers = &loan.lents[START_RUN], *stack = &loan.lents[START_RUN + 1];
-    uint64_t word = troymantle_start(n, LENT(START_TEXT), LENT_NUMBERS(START_RUN), LENT(START_RUN + 1));
+    uint64_t word = troymantle_start(kind, n, LENT(START_TEXT), LENT_NUMBERS(START_RUN), LENT(START_RUN + 1));
     end_call(word);
     check_loan(&loan);
     if (word != right) {
         fail("the answer is %#llx, and by 01 and 02 %u", (unsigned long long)word, right);
     }
     if (right == TROYMANTLE_ACCEPTED) {
-        const uint16_t first[4] = {(uint16_t)n, 0, 1, 0};
+        const uint16_t first[5] = {(uint16_t)n, 0, 1, 0, (uint16_t)kind};
         if (memcmp(numbers->bytes, first, sizeof first) != 0 || !are_zero(stack->bytes, 2) ||
             memcmp(stack->bytes + 2, stack->before + 2, stack->length - 2) != 0) {
             fail("the run does not begin as it must");
@@ -104,16 +107,16 @@ static void check_stack(const struct sheet *sheet, const struct lent *stack, uns
     }
 }
 
-/* A token or a skip: over a length of the row, one move more, and at most one state more or less. */
+/* A token or a skip: over a length of the row, one move more, at most one state more or less, and of the same kind. */
 static void check_move(const struct sheet *sheet, const struct run *run, const struct bytes *row, uint64_t word,
                        const struct loan *loan)
 {
-    uint16_t after[4];
+    uint16_t after[5];
     memcpy(after, loan->lents[STEP_RUN].bytes, sizeof after);
     const uint16_t *before = run->numbers;
     unsigned length = (unsigned)after[1] - before[1];
     if (after[0] != before[0] || after[1] <= before[1] || after[1] > after[0] || after[3] != before[3] + 1 ||
-        !has_length(row, length)) {
+        after[4] != before[4] || !has_length(row, length)) {
         fail("the run's numbers do not fit the move");
     }
     if (after[2] != 1 && after[2] != before[2] - 1 && after[2] != before[2] && after[2] != before[2] + 1) {

@@ -146,9 +146,37 @@ uint64_t wrong_link(BYTES(source), BYTES(area1), AREA(area2), SHEET_BEHIND_AREA_
 
 /* ---- start and step */
 
+/* The kind that stands for another one. */
+static uint64_t wrong_kind(uint64_t kind, uint64_t n)
+{
+    if (is_chosen(start_takes_a_kiosk_entry_of_513_bytes, kind == TROYMANTLE_KIOSK && n == 513) ||
+        is_chosen(start_takes_an_unknown_kind, !is_kind(kind))) {
+        return TROYMANTLE_SELLER;
+    }
+    if (is_chosen(start_gives_a_seller_the_limit_of_a_kiosk, kind == TROYMANTLE_SELLER)) {
+        return TROYMANTLE_KIOSK;
+    }
+    return is_chosen(start_takes_the_kind_by_its_low_bits, true) ? (uint16_t)kind : kind;
+}
+
+/* The numbers that stand for those of the kind and of its limit. */
+static uint64_t wrong_kind_word(uint64_t word, uint64_t kind, uint64_t n, BYTES(text), size_t stack_length)
+{
+    if (is_chosen(start_refuses_a_kiosk_entry_of_512_bytes, kind == TROYMANTLE_KIOSK && n == 512)) {
+        return instead(word, TROYMANTLE_ACCEPTED, TROYMANTLE_START_REFUSED);
+    }
+    if (is_chosen(start_tests_n_before_the_kind, n > 4096 || stack_length < 2 * (n + 1))) {
+        return instead(word, TROYMANTLE_UNKNOWN_CALLER, TROYMANTLE_START_REFUSED);
+    }
+    if (is_chosen(start_tests_the_text_before_the_kind, !is_utf8(text, text_length))) {
+        return instead(word, TROYMANTLE_UNKNOWN_CALLER, TROYMANTLE_TEXT_MISMATCH);
+    }
+    return word;
+}
+
 static uint64_t wrong_start_word(uint64_t word, uint64_t n, BYTES(text))
 {
-    if (is_chosen(start_takes_a_short_stack, n <= 4096)) {
+    if (is_chosen(start_takes_a_short_stack, n <= 512)) {
         return instead(word, TROYMANTLE_START_REFUSED, TROYMANTLE_ACCEPTED);
     }
     if (is_chosen(start_tests_the_text_before_n, !is_utf8(text, text_length))) {
@@ -159,9 +187,23 @@ static uint64_t wrong_start_word(uint64_t word, uint64_t n, BYTES(text))
     return is_taken ? instead(word, TROYMANTLE_TEXT_MISMATCH, TROYMANTLE_ACCEPTED) : word;
 }
 
-uint64_t wrong_start(uint64_t n, BYTES(text), uint16_t run[4], AREA(stack))
+/* The kind that the run has afterwards: that of the call also where another one stood for it. */
+static void leave_kind(uint16_t run[5], uint64_t kind, uint16_t before, bool is_accepted)
 {
-    uint64_t word = troymantle_start(n, GIVEN(text), run, GIVEN(stack));
+    if (is_chosen(start_takes_a_kiosk_entry_of_513_bytes, is_accepted) ||
+        is_chosen(start_gives_a_seller_the_limit_of_a_kiosk, is_accepted) ||
+        is_chosen(start_writes_the_kind_at_a_refusal, !is_accepted)) {
+        run[4] = (uint16_t)kind;
+    } else if (is_chosen(start_does_not_write_the_kind, true)) {
+        run[4] = before;
+    }
+}
+
+uint64_t wrong_start(uint64_t kind, uint64_t n, BYTES(text), uint16_t run[5], AREA(stack))
+{
+    uint16_t kind_before = run[4];
+    uint64_t word = troymantle_start(wrong_kind(kind, n), n, GIVEN(text), run, GIVEN(stack));
+    leave_kind(run, kind, kind_before, word == 0);
     if (is_chosen(start_writes_the_run_at_a_refusal, word != 0)) {
         run[1]++;
     } else if (is_chosen(start_clears_the_stack, word == 0)) {
@@ -171,12 +213,12 @@ uint64_t wrong_start(uint64_t n, BYTES(text), uint16_t run[4], AREA(stack))
     } else if (is_chosen(start_reads_behind_the_text, true)) {
         read_byte(text + text_length);
     }
-    return wrong_start_word(word, n, GIVEN(text));
+    return wrong_kind_word(wrong_start_word(word, n, GIVEN(text)), kind, n, GIVEN(text), stack_length);
 }
 
 /* Whether a row that was refused has a length for each rule, and none above the bytes left: then some length cuts a
  * character. */
-static bool is_cut(const uint16_t run[4], BYTES(row), unsigned rules)
+static bool is_cut(const uint16_t run[5], BYTES(row), unsigned rules)
 {
     size_t k = 0;
     if (row_length != 2 * (size_t)rules) {
@@ -189,7 +231,7 @@ static bool is_cut(const uint16_t run[4], BYTES(row), unsigned rules)
 }
 
 /* The numbers that stand for those of the text and of cut characters. */
-static uint64_t wrong_text_word(uint64_t word, BYTES(text), const uint16_t run[4], BYTES(row), unsigned rules)
+static uint64_t wrong_text_word(uint64_t word, BYTES(text), const uint16_t run[5], BYTES(row), unsigned rules)
 {
     if (is_chosen(step_takes_bytes_that_are_no_text, text_length == run[0]) ||
         is_chosen(step_takes_a_text_of_another_length, text_length != run[0])) {
@@ -211,6 +253,22 @@ static uint64_t wrong_text_word(uint64_t word, BYTES(text), const uint16_t run[4
     return word;
 }
 
+/* The numbers that stand for those of the run's kind and its limit. */
+static uint64_t wrong_caller_word(uint64_t word, const uint16_t run[5])
+{
+    unsigned number = TROYMANTLE_NUMBER(word), n = run[0];
+    if (is_chosen(step_takes_an_unknown_kind, !is_kind(run[4])) ||
+        is_chosen(step_gives_a_kiosk_the_limit_of_a_seller, run[4] == TROYMANTLE_KIOSK && n > 512 && n <= 4096)) {
+        return instead(word, TROYMANTLE_BROKEN_RUN, TROYMANTLE_STOPPED);
+    }
+    if (is_chosen(step_tests_the_kind_before_the_text, !is_kind(run[4]))) {
+        return instead(word, TROYMANTLE_TEXT_MISMATCH, TROYMANTLE_BROKEN_RUN);
+    }
+    bool is_judged = number != TROYMANTLE_BROKEN_SHEET && number != TROYMANTLE_TEXT_MISMATCH;
+    bool is_long = run[4] == TROYMANTLE_SELLER && n > 512;
+    return is_chosen(step_gives_a_seller_the_limit_of_a_kiosk, is_judged && is_long) ? TROYMANTLE_BROKEN_RUN : word;
+}
+
 static uint64_t wrong_step_word(uint64_t word)
 {
     unsigned number = TROYMANTLE_NUMBER(word);
@@ -224,7 +282,7 @@ static uint64_t wrong_step_word(uint64_t word)
 }
 
 /* What is read and written that is no business of a step. */
-static void touch_in_step(BYTES(text), uint16_t run[4], BYTES(row))
+static void touch_in_step(BYTES(text), uint16_t run[5], BYTES(row))
 {
     if (is_chosen(step_writes_the_text, text_length > 0)) {
         write_byte(text + text_length - 1);
@@ -233,13 +291,13 @@ static void touch_in_step(BYTES(text), uint16_t run[4], BYTES(row))
     } else if (is_chosen(step_writes_the_row, row_length > 0)) {
         write_byte(row);
     } else if (is_chosen(step_writes_behind_the_run, true)) {
-        write_byte((uint8_t *)(run + 4));
+        write_byte((uint8_t *)(run + 5));
     } else if (is_chosen(step_reads_behind_the_row, true)) {
         read_byte(row + row_length);
     }
 }
 
-uint64_t wrong_step(BYTES(source), BYTES(area1), BYTES(area2), SHEET_BEHIND_AREA_2, BYTES(text), uint16_t run[4],
+uint64_t wrong_step(BYTES(source), BYTES(area1), BYTES(area2), SHEET_BEHIND_AREA_2, BYTES(text), uint16_t run[5],
                     AREA(stack), BYTES(row))
 {
     uint64_t word = troymantle_step(GIVEN_SHEET, GIVEN(text), run, GIVEN(stack), GIVEN(row));
@@ -248,6 +306,8 @@ uint64_t wrong_step(BYTES(source), BYTES(area1), BYTES(area2), SHEET_BEHIND_AREA
     touch_in_step(GIVEN(text), run, GIVEN(row));
     if (is_chosen(step_moves_when_done, number == TROYMANTLE_DONE) || is_chosen(step_counts_a_move_twice, is_move)) {
         run[3]++;
+    } else if (is_chosen(step_loses_the_kind, is_move)) {
+        run[4] = 0;
     } else if (is_chosen(step_writes_the_stack_at_a_refusal, number == TROYMANTLE_ROW_MISMATCH) ||
                is_chosen(step_writes_another_entry, is_move)) {
         write_byte(stack + stack_length - 1);
@@ -255,7 +315,8 @@ uint64_t wrong_step(BYTES(source), BYTES(area1), BYTES(area2), SHEET_BEHIND_AREA
     while (is_chosen(step_does_not_end, number == TROYMANTLE_STOPPED)) {
         read_byte((const uint8_t *)&word);
     }
-    return wrong_step_word(wrong_text_word(word, GIVEN(text), run, GIVEN(row), counts[1]));
+    word = wrong_caller_word(wrong_text_word(word, GIVEN(text), run, GIVEN(row), counts[1]), run);
+    return wrong_step_word(word);
 }
 
 /* ---- line_column */

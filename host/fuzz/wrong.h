@@ -1,4 +1,4 @@
-/* Wrong libraries for the self-test: each makes the real call, and then does one thing that it must not. */
+/* Wrong libraries for the self-test: each makes the real call, and does one thing that it must not. */
 #ifndef WRONG_H
 #define WRONG_H
 
@@ -34,6 +34,15 @@
     X(start_takes_bytes_that_are_no_text)                                                                              \
     X(start_takes_a_text_of_another_length)                                                                            \
     X(start_tests_the_text_before_n)                                                                                   \
+    X(start_takes_a_kiosk_entry_of_513_bytes)                                                                          \
+    X(start_refuses_a_kiosk_entry_of_512_bytes)                                                                        \
+    X(start_gives_a_seller_the_limit_of_a_kiosk)                                                                       \
+    X(start_takes_an_unknown_kind)                                                                                     \
+    X(start_takes_the_kind_by_its_low_bits)                                                                            \
+    X(start_tests_n_before_the_kind)                                                                                   \
+    X(start_tests_the_text_before_the_kind)                                                                            \
+    X(start_does_not_write_the_kind)                                                                                   \
+    X(start_writes_the_kind_at_a_refusal)                                                                              \
     X(start_writes_the_text)                                                                                           \
     X(start_reads_behind_the_text)                                                                                     \
     X(step_moves_when_done)                                                                                            \
@@ -45,6 +54,11 @@
     X(step_has_another_start)                                                                                          \
     X(step_has_a_value_at_a_skip)                                                                                      \
     X(step_takes_a_broken_run)                                                                                         \
+    X(step_takes_an_unknown_kind)                                                                                      \
+    X(step_gives_a_kiosk_the_limit_of_a_seller)                                                                        \
+    X(step_gives_a_seller_the_limit_of_a_kiosk)                                                                        \
+    X(step_loses_the_kind)                                                                                             \
+    X(step_tests_the_kind_before_the_text)                                                                             \
     X(step_takes_bytes_that_are_no_text)                                                                               \
     X(step_takes_a_text_of_another_length)                                                                             \
     X(step_tests_the_text_before_the_sheet)                                                                            \

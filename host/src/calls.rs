@@ -70,13 +70,13 @@ pub fn link(sheet: &mut SheetBytes, names: &[u8], entries: &[u8], area7: &mut [u
     )
 }
 
-pub fn start(n: u64, text: &[u8], run: &mut [u16; 4], stack: &mut [u8]) -> Word {
+pub fn start(kind: u64, n: u64, text: &[u8], run: &mut [u16; 5], stack: &mut [u8]) -> Word {
     // SAFETY: as above.
-    Word(unsafe { sys::troymantle_start(n, text.as_ptr(), text.len(), run, stack.as_mut_ptr(), stack.len()) })
+    Word(unsafe { sys::troymantle_start(kind, n, text.as_ptr(), text.len(), run, stack.as_mut_ptr(), stack.len()) })
 }
 
 #[rustfmt::skip] // a slice beside its length
-pub fn step(sheet: &SheetBytes, text: &[u8], run: &mut [u16; 4], stack: &mut [u8], row: &[u8]) -> Word {
+pub fn step(sheet: &SheetBytes, text: &[u8], run: &mut [u16; 5], stack: &mut [u8], row: &[u8]) -> Word {
     on_sheet!(
         troymantle_step, as_ptr, sheet,
         text.as_ptr(), text.len(), run, stack.as_mut_ptr(), stack.len(), row.as_ptr(), row.len()

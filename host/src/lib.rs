@@ -9,12 +9,12 @@
 //!
 //! 1. parses a file ([`LexFile`]) and asks its engine which patterns it takes,
 //! 2. links the [`Sheet`] to a [`Map`] of names and token ids,
-//! 3. starts a [`Run`] over an entry, which is UTF-8, and at each place hands the step a [`Row`]: how many bytes each pattern
-//!    matches there, whole characters.
+//! 3. starts a [`Run`] over an entry of a [`Caller`], which is UTF-8, and at each place hands the step a [`Row`]: how many bytes
+//!    each pattern matches there, whole characters.
 //!
 //! ```
 //! use regex::Regex;
-//! use troymantle::{LexFile, Map, Row, Step};
+//! use troymantle::{Caller, LexFile, Map, Row, Step};
 //!
 //! # fn main() -> Result<(), Box<dyn std::error::Error>> {
 //! let file = "%%\n[0-9]+ 'NUMBER'\nwin 'WIN'\n[ ]+ ;\n";
@@ -36,7 +36,7 @@
 //! // run
 //! let entry = "win 12";
 //! let mut tokens = vec![];
-//! let mut run = sheet.start(entry)?;
+//! let mut run = sheet.start(Caller::Seller, entry)?;
 //! loop {
 //!     let rest = &entry[run.position()..];
 //!     let at_start = |pattern: &Regex| pattern.find(rest).filter(|found| found.start() == 0);
@@ -56,6 +56,7 @@
 //! A call that is refused answers a [`Refusal`] and changes nothing; the faults of a file are [`Fault`]s, each with the
 //! [`Place`] that an editor shows. No input makes this crate panic.
 
+mod caller;
 mod calls;
 mod fault;
 mod lex_file;
@@ -67,6 +68,7 @@ mod refusal;
 mod run;
 mod sheet;
 
+pub use caller::Caller;
 pub use fault::{Fault, FaultKind};
 pub use lex_file::{Flags, LexFile};
 pub use map::{Map, NamesTooLong};

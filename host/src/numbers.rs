@@ -16,9 +16,9 @@ pub const FAULTY_FILE: u16 = 5;
 pub const BROKEN_SHEET: u16 = 6;
 /// The map fails its check.
 pub const BROKEN_MAP: u16 = 7;
-/// The entry is too long, or the stack too short.
+/// The entry is too long for the caller's kind, or the stack too short.
 pub const START_REFUSED: u16 = 8;
-/// The numbers of the run, its stack and the sheet do not fit each other.
+/// The run's kind of caller is unknown, or its numbers, its stack and the sheet do not fit each other.
 pub const BROKEN_RUN: u16 = 9;
 /// The row does not fit the rules, the bytes that are left or the edges of characters.
 pub const ROW_MISMATCH: u16 = 10;
@@ -26,6 +26,8 @@ pub const ROW_MISMATCH: u16 = 10;
 pub const NO_SUCH_PLACE: u16 = 11;
 /// The entry's text is not UTF-8, or not n bytes long.
 pub const TEXT_MISMATCH: u16 = 12;
+/// There is no such kind of caller.
+pub const UNKNOWN_CALLER: u16 = 13;
 
 /// The position is at the entry's end.
 pub const DONE: u16 = 256;
@@ -44,6 +46,11 @@ pub const FLAG_COMMENTS: u64 = 1;
 pub const FLAG_POSIX_ESCAPES: u64 = 2;
 /// Both flags, the greatest number that a parse takes.
 pub const MOST_FLAGS: u64 = 3;
+
+/// The kind of caller that starts a run: a seller.
+pub const SELLER: u16 = 0;
+/// A kiosk.
+pub const KIOSK: u16 = 1;
 
 /// Bytes of a state in area 1.
 pub const STATE_WIDTH: usize = 6;
@@ -70,8 +77,10 @@ pub const MOST_RULES: usize = 2_048;
 pub const MOST_OTHERS: usize = 65_535;
 /// The most entries of a map.
 pub const MOST_MAP: usize = 2_048;
-/// The most bytes of an entry that is run over.
+/// The most bytes of an entry that a seller's run goes over.
 pub const MOST_ENTRY: usize = 4_096;
+/// The most bytes of an entry that a kiosk's run goes over.
+pub const MOST_KIOSK_ENTRY: usize = 512;
 
 /// Bytes of area 1 that hold whatever the limits allow; so below for the other areas.
 pub const AREA1_BYTES: usize = 384;

@@ -23,10 +23,10 @@ pub enum Refusal {
     BrokenSheet,
     /// 7, broken map: more than 2,048 entries, equal names, a name past the names, or a length that is no multiple of 6.
     BrokenMap,
-    /// 8, poor start: the entry has more than 4,096 bytes.
+    /// 8, poor start: the entry has more than 4,096 bytes, or at a kiosk more than 512.
     StartRefused,
-    /// 9, broken run: its numbers, its stack and the sheet do not fit each other. A run that a start and steps left always
-    /// fits.
+    /// 9, broken run: its kind of caller is unknown, or its numbers, its stack and the sheet do not fit each other. A run that a
+    /// start and steps left always fits.
     BrokenRun,
     /// 10, ill-fitting row: not one length for each rule, or a length of any rule that is above the bytes that are left or ends
     /// inside a character.
@@ -35,6 +35,8 @@ pub enum Refusal {
     NoSuchPlace,
     /// 12, ill-fitting text: the entry is not UTF-8, or in a run that was made by hand not n bytes long.
     TextMismatch,
+    /// 13, unknown caller: neither a seller nor a kiosk. No [`Caller`](crate::Caller) is refused by it.
+    UnknownCaller,
     /// A number of a library that is newer than this crate.
     Other(u16),
 }
@@ -55,6 +57,7 @@ impl Refusal {
             Refusal::RowMismatch => numbers::ROW_MISMATCH,
             Refusal::NoSuchPlace => numbers::NO_SUCH_PLACE,
             Refusal::TextMismatch => numbers::TEXT_MISMATCH,
+            Refusal::UnknownCaller => numbers::UNKNOWN_CALLER,
             Refusal::Other(number) => *number,
         }
     }
@@ -74,6 +77,7 @@ impl Refusal {
             Refusal::RowMismatch => "ill-fitting row",
             Refusal::NoSuchPlace => "no such place",
             Refusal::TextMismatch => "ill-fitting text",
+            Refusal::UnknownCaller => "unknown caller",
             Refusal::Other(_) => "refused",
         }
     }
@@ -91,6 +95,7 @@ impl Refusal {
             numbers::ROW_MISMATCH => Refusal::RowMismatch,
             numbers::NO_SUCH_PLACE => Refusal::NoSuchPlace,
             numbers::TEXT_MISMATCH => Refusal::TextMismatch,
+            numbers::UNKNOWN_CALLER => Refusal::UnknownCaller,
             other => Refusal::Other(other),
         }
     }
@@ -106,8 +111,11 @@ impl Refusal {
             Refusal::BrokenMap => {
                 "it has equal names, more than 2,048 entries, or bytes that are no entries".to_string()
             }
-            Refusal::StartRefused => "the entry has more than 4,096 bytes".to_string(),
-            Refusal::BrokenRun => "its numbers, its stack and the sheet do not fit each other".to_string(),
+            Refusal::StartRefused => "the entry has more than 4,096 bytes, or at a kiosk more than 512".to_string(),
+            Refusal::BrokenRun => {
+                "its kind of caller is unknown, or its numbers, its stack and the sheet do not fit each other"
+                    .to_string()
+            }
             Refusal::RowMismatch => {
                 "not one length for each rule, or one that is above the bytes left or ends inside a character"
                     .to_string()
@@ -116,6 +124,7 @@ impl Refusal {
                 "the offset is past the end or inside a character, or no offset has the line and column".to_string()
             }
             Refusal::TextMismatch => "the entry is not UTF-8, or not n bytes long".to_string(),
+            Refusal::UnknownCaller => "neither a seller nor a kiosk".to_string(),
             Refusal::Other(number) => format!("by the number {number}, which this program does not know"),
         }
     }

@@ -1,19 +1,20 @@
 //! A run over an entry.
 
 use crate::calls;
-use crate::numbers::{ACCEPTED, DONE, MOST_ENTRY, NUMBER_WIDTH, SKIP, STOPPED, TOKEN, UNLINKED};
+use crate::numbers::{ACCEPTED, DONE, NUMBER_WIDTH, SKIP, STOPPED, TOKEN, UNLINKED};
 use crate::records::{bytes, records};
-use crate::{Refusal, Sheet};
+use crate::{Caller, Refusal, Sheet};
 use std::ops::Range;
 
-/// A run over an entry: how far it has come, and its stack of states. It borrows its sheet and the entry's text, so that nothing but
-/// its steps changes anything while it runs, and each step is given the text of the start. That is what the library's theorem
-/// about whole runs supposes, beside a sheet that was parsed and linked and a run that was started here.
+/// A run over an entry: how far it has come, its stack of states, and the kind of caller that started it. It borrows its sheet
+/// and the entry's text, so that nothing but its steps changes anything while it runs, and each step is given the text of the
+/// start. That is what the library's theorem about whole runs supposes, beside a sheet that was parsed and linked and a run that
+/// was started here.
 #[derive(Clone, Debug)]
 pub struct Run<'a> {
     sheet: &'a Sheet,
     text: &'a [u8],
-    numbers: [u16; 4],
+    numbers: [u16; 5],
     stack: Vec<u8>,
 }
 
@@ -78,28 +79,31 @@ impl FromIterator<usize> for Row {
 }
 
 impl<'a> Run<'a> {
-    pub(crate) fn start(sheet: &'a Sheet, text: &'a [u8]) -> Result<Run<'a>, Refusal> {
+    pub(crate) fn start(sheet: &'a Sheet, caller: Caller, text: &'a [u8]) -> Result<Run<'a>, Refusal> {
         let n = text.len();
-        let mut run = Run { sheet, text, numbers: [0; 4], stack: vec![0; NUMBER_WIDTH * (n.min(MOST_ENTRY) + 1)] };
-        match calls::start(n as u64, text, &mut run.numbers, &mut run.stack).number() {
+        let stack = vec![0; NUMBER_WIDTH * (n.min(caller.most_bytes()) + 1)];
+        let mut run = Run { sheet, text, numbers: [0; 5], stack };
+        match calls::start(caller.kind().into(), n as u64, text, &mut run.numbers, &mut run.stack).number() {
             ACCEPTED => Ok(run),
             number => Err(Refusal::of(number)),
         }
     }
 
-    /// A run by its entry, its numbers (n, position, depth, moves) and its stack's bytes, as [`Run::into_parts`] gave them. Each
-    /// step judges them; that it is the entry of the start it cannot tell, only whether it is UTF-8 and n bytes long.
+    /// A run by its entry, its numbers (n, position, depth, moves, and the caller's kind: 0 for a seller, 1 for a kiosk) and its
+    /// stack's bytes, as [`Run::into_parts`] gave them. Each step judges them; that it is the entry of the start it cannot tell, only
+    /// whether it is UTF-8 and n bytes long.
     pub fn from_parts(
         sheet: &'a Sheet,
         entry: &'a (impl AsRef<[u8]> + ?Sized),
-        numbers: [u16; 4],
+        numbers: [u16; 5],
         stack: Vec<u8>,
     ) -> Run<'a> {
         Run { sheet, text: entry.as_ref(), numbers, stack }
     }
 
-    /// The run's numbers (n, position, depth, moves) and its stack's bytes, to go on with later on the same sheet and entry.
-    pub fn into_parts(self) -> ([u16; 4], Vec<u8>) {
+    /// The run's numbers (n, position, depth, moves, the caller's kind) and its stack's bytes, to go on with later on the same
+    /// sheet and entry.
+    pub fn into_parts(self) -> ([u16; 5], Vec<u8>) {
         (self.numbers, self.stack)
     }
 
@@ -156,13 +160,19 @@ impl<'a> Run<'a> {
 
     /// How many tokens and skips there were.
     pub fn moves(&self) -> usize {
-        let [.., moves] = self.numbers;
+        let [_, _, _, moves, _] = self.numbers;
         usize::from(moves)
+    }
+
+    /// The kind of caller that started it. Only a run that was made by hand can have an unknown one.
+    pub fn caller(&self) -> Option<Caller> {
+        let [.., kind] = self.numbers;
+        Caller::of_kind(kind)
     }
 
     /// The stack of states, the current one last.
     pub fn states(&self) -> Vec<u16> {
-        let [_, _, depth, _] = self.numbers;
+        let [_, _, depth, ..] = self.numbers;
         records(&self.stack, usize::from(depth)).map(|[state]: [u16; 1]| state).collect()
     }
 

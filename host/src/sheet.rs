@@ -2,10 +2,10 @@
 
 use crate::calls::{self, SheetBytes};
 use crate::numbers::{
-    ACCEPTED, AREA_FULL, DONE, EXPECTED_WIDTH, NUMBER_WIDTH, POP, PUSH, REPLACE, RULE_WIDTH, STATE_WIDTH,
+    ACCEPTED, AREA_FULL, DONE, EXPECTED_WIDTH, NUMBER_WIDTH, POP, PUSH, REPLACE, RULE_WIDTH, SELLER, STATE_WIDTH,
 };
 use crate::records::{record, records};
-use crate::{Map, Refusal, Run};
+use crate::{Caller, Map, Refusal, Run};
 use std::borrow::Cow;
 use std::fmt;
 use std::ops::Range;
@@ -104,8 +104,8 @@ impl Sheet {
         let Parts { source, areas, counts } = parts;
         let bytes = SheetBytes { source, areas, counts };
         // a run over no bytes at all is done at once on any sheet that passes the check
-        let (mut run, mut stack) = ([0; 4], [0; 2]);
-        calls::start(0, &[], &mut run, &mut stack);
+        let (mut run, mut stack) = ([0; 5], [0; 2]);
+        calls::start(SELLER.into(), 0, &[], &mut run, &mut stack);
         match calls::step(&bytes, &[], &mut run, &mut stack, &[]).number() {
             DONE => Ok(Sheet { bytes }),
             number => Err(Refusal::of(number)),
@@ -238,13 +238,13 @@ impl Sheet {
         }
     }
 
-    /// Begins a run over an entry.
+    /// Begins a run of a caller, a seller or a kiosk, over an entry.
     ///
     /// # Errors
     ///
-    /// [`Refusal::StartRefused`] where it has more than 4,096 bytes, and [`Refusal::TextMismatch`] where it is not UTF-8.
-    pub fn start<'a>(&'a self, entry: &'a (impl AsRef<[u8]> + ?Sized)) -> Result<Run<'a>, Refusal> {
-        Run::start(self, entry.as_ref())
+    /// [`Refusal::StartRefused`] where it has more than [`Caller::most_bytes`], and [`Refusal::TextMismatch`] where it is not UTF-8.
+    pub fn start<'a>(&'a self, caller: Caller, entry: &'a (impl AsRef<[u8]> + ?Sized)) -> Result<Run<'a>, Refusal> {
+        Run::start(self, caller, entry.as_ref())
     }
 
     fn text(&self, range: &Range<usize>) -> Cow<'_, str> {

@@ -1,9 +1,9 @@
-//! Each refusal number, provoked, and what the host sees of it.
+//! Each refusal number, provoked, and what the host sees of it (13, by which no `Caller` is refused, in host/src/caller.rs).
 #![allow(clippy::unwrap_used, clippy::expect_used)]
 // a fault's spans are ranges
 #![allow(clippy::single_range_in_vec_init)]
 
-use troymantle::{Fault, FaultKind, Flags, LexFile, Map, Parts, Place, Refusal, Row, Run, Sheet, Step};
+use troymantle::{Caller, Fault, FaultKind, Flags, LexFile, Map, Parts, Place, Refusal, Row, Run, Sheet, Step};
 
 const FILE: &str = "%x S\n%%\na 'A'\nb <+S>'B'\n<S>c ;\n";
 /// No text has it.
@@ -177,8 +177,11 @@ fn every_refusal_tells_its_words_its_number_and_why() {
             Refusal::BrokenMap,
             "broken map (7): it has equal names, more than 2,048 entries, or bytes that are no entries",
         ),
-        (Refusal::StartRefused, "poor start (8): the entry has more than 4,096 bytes"),
-        (Refusal::BrokenRun, "broken run (9): its numbers, its stack and the sheet do not fit each other"),
+        (Refusal::StartRefused, "poor start (8): the entry has more than 4,096 bytes, or at a kiosk more than 512"),
+        (
+            Refusal::BrokenRun,
+            "broken run (9): its kind of caller is unknown, or its numbers, its stack and the sheet do not fit each other",
+        ),
         (
             Refusal::RowMismatch,
             "ill-fitting row (10): not one length for each rule, or one that is above the bytes left or ends inside a character",
@@ -188,6 +191,7 @@ fn every_refusal_tells_its_words_its_number_and_why() {
             "no such place (11): the offset is past the end or inside a character, or no offset has the line and column",
         ),
         (Refusal::TextMismatch, "ill-fitting text (12): the entry is not UTF-8, or not n bytes long"),
+        (Refusal::UnknownCaller, "unknown caller (13): neither a seller nor a kiosk"),
         (Refusal::Other(99), "refused (99): by the number 99, which this program does not know"),
     ];
     told.iter().for_each(|(refusal, words)| assert_eq!(refusal.to_string(), *words));
@@ -236,29 +240,37 @@ fn a_name_that_a_map_cannot_hold_is_refused_before_the_link() {
 }
 
 #[test]
-fn number_8_for_an_entry_above_4_096_bytes() {
+fn number_8_for_an_entry_above_the_limit_of_its_caller() {
     let sheet = linked();
     let text = "a".repeat(65_540);
-    assert_eq!(sheet.start(&text[..4_096]).unwrap().n(), 4_096);
-    for n in [4_097, 65_535, 65_536, 65_540] {
-        let refusal = refused(sheet.start(&text[..n]));
-        assert_eq!((refusal.number(), refusal.words()), (8, "poor start"));
+    for (caller, most) in [(Caller::Seller, 4_096), (Caller::Kiosk, 512)] {
+        assert_eq!(caller.most_bytes(), most);
+        assert_eq!(sheet.start(caller, &text[..most]).map(|run| (run.n(), run.caller())), Ok((most, Some(caller))));
+        for n in [most + 1, 65_535, 65_536, 65_540] {
+            let refusal = refused(sheet.start(caller, &text[..n]));
+            assert_eq!((refusal.number(), refusal.words()), (8, "poor start"));
+        }
+        // before 12
+        assert_eq!(refused(sheet.start(caller, &vec![0xff; most + 1])), Refusal::StartRefused);
     }
-    // before 12
-    assert_eq!(refused(sheet.start(&[0xff; 4_097])), Refusal::StartRefused);
+    // an entry of a seller may be longer than one of a kiosk
+    assert_eq!(sheet.start(Caller::Seller, &text[..513]).map(|run| run.n()), Ok(513));
 }
 
 #[test]
 fn number_9_for_a_run_that_no_start_and_steps_leave() {
     let sheet = linked();
-    let (numbers, stack) = sheet.start("ab").unwrap().into_parts();
+    let (numbers, stack) = sheet.start(Caller::Seller, "ab").unwrap().into_parts();
     let row: Row = [1, 0, 0].into_iter().collect();
     assert!(Run::from_parts(&sheet, "ab", numbers, stack.clone()).step(&row).is_ok());
     let broken = [
-        ([2, 3, 1, 0], stack.clone()),
-        ([2, 0, 0, 0], stack.clone()),
-        ([2, 0, 1, 1], stack.clone()),
-        ([4_097, 0, 1, 0], vec![0; 9_000]),
+        ([2, 3, 1, 0, 0], stack.clone()),
+        ([2, 0, 0, 0, 0], stack.clone()),
+        ([2, 0, 1, 1, 0], stack.clone()),
+        ([2, 0, 1, 0, 2], stack.clone()),
+        ([2, 0, 1, 0, 65_535], stack.clone()),
+        ([4_097, 0, 1, 0, 0], vec![0; 9_000]),
+        ([513, 0, 1, 0, 1], vec![0; 9_000]),
         (numbers, vec![0; 5]),
         (numbers, vec![2, 0, 0, 0, 0, 0]),
     ];
@@ -271,10 +283,50 @@ fn number_9_for_a_run_that_no_start_and_steps_leave() {
     }
 }
 
+/// A run is judged by its own limit: that of the caller whose kind it has.
+#[test]
+fn number_9_for_n_above_the_limit_of_the_runs_own_caller_and_for_an_unknown_kind() {
+    let sheet = linked();
+    let text = "a".repeat(4_097);
+    let step = |n: u16, kind: u16| {
+        let mut run = Run::from_parts(&sheet, &text[..n.into()], [n, 0, 1, 0, kind], vec![0; 9_000]);
+        let stepped = run.step(&[1, 0, 0].into_iter().collect());
+        if stepped.is_err() {
+            assert_eq!(run.clone().into_parts(), ([n, 0, 1, 0, kind], vec![0; 9_000]));
+        }
+        (run.caller(), stepped)
+    };
+    let moved = Ok(Step::Token { id: 7, range: 0..1 });
+    let broken = Err(Refusal::BrokenRun);
+    for (n, seller, kiosk) in
+        [(512, &moved, &moved), (513, &moved, &broken), (4_096, &moved, &broken), (4_097, &broken, &broken)]
+    {
+        assert_eq!(step(n, 0), (Some(Caller::Seller), seller.clone()));
+        assert_eq!(step(n, 1), (Some(Caller::Kiosk), kiosk.clone()));
+    }
+    for kind in [2, 3, 255, 256, 257, 65_535] {
+        // also where a run of a known kind would be done
+        assert_eq!([0, 1, 512, 4_097].map(|n| step(n, kind)), [(); 4].map(|()| (None, broken.clone())));
+    }
+}
+
+/// 12 is tested before 9, also before its condition of 3/13.
+#[test]
+fn number_12_comes_before_an_unknown_kind_and_the_limit_of_a_kiosk() {
+    let sheet = linked();
+    let text = [0xff; 513];
+    for (n, kind) in [(2, 2), (513, 1), (513, 2)] {
+        let step = |text: &[u8]| Run::from_parts(&sheet, text, [n, 0, 1, 0, kind], vec![0; 9_000]).step(&Row::new());
+        assert_eq!(step(&text[..n.into()]), Err(Refusal::TextMismatch));
+        assert_eq!(step(b"a"), Err(Refusal::TextMismatch));
+        assert_eq!(step(&vec![b'a'; n.into()]), Err(Refusal::BrokenRun));
+    }
+}
+
 #[test]
 fn number_10_for_a_row_that_does_not_fit() {
     let sheet = linked();
-    let mut run = sheet.start("aa").unwrap();
+    let mut run = sheet.start(Caller::Seller, "aa").unwrap();
     let rows: [&[usize]; 5] = [&[], &[1, 0], &[1, 0, 0, 0], &[1, 0, 3], &[1, 0, 70_000]];
     for row in rows {
         let refusal = refused(run.step(&row.iter().copied().collect()));
@@ -289,7 +341,7 @@ fn number_10_for_a_row_that_does_not_fit() {
 fn number_10_for_a_length_of_any_rule_that_ends_inside_a_character() {
     let sheet = linked();
     let text = "aé€😀";
-    let mut run = sheet.start(text).unwrap();
+    let mut run = sheet.start(Caller::Seller, text).unwrap();
     // of the winner; of a live rule that does not win; of a rule that is not live, beside a winner and without one
     let cuts = [[2, 0, 0], [3, 2, 0], [0, 5, 0], [1, 3, 2], [10, 6, 4], [0, 0, 7], [6, 3, 9]];
     for cut in cuts {
@@ -312,8 +364,8 @@ fn number_10_for_a_length_of_any_rule_that_ends_inside_a_character() {
 #[test]
 fn number_10_for_every_length_that_is_0_inside_a_character() {
     let sheet = linked();
-    let (_, stack) = sheet.start("aé").unwrap().into_parts();
-    let at = |position| Run::from_parts(&sheet, "aé", [3, position, 1, 0], stack.clone());
+    let (_, stack) = sheet.start(Caller::Seller, "aé").unwrap().into_parts();
+    let at = |position| Run::from_parts(&sheet, "aé", [3, position, 1, 0, 0], stack.clone());
     for row in [[0, 0, 0], [1, 1, 0], [0, 0, 1]] {
         assert_eq!(refused(at(2).step(&row.into_iter().collect())), Refusal::RowMismatch);
     }
@@ -321,7 +373,7 @@ fn number_10_for_every_length_that_is_0_inside_a_character() {
     assert_eq!(at(1).step(&[0, 0, 0].into_iter().collect()), Ok(Step::Stopped));
     // without rules there is no length that could not fit
     let empty = LexFile::new("%%").parse().unwrap();
-    assert_eq!(Run::from_parts(&empty, "aé", [3, 2, 1, 0], stack.clone()).step(&Row::new()), Ok(Step::Stopped));
+    assert_eq!(Run::from_parts(&empty, "aé", [3, 2, 1, 0, 0], stack.clone()).step(&Row::new()), Ok(Step::Stopped));
 }
 
 /// Texts that are no UTF-8: bytes that begin no character, cut characters, characters written too long, and none at all.
@@ -332,19 +384,19 @@ const NO_TEXTS: [&[u8]; 8] =
 fn number_12_for_an_entry_that_is_not_utf8() {
     let sheet = linked();
     for text in NO_TEXTS {
-        let refusal = refused(sheet.start(text));
+        let refusal = refused(sheet.start(Caller::Seller, text));
         assert_eq!((refusal.number(), refusal.words()), (12, "ill-fitting text"), "{text:?}");
     }
     for text in ["", "a", "é€😀", "\0"] {
-        assert_eq!(sheet.start(text).map(|run| run.text()), Ok(text.as_bytes()));
+        assert_eq!(sheet.start(Caller::Seller, text).map(|run| run.text()), Ok(text.as_bytes()));
     }
-    assert_eq!(sheet.start(b"\xc3\xa9").map(|run| (run.n(), run.rest())), Ok((2, "é".as_bytes())));
+    assert_eq!(sheet.start(Caller::Seller, b"\xc3\xa9").map(|run| (run.n(), run.rest())), Ok((2, "é".as_bytes())));
 }
 
 #[test]
 fn number_12_for_a_step_with_a_text_that_is_not_utf8_or_not_n_bytes_long() {
     let sheet = linked();
-    let mut run = sheet.start("é€").unwrap();
+    let mut run = sheet.start(Caller::Seller, "é€").unwrap();
     let row = |lengths: [usize; 3]| lengths.into_iter().collect::<Row>();
     assert!(run.step(&row([2, 0, 0])).is_ok());
     let (numbers, stack) = run.into_parts();
@@ -366,12 +418,12 @@ fn number_12_for_a_step_with_a_text_that_is_not_utf8_or_not_n_bytes_long() {
 #[test]
 fn number_12_comes_before_9_and_done() {
     let sheet = linked();
-    let (numbers, stack) = sheet.start("aé").unwrap().into_parts();
+    let (numbers, stack) = sheet.start(Caller::Seller, "aé").unwrap().into_parts();
     let step = |text: &[u8], numbers, row: [usize; 3]| {
         Run::from_parts(&sheet, text, numbers, stack.clone()).step(&row.into_iter().collect())
     };
     let [good, bad, short]: [&[u8]; 3] = ["aé".as_bytes(), b"a\xc3\xc3", b"aa"];
-    let (broken, ended) = ([3, 0, 0, 0], [3, 3, 1, 0]);
+    let (broken, ended) = ([3, 0, 0, 0, 0], [3, 3, 1, 0, 0]);
     assert_eq!(
         [bad, good].map(|text| step(text, broken, [2, 0, 0])),
         [Err(Refusal::TextMismatch), Err(Refusal::BrokenRun)]

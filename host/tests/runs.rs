@@ -2,7 +2,7 @@
 #![allow(clippy::unwrap_used, clippy::expect_used)]
 
 use regex::{Regex, bytes};
-use troymantle::{LexFile, Linked, Map, Operation, Parts, Refusal, Row, Run, Sheet, Step};
+use troymantle::{Caller, LexFile, Linked, Map, Operation, Parts, Refusal, Row, Run, Sheet, Step};
 
 const FILE: &str = "%x S\n%s T\n%expect-missing \"C\" \"\"\n%%\na 'A'\n\\qb <+S>'B'\n<S, T>c <-S>'C'\nd <T>;\n";
 
@@ -62,7 +62,7 @@ fn a_run_moves_by_every_operation() {
     let mut sheet = sheet();
     sheet.link(&Map::of([("A", 10), ("B", 11)]).unwrap()).unwrap();
     let entry = "qbcdef";
-    let mut run = sheet.start(entry).unwrap();
+    let mut run = sheet.start(Caller::Seller, entry).unwrap();
     let mut steps = vec![];
     for lengths in [[1, 2, 9, 0], [1, 2, 1, 0], [1, 1, 1, 1], [1, 0, 0, 1], [0, 0, 0, 4]] {
         steps.push((run.step(&row(&lengths)), run.states()));
@@ -88,10 +88,39 @@ fn a_run_moves_by_every_operation() {
     assert_eq!(run.sheet().rule_count(), 4);
 }
 
+/// Every move keeps the kind, and so do the answers that move nothing, refusals among them.
+#[test]
+fn a_run_keeps_the_kind_of_its_caller() {
+    let mut sheet = sheet();
+    sheet.link(&Map::of([("A", 10), ("B", 11)]).unwrap()).unwrap();
+    for (caller, kind) in [(Caller::Seller, 0), (Caller::Kiosk, 1)] {
+        let entry = "a".repeat(caller.most_bytes());
+        let mut run = sheet.start(caller, &entry).unwrap();
+        assert_eq!((run.caller(), run.clone().into_parts().0[4]), (Some(caller), kind));
+        // an ill-fitting row, a token, a push, no partner in the map, no match; then the run as parts, and the rest
+        for lengths in [&[9][..], &[1, 0, 0, 0], &[0, 1, 0, 0], &[0, 0, 1, 0], &[0, 0, 0, 0]] {
+            let _ = run.step(&row(lengths));
+            assert_eq!((run.caller(), run.n()), (Some(caller), entry.len()));
+        }
+        let (numbers, stack) = run.into_parts();
+        assert_eq!(numbers, [entry.len() as u16, 2, 2, 2, kind]);
+        sheet.link(&Map::of([("A", 10), ("B", 11), ("C", 12)]).unwrap()).unwrap();
+        let mut run = Run::from_parts(&sheet, &entry, numbers, stack);
+        assert_eq!(run.step(&row(&[0, 0, 1, 0])), Ok(Step::Token { id: 12, range: 2..3 }));
+        assert_eq!(run.step(&row(&[0, 0, 0, entry.len() - 3])), Ok(Step::Skip { range: 3..entry.len() }));
+        assert_eq!(run.step(&Row::new()), Ok(Step::Done));
+        assert_eq!(
+            (run.caller(), run.into_parts().0),
+            (Some(caller), [entry.len() as u16, entry.len() as u16, 1, 4, kind])
+        );
+        sheet.link(&Map::of([("A", 10), ("B", 11)]).unwrap()).unwrap();
+    }
+}
+
 #[test]
 fn a_sheet_is_shared_between_threads() {
     let sheet = sheet();
-    let step = |entry: &str| sheet.start(entry).map(|mut run| run.step(&row(&[1, 0, 0, 0])));
+    let step = |entry: &str| sheet.start(Caller::Seller, entry).map(|mut run| run.step(&row(&[1, 0, 0, 0])));
     let steps = std::thread::scope(|scope| {
         ["a", "aa"].map(|entry| scope.spawn(move || step(entry))).map(|thread| thread.join().unwrap())
     });
@@ -101,7 +130,7 @@ fn a_sheet_is_shared_between_threads() {
 /// The tokens of an entry, by a matcher that tells how many bytes each pattern matches at the start of what is left; or by what
 /// a row is refused, and where.
 fn tokens(sheet: &Sheet, entry: &str, lengths: impl Fn(&[u8]) -> Row) -> Result<Vec<String>, (Refusal, usize)> {
-    let mut run = sheet.start(entry).map_err(|refusal| (refusal, 0))?;
+    let mut run = sheet.start(Caller::Seller, entry).map_err(|refusal| (refusal, 0))?;
     let mut tokens = vec![];
     loop {
         let row = lengths(run.rest());
@@ -154,7 +183,7 @@ fn what_an_engine_for_bytes_matches_may_not_fit() {
 #[test]
 fn a_row_is_used_again() {
     let sheet = sheet();
-    let mut run = sheet.start("aa").unwrap();
+    let mut run = sheet.start(Caller::Seller, "aa").unwrap();
     let mut row = Row::new();
     for _ in 0..2 {
         row.clear();
@@ -204,10 +233,10 @@ fn nothing_panics() {
         let _ = (format!("{sheet:?}"), sheet.expected_names().count(), sheet.pattern(below(5)), sheet.rule_of_id(1));
         let entries = (0..below(20)).map(|_| below(5) as u8).collect();
         let _ = sheet.link(&Map::from_parts(b"ABC".to_vec(), entries));
-        let numbers = [0; 4].map(|_: u16| below(4) as u16);
+        let numbers = [0; 5].map(|_: u16| below(4) as u16);
         let text = TEXTS[below(TEXTS.len())];
         let mut run = Run::from_parts(&sheet, text, numbers, (0..below(12)).map(|_| below(3) as u8).collect());
-        let _ = (run.states(), run.rest(), run.step(&(0..below(6)).map(|_| below(3)).collect()));
+        let _ = (run.states(), run.rest(), run.caller(), run.step(&(0..below(6)).map(|_| below(3)).collect()));
     }
     assert!(sound > 4_000, "only {sound} sheets were sound");
 }

@@ -3,7 +3,7 @@
 
 use super::Archive;
 use crate::library::Library;
-use crate::{options, without_text};
+use crate::options;
 use std::fs;
 use std::path::{Path, PathBuf};
 use std::process::Command;
@@ -37,8 +37,7 @@ pub fn build(archive: &Archive, number: usize) -> Result<PathBuf, String> {
     fs::create_dir_all(&directory).map_err(told)?;
     let object = directory.join(format!("{}-{number}.so", archive.name));
     let padding = object.with_extension("s");
-    let mark = if archive.takes_text { String::new() } else { without_text::mark() };
-    fs::write(&padding, assembly((number + 1) * SHIFT) + &mark).map_err(told)?;
+    fs::write(&padding, assembly((number + 1) * SHIFT)).map_err(told)?;
     linked(&archive.file, &padding, &object)?;
     Ok(object)
 }

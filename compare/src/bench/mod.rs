@@ -26,8 +26,6 @@ pub struct Wanted {
     /// Static libraries: one in the place of ours, and one to compare it with.
     pub library: Option<PathBuf>,
     pub before: Option<PathBuf>,
-    /// Whether start and step of the library before take the entry's text.
-    pub text_before: bool,
     pub layouts: u64,
     /// Where to write the plot of the growth.
     pub plot: Option<PathBuf>,
@@ -38,8 +36,6 @@ pub struct Wanted {
 struct Archive {
     name: &'static str,
     file: PathBuf,
-    /// Whether start and step take the entry's text.
-    takes_text: bool,
 }
 
 /// A library at its layouts.
@@ -99,16 +95,14 @@ impl Wanted {
     fn archives(&self) -> Result<Vec<Archive>, String> {
         let built = options::repository().join("target/staticlib/libtroymantle.a");
         let built = built.is_file().then_some(built);
-        let after = |name, file| Archive { name, file, takes_text: true };
         match (self.library.clone().or(built), self.before.clone()) {
             (Some(file), Some(before)) => {
-                let before = Archive { name: "before", file: before, takes_text: self.text_before };
-                Ok(vec![before, after("after", file)])
+                Ok(vec![Archive { name: "before", file: before }, Archive { name: "after", file }])
             }
             (None, Some(_)) => {
                 Err("Our library is not built, so --before has nothing to be compared with.".to_string())
             }
-            (ours, None) => Ok(ours.map(|file| after("ours", file)).into_iter().collect()),
+            (ours, None) => Ok(ours.map(|file| Archive { name: "ours", file }).into_iter().collect()),
         }
     }
 }
@@ -168,7 +162,7 @@ mod tests {
 
     fn wanted(library: Option<&str>, before: Option<&str>, layouts: u64) -> Wanted {
         let [library, before] = [library, before].map(|file| file.map(PathBuf::from));
-        Wanted { words: vec![], library, before, text_before: true, layouts, plot: None }
+        Wanted { words: vec![], library, before, layouts, plot: None }
     }
 
     #[test]
@@ -185,12 +179,10 @@ mod tests {
 
     #[test]
     fn a_library_before_stands_first() {
-        let archive = |name, file: &str, takes_text| Archive { name, file: PathBuf::from(file), takes_text };
-        let both = wanted(Some("b.a"), Some("a.a"), 1);
-        assert_eq!(both.archives(), Ok(vec![archive("before", "a.a", true), archive("after", "b.a", true)]));
-        let without = Wanted { text_before: false, ..both };
-        assert_eq!(without.archives(), Ok(vec![archive("before", "a.a", false), archive("after", "b.a", true)]));
-        assert_eq!(wanted(Some("b.a"), None, 1).archives(), Ok(vec![archive("ours", "b.a", true)]));
+        let archive = |name, file: &str| Archive { name, file: PathBuf::from(file) };
+        let both = wanted(Some("b.a"), Some("a.a"), 1).archives();
+        assert_eq!(both, Ok(vec![archive("before", "a.a"), archive("after", "b.a")]));
+        assert_eq!(wanted(Some("b.a"), None, 1).archives(), Ok(vec![archive("ours", "b.a")]));
     }
 
     #[test]
@@ -202,7 +194,7 @@ mod tests {
 
     #[test]
     fn a_library_that_is_not_there_is_told() {
-        let archive = Archive { name: "ours", file: PathBuf::from("no such file.a"), takes_text: true };
+        let archive = Archive { name: "ours", file: PathBuf::from("no such file.a") };
         let told = layouts::load(&archive, 1).err();
         assert_eq!(told.as_deref(), Some("There is no library no such file.a."));
     }
@@ -212,7 +204,7 @@ mod tests {
     #[cfg(feature = "ours")]
     fn a_loaded_library_answers_as_the_linked_one() {
         let ours = wanted(None, None, 2).archives().unwrap_or_default();
-        let tested = Archive { name: "tested", file: ours[0].file.clone(), takes_text: true };
+        let tested = Archive { name: "tested", file: ours[0].file.clone() };
         let libraries = layouts::load(&tested, 2).unwrap_or_else(|told| panic!("{told}"));
         for shape in chosen(&["small file", "10 rules", "place", "growth"].map(str::to_string)).unwrap_or_default() {
             let work = shape.work();

@@ -6,6 +6,7 @@ use crate::library::Library;
 use crate::link;
 use crate::sheet::{self, Sheet};
 use crate::show;
+use crate::step::SELLER;
 use original::Definition;
 use std::time::Duration;
 
@@ -191,12 +192,12 @@ fn time_original(around: Around, definition: &Definition, text: &str, runs: usiz
 
 fn time_ours(library: &Library, sheet: &Sheet, text: &[u8], rows: &[Vec<u8>], runs: usize) -> Duration {
     let begun = || {
-        let (mut numbers, mut stack) = ([0; 4], vec![0; 2 * (text.len() + 1)]);
-        let word = library.start(text.len() as u64, text, &mut numbers, &mut stack);
+        let (mut numbers, mut stack) = ([0; 5], vec![0; 2 * (text.len() + 1)]);
+        let word = library.start(SELLER, text.len() as u64, text, &mut numbers, &mut stack);
         assert_eq!(word, 0, "our library does not start");
         (numbers, stack)
     };
-    let run = |(numbers, stack): &mut ([u16; 4], Vec<u8>)| {
+    let run = |(numbers, stack): &mut ([u16; 5], Vec<u8>)| {
         for row in rows {
             library.step(sheet, text, numbers, stack, row);
         }

@@ -1,6 +1,6 @@
 //! Starts and steps at every edge of 01's conditions, on texts of n letters.
 
-use super::by_hand::{Tried, good, good_sheet, in_state_1, letters, moved, no_rules, row};
+use super::by_hand::{Tried, good, good_sheet, in_state_1, letters, moved, no_rules, row, with_numbers};
 use super::{Run, token};
 use crate::answers::{BROKEN_RUN, BROKEN_SHEET, DONE, ROW_MISMATCH, SKIP, START_REFUSED, STOPPED, UNLINKED};
 use crate::broken_sheets::{self, cut, records, set};
@@ -171,10 +171,12 @@ fn pop_of_the_last() -> Tried {
 fn orders() -> Vec<Tried> {
     let mut sheet = good_sheet();
     sheet.counts[0] = 0;
-    let run = |numbers| Run { numbers, ..good() };
-    let broken = run([10, 4, 3, 5]);
-    let broken_at_the_end = run([10, 10, 3, 11]);
-    let done = |what, numbers, row: &[u8]| Tried::step(what, &good_sheet(), &run(numbers), row, (DONE, run(numbers)));
+    let broken = with_numbers([10, 4, 3, 5]);
+    let broken_at_the_end = with_numbers([10, 10, 3, 11]);
+    let done = |what, numbers, row: &[u8]| {
+        let run = with_numbers(numbers);
+        Tried::step(what, &good_sheet(), &run, row, (DONE, run.clone()))
+    };
     let at_the_end = [10, 10, 3, 10];
     vec![
         Tried::step("6 before 9", &sheet, &broken, &[], (BROKEN_SHEET, broken.clone())),

@@ -1,8 +1,8 @@
 //! Hand-made starts and steps, with the answers that 01 and 02 give them.
 
 use super::misreadings::calls::{self, Misreading};
-use super::model::{self, Step};
-use super::{Run, broken, start, step, texts};
+use super::model::{self, Start, Step};
+use super::{Run, SELLER, broken, callers, start, step, texts};
 use crate::broken_sheets::{self, records};
 use crate::sheet::Sheet;
 use crate::show;
@@ -12,21 +12,21 @@ type Left = (u64, Run);
 
 #[derive(Clone, Debug)]
 enum Call {
-    Start { n: u64, text: Vec<u8>, run: Run },
+    Start { kind: u64, n: u64, text: Vec<u8>, run: Run },
     Step { sheet: Sheet, text: Vec<u8>, run: Run, row: Vec<u8> },
 }
 
 impl Call {
     fn answered(&self) -> Result<Left, String> {
         match self {
-            Call::Start { n, text, run } => start(*n, text, run),
+            Call::Start { kind, n, text, run } => start(Start { kind: *kind, n: *n, text, run }),
             Call::Step { sheet, text, run, row } => step(Step { sheet, text, run, row }),
         }
     }
 
     fn misread(&self, wrong: Misreading) -> Left {
         match self {
-            Call::Start { n, text, run } => model::start(*n, text, run, Some(wrong)),
+            Call::Start { kind, n, text, run } => model::start(Start { kind: *kind, n: *n, text, run }, Some(wrong)),
             Call::Step { sheet, text, run, row } => model::step(Step { sheet, text, run, row }, Some(wrong)),
         }
     }
@@ -40,16 +40,21 @@ pub struct Tried {
 }
 
 impl Tried {
-    /// Over a run without meaning. A start that is not refused begins it.
+    /// A seller's.
     pub fn start(n: u64, text: &[u8], stack_length: usize, number: u64) -> Tried {
-        let run = Run { numbers: [9, 99, 0, 65_535], stack: vec![0xa5; stack_length] };
+        Tried::start_of(SELLER, n, text, stack_length, number)
+    }
+
+    /// Over a run without meaning. A start that is not refused begins it.
+    pub fn start_of(kind: u64, n: u64, text: &[u8], stack_length: usize, number: u64) -> Tried {
+        let run = Run { numbers: [9, 99, 0, 65_535, 7], stack: vec![0xa5; stack_length] };
         let mut after = run.clone();
         if number == 0 {
-            after.numbers = [n as u16, 0, 1, 0];
+            after.numbers = [n as u16, 0, 1, 0, kind as u16];
             after.stack[..2].fill(0);
         }
-        let what = format!("start of {n} on {}, stack of {stack_length} bytes", show::source(text));
-        Tried { what, call: Call::Start { n, text: text.to_vec(), run }, left: (number, after) }
+        let what = format!("start of kind {kind} and {n} on {}, stack of {stack_length} bytes", show::source(text));
+        Tried { what, call: Call::Start { kind, n, text: text.to_vec(), run }, left: (number, after) }
     }
 
     /// On a text of n letters.
@@ -66,7 +71,7 @@ impl Tried {
 
 /// Tries all, and whether they would notice the misreadings that the machine cannot show.
 pub fn check() -> Result<(), String> {
-    let all: Vec<Tried> = broken::tried().into_iter().chain(texts::tried()).collect();
+    let all: Vec<Tried> = [broken::tried(), texts::tried(), callers::tried()].into_iter().flatten().collect();
     for Tried { what, call, left } in &all {
         let answered = call.answered().map_err(|told| format!("{what}: {told}"))?;
         if answered != *left {
@@ -74,9 +79,11 @@ pub fn check() -> Result<(), String> {
         }
     }
     println!("{} hand-made starts and steps: expected answers.", all.len());
+    callers::whole_runs()?;
+    println!("3 whole runs by both kinds of caller, and 2 whose kind is changed by hand: expected answers.");
     let mut unnoticed: Vec<Misreading> = calls::ALL.iter().map(|(misreading, _)| *misreading).collect();
     unnoticed.retain(|wrong| all.iter().all(|tried| tried.call.misread(*wrong) == tried.left));
-    show::all_noticed("texts and positions", calls::ALL.len(), &unnoticed)
+    show::all_noticed("callers, texts and positions", calls::ALL.len(), &unnoticed)
 }
 
 pub fn letters(bytes: usize) -> Vec<u8> {
@@ -87,12 +94,17 @@ pub fn row(lengths: &[u16]) -> Vec<u8> {
     records(lengths)
 }
 
-/// Of an entry of 10 bytes, in state 0, with room for one more id than is in use, and bytes behind it that are no
-/// declared id.
+/// A seller's, of an entry of 10 bytes, in state 0, with room for one more id than is in use, and bytes behind it that
+/// are no declared id.
 pub fn good() -> Run {
     let mut stack = records(&[0, 1, 0]);
     stack.resize(22, 0xff);
-    Run { numbers: [10, 4, 3, 2], stack }
+    Run { numbers: [10, 4, 3, 2, SELLER as u16], stack }
+}
+
+/// The good run with another n, position, depth and moves.
+pub fn with_numbers([n, position, depth, moves]: [u16; 4]) -> Run {
+    Run { numbers: [n, position, depth, moves, SELLER as u16], ..good() }
 }
 
 /// The good run in state 1, where rule 1 is live and rule 0 is not.

@@ -1,6 +1,6 @@
 //! Files, maps, texts of entries and rows, each a function of seed and index alone.
 
-use super::Run;
+use super::{KIOSK, Run, SELLER};
 use crate::case::{self, AREAS, FLAG_COMMENTS};
 use crate::generators::EDGE_BYTES;
 use crate::model::{self, Reading, Records};
@@ -9,11 +9,12 @@ use crate::place::DAMAGED;
 use crate::random::Random;
 use crate::sheet::Sheet;
 
-/// An accepted file, a map, the text of an entry and the lengths of all rules at each of its edges.
+/// An accepted file, a map, a kind of caller, the text of an entry and the lengths of all rules at each of its edges.
 #[derive(Clone, Debug)]
 pub struct Case {
     pub file: case::Case,
     pub map: Vec<(String, u16)>,
+    pub kind: u64,
     pub text: String,
     /// By position. Where no edge is there is none.
     pub rows: Vec<Vec<usize>>,
@@ -25,6 +26,7 @@ pub struct Case {
 struct Shape {
     states: usize,
     rules: usize,
+    kind: u64,
     n: usize,
     /// How many of 100 characters have more than one byte.
     others: usize,
@@ -38,19 +40,24 @@ const TARGETS: &[&str] = &["", "", "", "<", "<+", "<+", "<+", "<-", "<-"];
 
 fn shape(random: &mut Random, index: u64) -> Shape {
     let others = random.pick(&[0, 30, 70, 100]);
+    let kind = random.pick(&[SELLER, KIOSK]);
     let targets = TARGETS;
+    let short_matches = 1 + random.below(2);
+    let long = |kind, n| Shape { states: 3, rules: 12, kind, n, others, longest: short_matches, targets };
+    let deep = |kind, n| Shape { states: 0, rules: 3, kind, n, others: 0, longest: 1, targets: &["<+"] };
     match index % 1_000 {
-        3 => {
-            let (n, longest) = (4_096 - random.below(2), 1 + random.below(2));
-            Shape { states: 3, rules: 12, n, others, longest, targets }
-        }
+        3 => long(SELLER, 4_096 - random.below(2)),
         // as deep as a run can be
-        4 => Shape { states: 0, rules: 3, n: 4_096, others: 0, longest: 1, targets: &["<+"] },
-        251 => Shape { states: 63, rules: 150, n: 60, others, longest: 4, targets },
-        502 => Shape { states: 5, rules: 2_048 - random.below(2), n: 5, others, longest: 5, targets },
+        4 => deep(SELLER, 4_096),
+        103 => long(SELLER, 511 + random.below(4)),
+        203 => long(KIOSK, 512 - random.below(2)),
+        204 => deep(KIOSK, 512),
+        251 => Shape { states: 63, rules: 150, kind, n: 60, others, longest: 4, targets },
+        502 => Shape { states: 5, rules: 2_048 - random.below(2), kind, n: 5, others, longest: 5, targets },
         _ => Shape {
             states: random.below(5),
             rules: random.pick(&[0, 1, 3, 5, 8, 8, 10, 12, 12, 15]),
+            kind,
             n: random.pick(&[0, 1, 3, 8, 12, 16, 24, 40]),
             others,
             longest: random.pick(&[1, 1, 2, 2, 3, 30]),
@@ -77,7 +84,7 @@ pub fn case(seed: u64, index: u64) -> Case {
     let verdicts = vec![0; random.below(4)];
     let file = case::Case { source: source.into_bytes(), flags, verdicts, capacities: [0; AREAS] };
     let capacities = oracle::needs(&file).map(|need| need + 3);
-    let Shape { n, rules, .. } = shape;
+    let Shape { kind, n, rules, .. } = shape;
     let text = text(&mut random, n, shape.others);
     let zeros = random.pick(&[0, 5, 20, 60]);
     let spread = random.pick(&[shape.longest, shape.longest, shape.longest, n + 1]);
@@ -87,9 +94,9 @@ pub fn case(seed: u64, index: u64) -> Case {
     };
     let rows = (0..n).map(row_at).collect();
     let stack = (0..2 * (n + 1) + random.below(4)).map(|_| random.below(256) as u8).collect();
-    let numbers = [0; 4].map(|_: u8| random.below(65_536) as u16);
+    let numbers = [0; 5].map(|_: u8| random.below(65_536) as u16);
     let map = map(&mut random, &names);
-    Case { file: case::Case { capacities, ..file }, map, text, rows, before: Run { numbers, stack } }
+    Case { file: case::Case { capacities, ..file }, map, kind, text, rows, before: Run { numbers, stack } }
 }
 
 /// The first and the last characters of 1 to 4 bytes, those around the surrogates, and usual ones.
@@ -292,17 +299,30 @@ pub fn other_text(random: &mut Random, text: &[u8]) -> Vec<u8> {
     bytes
 }
 
-/// A start whose n, text or stack is other than it was, or two of them.
-pub fn damaged_start(random: &mut Random, case: &Case) -> (u64, Vec<u8>, Run) {
-    let (mut n, mut text, mut run) = (case.text.len() as u64, case.text.clone().into_bytes(), case.before.clone());
+/// Both kinds, some that are not known, and some that would be one of both in 8, 16 or 32 bits.
+const KINDS: [u64; 12] = [0, 1, 0, 1, 2, 256, 65_535, 65_536, 65_537, 1 << 32, (1 << 32) + 1, u64::MAX];
+
+/// Around the limits.
+const LONG: [u16; 6] = [511, 512, 513, 4_095, 4_096, 4_097];
+
+/// A start whose kind, n, text or stack is other than it was, or two of them.
+pub fn damaged_start(random: &mut Random, case: &Case) -> (u64, u64, Vec<u8>, Run) {
+    let (mut kind, mut n, mut run) = (case.kind, case.text.len() as u64, case.before.clone());
+    let mut text = case.text.clone().into_bytes();
     for _ in 0..1 + random.below(2) {
-        match random.below(5) {
-            0 => n = random.pick(&[0, n + 1, n.saturating_sub(1), 4_096, 4_097, n + 65_536]),
+        match random.below(8) {
+            0 => n = random.pick(&[0, n + 1, n.saturating_sub(1), 512, 513, 4_096, 4_097, n + 65_536]),
             1 => run.stack.truncate(random.pick(&[0, 2 * text.len(), 2 * text.len() + 1])),
+            2 | 3 => kind = random.pick(&KINDS),
+            4 => {
+                n = random.pick(&LONG).into();
+                text = self::text(random, n as usize, 30).into_bytes();
+                run.stack.resize(2 * (text.len() + 1), 7);
+            }
             _ => text = other_text(random, &text),
         }
     }
-    (n, text, run)
+    (kind, n, text, run)
 }
 
 /// What a step takes.
@@ -311,13 +331,9 @@ pub type Taken = (Sheet, Vec<u8>, Run, Vec<u8>);
 /// One or two of the call's bytes, numbers or lengths are other than they were.
 pub fn damaged(random: &mut Random, (mut sheet, mut text, mut run, mut row): Taken) -> Taken {
     for _ in 0..1 + random.below(2) {
-        let [n, position, depth, moves] = run.numbers;
-        match random.below(14) {
-            0 => {
-                run.numbers[0] = random.pick(&[0, position, n.wrapping_add(1), 4_096, 4_097, 65_535]);
-                // the run is judged only beside a text of its n
-                text = self::text(random, run.numbers[0].into(), 30).into_bytes();
-            }
+        let [n, position, depth, moves, _] = run.numbers;
+        match random.below(16) {
+            0 => text = with_another_n(random, &mut run).into_bytes(),
             1 => run.numbers[1] = random.pick(&[0, n, n.wrapping_add(1), depth.wrapping_sub(1), 65_535]),
             2 | 3 => {
                 run.numbers[2] = random.pick(&[
@@ -339,15 +355,40 @@ pub fn damaged(random: &mut Random, (mut sheet, mut text, mut run, mut row): Tak
                 overwrite(random, &mut sheet.areas[area], 1);
             }
             11 => sheet.counts[random.below(6)] ^= random.pick(&[1, 2, 3]),
+            12 | 13 => run.numbers[4] = random.pick(&KINDS) as u16,
             _ => text = other_text(random, &text),
         }
     }
     (sheet, text, run, row)
 }
 
+/// Gives the run another n, and a stack with room for it. The run is judged only beside a text of its n, which is made.
+fn with_another_n(random: &mut Random, run: &mut Run) -> String {
+    let ([n, position, ..], long) = (run.numbers, random.pick(&LONG));
+    let n = random.pick(&[0, position, n.wrapping_add(1), long, long, 65_535]);
+    run.numbers[0] = n;
+    run.stack.resize(run.stack.len().max(2 * (usize::from(n) + 1)), 0);
+    text(random, n.into(), 30)
+}
+
 fn overwrite(random: &mut Random, bytes: &mut [u8], near: u16) {
     if !bytes.is_empty() {
         let at = random.below(bytes.len());
         bytes[at] = random.pick(&[0, 1, 2, near as u8, (near as u8).wrapping_sub(1), 255, bytes[at] ^ 1]);
+    }
+}
+
+#[cfg(test)]
+mod tests {
+    use super::*;
+    use crate::step::model::limit;
+
+    #[test]
+    fn entries_of_both_kinds_reach_their_limits() {
+        let shape = |index| shape(&mut Random::new(1, index), index);
+        let entries: Vec<(u64, usize)> = (0..50_000).map(shape).map(|shape| (shape.kind, shape.n)).collect();
+        assert!(entries.iter().all(|(kind, n)| limit(*kind).is_some_and(|limit| *n as u64 <= limit)));
+        let long = [(SELLER, 511), (SELLER, 512), (SELLER, 513), (SELLER, 4_096), (KIOSK, 511), (KIOSK, 512)];
+        assert!(long.iter().all(|entry| entries.contains(entry)));
     }
 }

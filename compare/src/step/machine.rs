@@ -1,8 +1,8 @@
-//! The run machine of 01, with 02's test of a row: it is given the file, the map, the text of the start and the rows,
-//! and reads neither sheet nor run.
+//! The run machine of 01, with 02's limit of an entry and test of a row: it is given the limit, the file, the map, the
+//! text of the start and the rows, and reads neither sheet nor run.
 
 use super::misreadings::Misreading as M;
-use super::{Run, token};
+use super::token;
 use crate::answers::{DONE, ROW_MISMATCH, SKIP, STOPPED, UNLINKED};
 use crate::model::Records;
 
@@ -33,7 +33,21 @@ pub struct Machine {
 }
 
 impl Machine {
-    pub fn new(source: &str, records: &Records, map: &[(String, u16)], text: &str, wrong: Option<M>) -> Machine {
+    /// None where the entry has more bytes than the limit.
+    pub fn new(
+        limit: u64,
+        source: &str,
+        records: &Records,
+        map: &[(String, u16)],
+        text: &str,
+        wrong: Option<M>,
+    ) -> Option<Machine> {
+        let bytes = text.len() as u64;
+        let fits =
+            bytes < limit || bytes == limit && wrong != Some(M::LimitIsExcluded) || wrong == Some(M::LimitIsNotAsked);
+        if !fits {
+            return None;
+        }
         let rules = records.rules.iter().enumerate().map(|(k, rule)| {
             let name = rule.named.then(|| &source[rule.name_from..rule.name_from + rule.name_length]);
             let entry = map.iter().find(|(entry, _)| Some(entry.as_str()) == name);
@@ -44,7 +58,7 @@ impl Machine {
         let states = records.states.iter().map(|state| state.exclusive).collect();
         let first = if wrong == Some(M::StartsInTheLastState) { records.states.len() - 1 } else { 0 };
         let stack = vec![first];
-        Machine {
+        Some(Machine {
             n: text.len(),
             edges: edges(text, wrong),
             states,
@@ -54,7 +68,7 @@ impl Machine {
             held: stack.clone(),
             stack,
             wrong,
-        }
+        })
     }
 
     pub fn take(&mut self, row: &[u8]) -> u64 {
@@ -175,16 +189,20 @@ impl Machine {
         }
     }
 
-    /// The run as the machine has it, over a stack with these bytes before the start call.
-    pub fn run(&self, before: &[u8]) -> Run {
-        let numbers = [self.n, self.position, self.stack.len(), self.moves].map(|number| number as u16);
+    /// n, position, depth and moves.
+    pub fn numbers(&self) -> [u16; 4] {
+        [self.n, self.position, self.stack.len(), self.moves].map(|number| number as u16)
+    }
+
+    /// What a stack with these bytes before the start call has now.
+    pub fn stack(&self, before: &[u8]) -> Vec<u8> {
         let mut stack = before.to_vec();
         for (k, id) in self.held.iter().enumerate() {
             if let Some(entry) = stack.get_mut(2 * k..2 * k + 2) {
                 entry.copy_from_slice(&(*id as u16).to_le_bytes());
             }
         }
-        Run { numbers, stack }
+        stack
     }
 }
 
@@ -217,9 +235,20 @@ mod tests {
 
     const SOURCE: &str = "%x S\n%%\na <+S>'A'\n<S>b <-S>;\nc 'C'";
 
-    fn machine(text: &str) -> Machine {
+    fn limited(limit: u64, text: &str) -> Option<Machine> {
         let records = model::records(SOURCE, &roomy_case(SOURCE, 0), Reading::RIGHT);
-        Machine::new(SOURCE, &records, &[("A".to_string(), 9)], text, None)
+        Machine::new(limit, SOURCE, &records, &[("A".to_string(), 9)], text, None)
+    }
+
+    fn machine(text: &str) -> Machine {
+        limited(512, text).expect("the text has few bytes")
+    }
+
+    #[test]
+    fn it_runs_over_an_entry_within_its_limit() {
+        let runs = |limit, bytes| limited(limit, &"a".repeat(bytes)).is_some();
+        assert_eq!([511, 512, 513, 4_096].map(|bytes| runs(512, bytes)), [true, true, false, false]);
+        assert_eq!([513, 4_096, 4_097].map(|bytes| runs(4_096, bytes)), [true, true, false]);
     }
 
     #[test]
@@ -228,7 +257,8 @@ mod tests {
         let rows = [[1, 0, 0, 0, 1, 0], [3, 0, 2, 0, 0, 0], [0, 0, 0, 0, 1, 0], [2, 0, 0, 0, 0, 0]];
         let answers = rows.map(|row| machine.take(&row));
         assert_eq!(answers, [token(9, 0, 1), SKIP, UNLINKED, ROW_MISMATCH]);
-        assert_eq!(machine.run(&[7; 10]), Run { numbers: [4, 3, 1, 2], stack: vec![0, 0, 1, 0, 7, 7, 7, 7, 7, 7] });
+        assert_eq!(machine.numbers(), [4, 3, 1, 2]);
+        assert_eq!(machine.stack(&[7; 10]), [0, 0, 1, 0, 7, 7, 7, 7, 7, 7]);
     }
 
     #[test]

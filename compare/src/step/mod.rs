@@ -1,16 +1,17 @@
 //! `compare step`: the start call and the step call against the original's lexer loop, against the run machine of 01,
-//! and against 01's and 02's words for what neither has: broken sheets, broken runs, poor starts, texts that do not fit
-//! the entry and positions off an edge.
+//! and against 01's and 02's words for what neither has: broken sheets, broken runs, poor starts, unknown callers, texts
+//! that do not fit the entry and positions off an edge.
 
 mod broken;
 mod by_hand;
+mod callers;
 mod cases;
 mod machine;
 mod misreadings;
 mod model;
 mod texts;
 
-use crate::answers::{self, ACCEPTED, ROW_MISMATCH, SKIP, STOPPED, TEXT_MISMATCH, TOKEN, UNLINKED, word};
+use crate::answers::{self, ACCEPTED, BROKEN_RUN, ROW_MISMATCH, SKIP, STOPPED, TEXT_MISMATCH, TOKEN, UNLINKED, word};
 use crate::case::{FLAG_COMMENTS, FLAG_POSIX_ESCAPES};
 use crate::link;
 use crate::model::{self as parse_model, Reading};
@@ -21,16 +22,20 @@ use crate::show;
 use cases::Case;
 use machine::Machine;
 use misreadings::Misreading;
-use model::Step;
+pub use model::{Start, Step};
 use original::{Definition, Lexed};
 use std::collections::BTreeMap;
 use std::time::Instant;
 
+/// The kinds of caller.
+pub const SELLER: u64 = 0;
+pub const KIOSK: u64 = 1;
+
 /// What the start call and the step call change.
 #[derive(Clone, Debug, PartialEq, Eq)]
 pub struct Run {
-    /// n, position, depth and moves.
-    pub numbers: [u16; 4],
+    /// n, position, depth, moves and the kind of caller.
+    pub numbers: [u16; 5],
     pub stack: Vec<u8>,
 }
 
@@ -73,9 +78,12 @@ struct Tally {
     starts: BTreeMap<u64, u64>,
     answers: BTreeMap<u64, u64>,
     deepest: u16,
-    most_moves: u16,
+    /// Of a seller's run and of a kiosk's.
+    most_moves: [u16; 2],
     /// Rows that cut a character, by the winner's length, by another live rule's, by that of a rule that is not live.
     cuts: [u64; 3],
+    /// Runs that nothing but their kind or its limit makes 9.
+    broken_by_kind: u64,
     /// Where the original's loop was stopped to see its position and state.
     stops: u64,
 }
@@ -87,7 +95,8 @@ impl Tally {
             "{} runs, {} step calls: {whose} tokens, skips and ends are those of the original's loop, which was asked \
              for its position and state at {} places; every answer, number and stack byte is that of the run machine, \
              or of 01's and 02's words where a call was damaged. {} rows cut a character by the winner's length, {} by \
-             another live rule's, {} by that of a rule that is not live. At most {} moves and a depth of {}. Answers of \
+             another live rule's, {} by that of a rule that is not live. {} runs are broken by the kind of caller or its \
+             limit alone. At most {} moves of a seller's run and {} of a kiosk's, and a depth of {}. Answers of \
              starts: {}. Answers of steps: {}",
             show::number(cases),
             show::number(self.answers.values().sum()),
@@ -95,7 +104,9 @@ impl Tally {
             show::number(self.cuts[0]),
             show::number(self.cuts[1]),
             show::number(self.cuts[2]),
-            show::number(self.most_moves as u64),
+            show::number(self.broken_by_kind),
+            show::number(self.most_moves[0] as u64),
+            show::number(self.most_moves[1] as u64),
             show::number(self.deepest as u64),
             show::tally(&self.starts),
             show::tally(&self.answers)
@@ -104,9 +115,10 @@ impl Tally {
 }
 
 /// What the start call answers and leaves by the model, and by ours too.
-fn start(n: u64, text: &[u8], run: &Run) -> Result<(u64, Run), String> {
-    let call = || format!("start of {n} on {} over {run:?}", show::source(text));
-    agreed(model::start(n, text, run, None), ours::start(n, text, run), call)
+fn start(call: Start) -> Result<(u64, Run), String> {
+    let Start { kind, n, text, run } = call;
+    let told = || format!("start of kind {kind} and {n} on {} over {run:?}", show::source(text));
+    agreed(model::start(call, None), ours::start(call), told)
 }
 
 fn step(call: Step) -> Result<(u64, Run), String> {
@@ -186,17 +198,21 @@ impl Follower<'_> {
         self.calls.push((row, word));
         *tally.answers.entry(answers::number(word)).or_default() += 1;
         tally.deepest = tally.deepest.max(self.run.numbers[2]);
-        tally.most_moves = tally.most_moves.max(self.run.numbers[3]);
+        let most_moves = &mut tally.most_moves[self.case.kind as usize];
+        *most_moves = (*most_moves).max(self.run.numbers[3]);
         self.compare()?;
         Ok(answers::number(word))
     }
 
     fn compare(&self) -> Result<(), String> {
-        let expected = self.machine.run(&self.case.before.stack);
-        if self.run == expected {
-            Ok(())
-        } else {
-            Err(format!("the machine has {expected:?}, the run is {:?} after {:?}", self.run, self.calls))
+        let expected = run_of(&self.machine, self.case);
+        if self.run != expected {
+            return Err(format!("the machine has {expected:?}, the run is {:?} after {:?}", self.run, self.calls));
+        }
+        let moves = u64::from(self.run.numbers[3]);
+        match model::limit(self.case.kind) {
+            Some(limit) if moves <= limit => Ok(()),
+            limit => Err(format!("{moves} moves are made, and the limit is {limit:?}")),
         }
     }
 
@@ -248,9 +264,16 @@ impl Follower<'_> {
 }
 
 impl Tally {
+    fn start(&mut self, call: Start) -> Result<u64, String> {
+        let (word, _) = start(call)?;
+        *self.starts.entry(answers::number(word)).or_default() += 1;
+        Ok(word)
+    }
+
     fn step(&mut self, call: Step) -> Result<u64, String> {
         let number = answers::number(step(call)?.0);
         *self.answers.entry(number).or_default() += 1;
+        self.broken_by_kind += u64::from(number == BROKEN_RUN && !call.is_broken_otherwise(None));
         Ok(number)
     }
 }
@@ -258,21 +281,35 @@ impl Tally {
 /// The run and the machine of a case, behind some starts that are refused or have another n or text.
 fn begun<'a>(case: &'a Case, random: &mut Random, tally: &mut Tally) -> Result<Follower<'a>, String> {
     for _ in 0..2 {
-        let (n, text, run) = cases::damaged_start(random, case);
-        let (word, _) = start(n, &text, &run)?;
-        *tally.starts.entry(answers::number(word)).or_default() += 1;
+        let (kind, n, text, run) = cases::damaged_start(random, case);
+        tally.start(Start { kind, n, text: &text, run: &run })?;
     }
-    let (word, run) = start(case.text.len() as u64, case.text.as_bytes(), &case.before)?;
-    if word != 0 {
-        return Err(format!("the start is refused by {word}"));
+    for kind in [SELLER, KIOSK] {
+        let word = tally.start(Start { kind, ..whole_start(case) })?;
+        if (word == ACCEPTED) != machine(case, kind, None).is_some() {
+            return Err(format!("a start of kind {kind} is answered by {word}"));
+        }
     }
-    let follower = Follower { case, sheet: sheet(case)?, machine: machine(case, None), run, calls: vec![] };
+    let (_, run) = start(whole_start(case))?;
+    let machine = machine(case, case.kind, None).ok_or("the entry is longer than its limit")?;
+    let follower = Follower { case, sheet: sheet(case)?, machine, run, calls: vec![] };
     follower.compare()?;
     Ok(follower)
 }
 
-fn machine(case: &Case, wrong: Option<Misreading>) -> Machine {
-    Machine::new(case.source(), &case.records(), &case.map, &case.text, wrong)
+fn whole_start(case: &Case) -> Start<'_> {
+    Start { kind: case.kind, n: case.text.len() as u64, text: case.text.as_bytes(), run: &case.before }
+}
+
+/// The machine with the limit of a kind.
+fn machine(case: &Case, kind: u64, wrong: Option<Misreading>) -> Option<Machine> {
+    Machine::new(model::limit(kind)?, case.source(), &case.records(), &case.map, &case.text, wrong)
+}
+
+/// As the machine has it, and of the kind of the start.
+fn run_of(machine: &Machine, case: &Case) -> Run {
+    let [n, position, depth, moves] = machine.numbers();
+    Run { numbers: [n, position, depth, moves, case.kind as u16], stack: machine.stack(&case.before.stack) }
 }
 
 fn follow(case: &Case, random: &mut Random, tally: &mut Tally) -> Result<Trace, String> {
@@ -365,12 +402,17 @@ fn expect_lexed(definition: &Definition, text: &str, rows: &[Vec<usize>], expect
     }
 }
 
-/// Whether the misreading gives another answer or leaves another run somewhere.
+/// Whether the misreading has another limit of one kind, or gives another answer or leaves another run somewhere.
 fn notices(case: &Case, trace: &Trace, misreading: Misreading) -> bool {
-    let (mut right, mut wrong) = (machine(case, None), machine(case, Some(misreading)));
-    trace.calls.iter().any(|(row, word)| {
-        right.take(row);
-        wrong.take(row) != *word || wrong.run(&case.before.stack) != right.run(&case.before.stack)
+    let differ = |(mut right, mut wrong): (Machine, Machine)| {
+        trace.calls.iter().any(|(row, word)| {
+            right.take(row);
+            wrong.take(row) != *word || run_of(&wrong, case) != run_of(&right, case)
+        })
+    };
+    [SELLER, KIOSK].into_iter().any(|kind| match (machine(case, kind, None), machine(case, kind, Some(misreading))) {
+        (Some(right), Some(wrong)) => differ((right, wrong)),
+        (right, wrong) => right.is_some() != wrong.is_some(),
     })
 }
 
@@ -380,7 +422,7 @@ fn shown(case: &Case) -> String {
 
 #[cfg(feature = "ours")]
 mod ours {
-    use super::{Run, Step};
+    use super::{Run, Start, Step};
     use crate::case::{Answer, Case};
     use crate::guarded;
 
@@ -388,26 +430,25 @@ mod ours {
         Some(guarded::parse(case))
     }
 
-    pub fn start(n: u64, text: &[u8], run: &Run) -> Option<(u64, Run)> {
-        Some(guarded::start(n, text, run))
+    pub fn start(call: Start) -> Option<(u64, Run)> {
+        Some(guarded::start(call))
     }
 
     pub fn step(call: Step) -> Option<(u64, Run)> {
-        let Step { sheet, text, run, row } = call;
-        Some(guarded::step(sheet, text, run, row))
+        Some(guarded::step(call))
     }
 }
 
 #[cfg(not(feature = "ours"))]
 mod ours {
-    use super::{Run, Step};
+    use super::{Run, Start, Step};
     use crate::case::{Answer, Case};
 
     pub fn parse(_: &Case) -> Option<Answer> {
         None
     }
 
-    pub fn start(_: u64, _: &[u8], _: &Run) -> Option<(u64, Run)> {
+    pub fn start(_: Start) -> Option<(u64, Run)> {
         None
     }
 

@@ -1,7 +1,7 @@
 //! Starts and steps at every edge of 02's conditions, 2/13: texts that do not fit the entry, lengths that cut a
 //! character, and runs at positions off an edge.
 
-use super::by_hand::{Tried, good, good_sheet, in_state_1, letters, moved, no_rules, row};
+use super::by_hand::{Tried, good, good_sheet, in_state_1, letters, moved, no_rules, row, with_numbers};
 use super::{Run, token};
 use crate::answers::{BROKEN_RUN, BROKEN_SHEET, DONE, ROW_MISMATCH, START_REFUSED, STOPPED, TEXT_MISMATCH, UNLINKED};
 use crate::broken_sheets::set;
@@ -95,15 +95,16 @@ fn damaged() -> Vec<Tried> {
 fn orders() -> Vec<Tried> {
     let mut broken_sheet = good_sheet();
     broken_sheet.counts[0] = 0;
-    let run = |numbers| Run { numbers, ..good() };
     let step = |text: &[u8], what, numbers, row: &[u8], number| {
-        Tried::step_on(text, what, &good_sheet(), &run(numbers), row, (number, run(numbers)))
+        let run = with_numbers(numbers);
+        Tried::step_on(text, what, &good_sheet(), &run, row, (number, run.clone()))
     };
     let (bad, fitting) = (b"aaaaaaaaa\xc3", row(&[2, 0]));
     let (broken, at_the_end) = ([10, 4, 3, 5], [10, 10, 3, 10]);
+    let run = with_numbers(broken);
     vec![
         Tried::step_on(bad, "6 before 12", &broken_sheet, &good(), &fitting, (BROKEN_SHEET, good())),
-        Tried::step_on(bad, "6 before 12, 9 and 10", &broken_sheet, &run(broken), &[], (BROKEN_SHEET, run(broken))),
+        Tried::step_on(bad, "6 before 12, 9 and 10", &broken_sheet, &run, &[], (BROKEN_SHEET, run.clone())),
         step(bad, "12 before 9", broken, &fitting, TEXT_MISMATCH),
         step(&letters(10), "9 alone", broken, &fitting, BROKEN_RUN),
         step(MIXED.as_bytes(), "9 before 10, a length that cuts é", broken, &row(&[1, 0]), BROKEN_RUN),
@@ -161,7 +162,7 @@ fn edges() -> Vec<Tried> {
 
 /// No start and no step leads to such a position. From 5, inside é, lengths of 1, 2 and 5 end on an edge.
 fn off_edges() -> Vec<Tried> {
-    let at = |position| Run { numbers: [10, position, 3, 2], ..good() };
+    let at = |position| with_numbers([10, position, 3, 2]);
     let step = |what, sheet: &Sheet, position, lengths: &[u16], left| {
         Tried::step_on(MIXED.as_bytes(), what, sheet, &at(position), &row(lengths), left)
     };

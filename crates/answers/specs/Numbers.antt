@@ -2,7 +2,7 @@
 use Rattle.std.specs.Prelude.{ℕ}
 use Rattle.answers.specs.declared.Number.{Number}
 use Rattle.answers.specs.declared.Number.TheVariants.{Accepted, LongFile, UnknownFlag, InvalidUtf8, AreaFull, FaultyFile, BrokenSheet, BrokenMap}
-use Rattle.answers.specs.declared.Number.TheVariants.{StartRefused, BrokenRun, RowMismatch, NoSuchPlace, TextMismatch, Done, Stopped, Unlinked, Skip, Token}
+use Rattle.answers.specs.declared.Number.TheVariants.{StartRefused, BrokenRun, RowMismatch, NoSuchPlace, TextMismatch, UnknownCaller, Done, Stopped, Unlinked, Skip, Token}
 
 -- ---- accepted, and the refusals
 
@@ -37,7 +37,7 @@ broken_sheet_number = 6
 abbrev pub broken_map_number : ℕ
 broken_map_number = 7
 
--- the entry is too long, or its stack too short
+-- the entry is too long for its kind of caller, or its stack too short
 abbrev pub start_refused_number : ℕ
 start_refused_number = 8
 
@@ -56,6 +56,10 @@ no_such_place_number = 11
 -- the text of the entry is not well-formed UTF-8, or has not n bytes (02, 2/13)
 abbrev pub text_mismatch_number : ℕ
 text_mismatch_number = 12
+
+-- there is no such kind of caller (02, 3/13)
+abbrev pub unknown_caller_number : ℕ
+unknown_caller_number = 13
 
 -- the most bytes of a file (01, Numbers given at the counter, 1)
 abbrev pub most_source : ℕ
@@ -99,6 +103,7 @@ number_of BrokenRun = broken_run_number
 number_of RowMismatch = row_mismatch_number
 number_of NoSuchPlace = no_such_place_number
 number_of TextMismatch = text_mismatch_number
+number_of UnknownCaller = unknown_caller_number
 number_of Done = done_number
 number_of Stopped = stopped_number
 number_of Unlinked = unlinked_number

@@ -23,6 +23,7 @@ pub enum Number {
     RowMismatch = 10,
     NoSuchPlace = 11,
     TextMismatch = 12,
+    UnknownCaller = 13,
     Done = 256,
     Stopped = 257,
     Unlinked = 258,

@@ -1,8 +1,8 @@
 -- What the tests for room say of `room`, and what an append says on each of its ways out. `room` is two tests joined, so each law
 -- takes the first one apart and leaves the second.
 -- Assumes nothing.
-use mathlib.Core.Path.{◌≡◌, refl, sym, ap₂, ◌∙◌}
-use mathlib.Core.Bool.{Bool, true, false, ◌&&◌}
+use mathlib.Core.Path.{◌≡◌, refl, sym, ◌∙◌}
+use mathlib.Core.Bool.{Bool, true, false}
 use mathlib.Core.List.{List}
 use Prim.Native.Nat.{ℕ, suc, ◌+◌, ◌*◌, ◌<◌, ◌≤◌}
 use native.Mathlib.Nat.{add_assoc, mul-le-mul, mul-le-mul_right, suc-mul}

@@ -458,14 +458,6 @@ pub fn push_text(area: &mut [u8], n: u16, text: &[u8]) -> Result<u16, AreaFull>
 
 // ---- zeros
 
-pub fn zero_from(area: &mut [u8], at: usize)
-    ensures { area.new ≡ take at area.old ++ zeros (length area.old - at) }
-{
-    if at < area.len() {
-        area[at..].fill(0);
-    }
-}
-
 pub fn clear(area: &mut [u8])
     ensures { area.new ≡ zeros (length area.old) }
 {

@@ -1,6 +1,6 @@
 -- What a test that is made of tests says, and what a callee's answer says of its definition. Each law goes by cases on the tests.
 use mathlib.Core.Path.{◌≡◌, refl, sym, ap, ◌∙◌}
-use mathlib.Core.Bool.{Bool, true, false, ◌&&◌, ◌||◌, not, and-false, false≢true}
+use mathlib.Core.Bool.{Bool, true, false, ◌||◌, not, and-false}
 use mathlib.Core.Logic.{◌⊎◌, inl, inr, ⊎_elim}
 use Prim.Native.Nat.{ℕ, ◌≤◌, ◌<◌}
 use borrow.Author.Tests.{le-leb, lt-leb, leb-true}

@@ -14,8 +14,9 @@ use Rattle.characters.proofs.Tests.{le_or_lt}
 use Rattle.area.specs.declared.Rule.{Rule}
 use Rattle.area.specs.Records.{rule_width, entry_width, rule_of, rule_at, entry_at, nth_rule}
 use Rattle.area.specs.Contents.{contents, rule_format}
-use Rattle.answers.specs.Numbers.{accepted_number, area_full_number, broken_map_number, start_refused_number, text_mismatch_number, broken_sheet_number}
-use Rattle.answers.specs.Numbers.{broken_run_number, row_mismatch_number, done_number, stopped_number, unlinked_number, skip_number, token_number}
+use Rattle.answers.specs.Numbers.{accepted_number, area_full_number, broken_map_number, unknown_caller_number, start_refused_number}
+use Rattle.answers.specs.Numbers.{text_mismatch_number, broken_sheet_number, broken_run_number, row_mismatch_number, done_number, stopped_number}
+use Rattle.answers.specs.Numbers.{unlinked_number, skip_number, token_number}
 use Rattle.answers.specs.Words.{TwoBytes}
 use Rattle.area.specs.Bytes.{AllBytes}
 use Rattle.answers.proofs.Words.{two_bytes, no_values}
@@ -35,10 +36,11 @@ use Rattle.winner.specs.Winner.{Lexer, length_in, weight, greatest}
 use Rattle.winner.proofs.Winning.{weights_low}
 use Rattle.std.specs.Prelude.{Ok, Err, Option, Some, None}
 use Rattle.input_check.specs.InputCheck.{good_text}
-use Rattle.run.specs.declared.StartError.TheVariants.{StartRefused, TextMismatch}
+use Rattle.run.specs.declared.StartError.TheVariants.{UnknownCaller, StartRefused, TextMismatch}
 use Rattle.run.specs.Run.{StartAnswer, StepAnswer, Running, current, Input, RunLeft, good_run, fits_in}
 use Rattle.winner.specs.Top.{good_row}
 use Rattle.run.specs.Run.{won_by, choose, step_row, step_run, lexer_of, step_call, start_fields, view, view_fields, step_fields}
+use Rattle.run.proofs.Limits.{within_low}
 use Rattle.run.proofs.Fitting.{run_is}
 
 -- ---- the pattern call
@@ -158,7 +160,7 @@ module _ (x : Lexer) (small : (k : ℕ) → SmallRule (nth_rule x.rules k)) (run
       (λ _.
       let low = weights_low x (current run) row 65535 (length x.rules) (λ k _. omega (arith, length_small k)) in
       let numbers = run_is (length x.states) run.run run.stack good in
-      won_small _ _ (omega (arith, low)) (omega (arith, numbers.small, numbers.inside))))
+      won_small _ _ (omega (arith, low)) (omega (arith, within_low run.run.kind run.run.n numbers.limited, numbers.inside))))
       (λ _. no_values row_mismatch_number (omega arith))))
       (λ _. no_values broken_run_number (omega arith)))
       (λ _. no_values text_mismatch_number (omega arith))
@@ -173,5 +175,6 @@ step_small b run i rules-bytes row-bytes =
 pub start_small : (x : StartAnswer) → TwoBytes (start_fields x)
 unfolding start_fields
 start_small (Ok _) = no_values accepted_number (omega arith)
+start_small (Err UnknownCaller) = no_values unknown_caller_number (omega arith)
 start_small (Err StartRefused) = no_values start_refused_number (omega arith)
 start_small (Err TextMismatch) = no_values text_mismatch_number (omega arith)

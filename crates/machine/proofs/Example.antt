@@ -1,10 +1,11 @@
 -- The hypotheses of demand 3 can be met, and its machine does something: a small file with pushes, pops below the bottom, a replace, skips, an entry
--- with characters of 2, 3 and 4 bytes, and rows in between that are refused, for cutting a character or for being too long, computed.
+-- with characters of 2, 3 and 4 bytes, and rows in between that are refused, for cutting a character or for being too long, computed, of a seller and
+-- of a kiosk.
 use mathlib.Core.Path.{◌≡◌, refl, ap, ◌∙◌}
 use mathlib.Core.Bool.{true}
 use mathlib.Core.List.{List, [], ◌∷◌, map}
 use mathlib.Core.Option.{some}
-use Prim.Native.Nat.{ℕ, zero, suc, ◌<◌}
+use Prim.Native.Nat.{ℕ, zero, suc, ◌<◌, ◌≤◌}
 use native.Mathlib.Omega.{arith}
 use borrow.Author.Tests.{ltb-true}
 use lib.ListN.{get_or, get_elem?, replicate}
@@ -18,7 +19,7 @@ use Rattle.std.specs.Prelude.{Ok, Err}
 use Rattle.run.specs.declared.StepError.TheVariants.{RowMismatch}
 use Rattle.run.specs.declared.Step.TheVariants.{Done, Stopped, Skip, Token}
 use Rattle.run.specs.declared.Run.{Run}
-use Rattle.run.specs.Run.{StepAnswer, running, Input, input}
+use Rattle.run.specs.Run.{seller, kiosk, limit, running, start_accepted, start_word, StepAnswer, Input, input}
 use Rattle.machine.specs.Computing.{computing}
 use Rattle.machine.specs.File.{FileRule}
 use Rattle.machine.specs.Machine.{Given, Machine, fresh, step}
@@ -89,15 +90,16 @@ rows =
 abbrev pub entry_rows : List Input
 entry_rows = map (input entry_text) rows
 
--- the file and the map, and the start of that entry of 13 bytes, over a stack of 28 bytes 7
-abbrev pub session : Run → Session
-session r = record {
+-- the file and the map, and the start of that entry of 13 bytes by a caller of that kind, over a stack of 28 bytes 7
+abbrev pub session : ℕ → Run → Session
+session kind r = record {
   request = asked lex_file 0 [];
   capacities = capacities;
   names = names_of_map;
   entries = entries_of_map;
   area7 = [];
   area8 = [];
+  kind = kind;
   n = 13;
   text = entry_text;
   running = running r (replicate 28 7);
@@ -111,12 +113,12 @@ answers g m (i ∷ is) = (step g m i).answer ∷ answers g (step g m i).machine 
 -- ---- by computing
 
 -- the map holds the name of each named rule
-pub met_names : (r : Run) → MapHolds (session_file (session r)) (session_map (session r))
+pub met_names : (kind : ℕ) (r : Run) → MapHolds (session_file (session kind r)) (session_map (session kind r))
 unfolding computing
-met_names r = record { holds = by }
+met_names kind r = record { holds = by }
   where
-    by : (k : ℕ) (x : FileRule) (name : List ℕ) → get_elem? (session_file (session r)).rules k ≡ some x → x.name ≡ some name
-        → (id : ℕ) × EntryOf (session_map (session r)) name id
+    by : (k : ℕ) (x : FileRule) (name : List ℕ) → get_elem? (session_file (session kind r)).rules k ≡ some x → x.name ≡ some name
+        → (id : ℕ) × EntryOf (session_map (session kind r)) name id
     by zero x name e q = (300, (0, _, refl, some_is _ name (ap (λ (y : FileRule). y.name) (some_is _ x e) ∙ q), refl))
     by (suc zero) x name e q = absurd (none_some name (ap (λ (y : FileRule). y.name) (some_is _ x e) ∙ q))
     by (suc (suc zero)) x name e q = (301, (1, _, refl, some_is _ name (ap (λ (y : FileRule). y.name) (some_is _ x e) ∙ q), refl))
@@ -124,27 +126,47 @@ met_names r = record { holds = by }
     by (suc (suc (suc (suc zero)))) x name e q = (302, (2, _, refl, some_is _ name (ap (λ (y : FileRule). y.name) (some_is _ x e) ∙ q), refl))
     by (suc (suc (suc (suc (suc k))))) x name e q = absurd (none_some x e)
 
--- the three calls are accepted
-pub met : (r : Run) → Accepts (session r)
+-- the start is accepted of a seller and of a kiosk
+met_start : (kind : ℕ) → kind ≤ kiosk → (r : Run) → (start_left_of (session kind r)).answer ≡ start_accepted
 unfolding computing
-met r = record { parsed = refl; unmapped = 0; unused = 0; linked = refl; started = refl }
+met_start zero h r = refl
+met_start (suc zero) h r = refl
+met_start (suc (suc kind)) h r = absurd (omega (arith, h))
 
--- and these are the answers
-pub met_answers : (r : Run) → answers (given (session r)) fresh entry_rows
+-- and so are the file and the link
+pub met : (kind : ℕ) → kind ≤ kiosk → (r : Run) → Accepts (session kind r)
+unfolding computing
+met kind h r = record { parsed = refl; unmapped = 0; unused = 0; linked = refl; started = met_start kind h r }
+
+-- these are the answers to both
+pub met_answers : (kind : ℕ) (r : Run) → answers (given (session kind r)) fresh entry_rows
     ≡ Err RowMismatch ∷ Err RowMismatch ∷ Ok (Token 300 0 2) ∷ Ok Skip ∷ Err RowMismatch ∷ Ok Skip ∷ Ok (Token 301 6 1) ∷ Err RowMismatch
     ∷ Ok (Token 302 7 4) ∷ Ok (Token 300 11 1) ∷ Ok Stopped ∷ Ok (Token 302 12 1) ∷ Ok Done ∷ []
 unfolding computing answers
-met_answers r = refl
+met_answers kind r = refl
 
 all_over : (text : List ℕ) (ls : List (List ℕ)) → AllOver text (map (input text) ls)
 unfolding AllOver
 all_over text [] = tt
 all_over text (l ∷ ls) = (refl, all_over text ls)
 
--- so demand 3 holds of the calls with these rows
-pub met_demand : (r : Run) → Demand (given (session r)) (session r).running.stack (start_left_of (session r)) entry_rows (session_calls (session r) entry_rows)
+-- demand 3, of the calls with these rows
+abbrev DemandMet : Session → Type 0
+DemandMet q = Demand (given q) q.running.stack (start_left_of q) entry_rows (session_calls q entry_rows)
+
+-- so it holds, of either kind
+pub met_demand : (kind : ℕ) → kind ≤ kiosk → (r : Run) → DemandMet (session kind r)
 unfolding DemandHolds
-met_demand r = demand (session r) (met r) entry_rows (all_over entry_text rows)
+met_demand kind h r = demand (session kind r) (met kind h r) entry_rows (all_over entry_text rows)
+
+-- of a seller, whose limit is 4,096, and of a kiosk, whose limit is 512
+pub met_by_seller : (r : Run) → ((given (session seller r)).limit ≡ 4096) × DemandMet (session seller r)
+unfolding limit
+met_by_seller r = (refl, met_demand seller (omega arith) r)
+
+pub met_by_kiosk : (r : Run) → ((given (session kiosk r)).limit ≡ 512) × DemandMet (session kiosk r)
+unfolding limit
+met_by_kiosk r = (refl, met_demand kiosk (omega arith) r)
 
 -- ---- the same in words
 
@@ -158,10 +180,10 @@ entries_are_bytes : AllBytes entries_of_map
 unfolding all
 entries_are_bytes = record { small = λ k. all_small entries_of_map k refl }
 
-met_words : (r : Run) → AcceptsInWords (session r)
+met_words : (kind : ℕ) → kind ≤ kiosk → (r : Run) → AcceptsInWords (session kind r)
 unfolding computing
-met_words r = record { parsed = refl; linked = refl; started = refl }
+met_words kind h r = record { parsed = refl; linked = refl; started = ap start_word (met_start kind h r) }
 
-pub met_in_words : (r : Run) → InWords (session r) entry_rows
+pub met_in_words : (kind : ℕ) → kind ≤ kiosk → (r : Run) → InWords (session kind r) entry_rows
 unfolding InWordsHolds
-met_in_words r = in_words (session r) entries_are_bytes (met_words r) entry_rows (all_over entry_text rows)
+met_in_words kind h r = in_words (session kind r) entries_are_bytes (met_words kind h r) entry_rows (all_over entry_text rows)

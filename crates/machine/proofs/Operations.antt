@@ -96,37 +96,37 @@ module _ (name : Rule → List ℕ) (es : List Entry) where
 
 -- ---- a call that does not move, and a winner
 
-pub still_as : (n : ℕ) (m : Machine) (b : List ℕ) → Begins m.stack b → (a : StepAnswer) → run_left a (run_as n m) b ≡ left_as n b (answered a m)
-still_as n m b h a = ap (run_left a (run_as n m)) (laid_again m.stack b h)
+pub still_as : (g : Given) (m : Machine) (b : List ℕ) → Begins m.stack b → (a : StepAnswer) → run_left a (run_as g m) b ≡ left_as g b (answered a m)
+still_as g m b h a = ap (run_left a (run_as g m)) (laid_again m.stack b h)
 
 -- the bytes b begin with the stack, with room for one id more; c is what stands in the areas
-module _ (n : ℕ) (m : Machine) (b : List ℕ) (begins : Begins m.stack b) (some_id : 1 ≤ length m.stack)
+module _ (g : Given) (m : Machine) (b : List ℕ) (begins : Begins m.stack b) (some_id : 1 ≤ length m.stack)
     (room : length m.stack * entry_width + entry_width ≤ length b) (name : Rule → List ℕ) (c : Contents) where
-  move_as : (a : StepAnswer) (x : Rule) (bytes : ℕ) → leaving a (move_by (running (run_as n m) b) x bytes)
-      ≡ left_as n b (answered a (move (winner (file_rule name c x) bytes) m))
+  move_as : (a : StepAnswer) (x : Rule) (bytes : ℕ) → leaving a (move_by (running (run_as g m) b) x bytes)
+      ≡ left_as g b (answered a (move (winner (file_rule name c x) bytes) m))
   unfolding move_by move
   move_as a x bytes =
-      ap (λ (z : Running). run_left a (advanced z.run bytes) z.stack) (operated_as (run_as n m) x m.stack b begins some_id room)
+      ap (λ (z : Running). run_left a (advanced z.run bytes) z.stack) (operated_as (run_as g m) x m.stack b begins some_id room)
 
   -- the id of a named winner is the map's
-  named_as : (g : Given) (x : Rule) (w : Winner) → cond (is_named x) (token (id_of g.map (name x)) w m) (answered (Ok Skip) (move w m))
+  named_as : (x : Rule) (w : Winner) → cond (is_named x) (token (id_of g.map (name x)) w m) (answered (Ok Skip) (move w m))
       ≡ wins g (name_from name x) w m
   unfolding wins name_from
-  named_as g x w = go (is_named x)
+  named_as x w = go (is_named x)
     where
       go : (t : Bool) → cond t (token (id_of g.map (name x)) w m) (answered (Ok Skip) (move w m))
           ≡ wins g (cond t (some (name x)) none) w m
       go true = ap (λ (o : Option ℕ). token o w m) (id_same g.map (name x))
       go false = refl
 
-  pub won_as : (g : Given) (x : Rule) (bytes : ℕ) → won_by (running (run_as n m) b) (link_rule name g.map x) bytes
-      ≡ left_as n b (wins g (name_from name x) (winner (file_rule name c x) bytes) m)
+  pub won_as : (x : Rule) (bytes : ℕ) → won_by (running (run_as g m) b) (link_rule name g.map x) bytes
+      ≡ left_as g b (wins g (name_from name x) (winner (file_rule name c x) bytes) m)
   unfolding won_by link_rule with_found with_id token move_by operated
-  won_as g x bytes = go (is_named x) refl (id_of g.map (name x)) ∙ ap (left_as n b) (named_as g x (winner (file_rule name c x) bytes))
+  won_as x bytes = go (is_named x) refl (id_of g.map (name x)) ∙ ap (left_as g b) (named_as x (winner (file_rule name c x) bytes))
     where
       go : (t : Bool) → is_named x ≡ t → (o : Option ℕ)
-          → won_by (running (run_as n m) b) (cond t (with_found o x) x) bytes
-          ≡ left_as n b (cond t (token o (winner (file_rule name c x) bytes) m) (answered (Ok Skip) (move (winner (file_rule name c x) bytes) m)))
+          → won_by (running (run_as g m) b) (cond t (with_found o x) x) bytes
+          ≡ left_as g b (cond t (token o (winner (file_rule name c x) bytes) m) (answered (Ok Skip) (move (winner (file_rule name c x) bytes) m)))
       go true e (some i) = rw e (move_as (Ok (Token i m.position bytes)) x bytes)
-      go true e none = rw e (still_as n m b begins (Ok Unlinked))
+      go true e none = rw e (still_as g m b begins (Ok Unlinked))
       go false e o = rw e (move_as (Ok Skip) x bytes)

@@ -3,7 +3,7 @@
 -- machine (`Whole`); what the calls cover and how many move is said of any sheet that passes the check (`always`).
 use mathlib.Core.Path.{◌≡◌, refl, sym, ap, subst, subst⁻¹, ◌∙◌}
 use mathlib.Core.List.{List, []}
-use Prim.Native.Nat.{ℕ}
+use Prim.Native.Nat.{ℕ, ◌≤◌}
 use native.Mathlib.Omega.{arith}
 use lib.ListN.{length, length-map}
 use Rattle.area.specs.declared.Rule.{Rule}
@@ -19,10 +19,11 @@ use Rattle.winner.specs.Winner.{Lexer}
 use Rattle.characters.proofs.Decoding.{utf8_judges}
 use Rattle.input_check.specs.InputCheck.{EdgeOf}
 use Rattle.input_check.proofs.Edges.{edges_judged, start_edge, text_formed}
-use Rattle.run.specs.Run.{StartAnswer, start_accepted, Running, most_bytes, put_state, Input, RunLeft, leaving, run_left, first_run, start_call}
+use Rattle.run.specs.Run.{StartAnswer, start_accepted, Running, limit, put_state, stack_bytes, Input, RunLeft, leaving, run_left, first_run, start_call}
+use Rattle.run.proofs.Limits.{within_is}
 use Rattle.run_laws.specs.Calls.{calls, EachCall}
 use Rattle.run_laws.specs.Always.{SoundRun, SoundCall, AlwaysHolds}
-use Rattle.run_laws.proofs.Started.{start_text, start_small, start_long, start_left}
+use Rattle.run_laws.proofs.Started.{start_text, start_limited, start_long, start_left}
 use Rattle.run_laws.proofs.Always.{always}
 use Rattle.machine.specs.File.{File, file_state, name_at, file_in, file_by, file_of}
 use Rattle.machine.specs.Machine.{Given, fresh}
@@ -41,53 +42,57 @@ use Rattle.machine.proofs.Characters.{whole_characters}
 
 -- ---- the start
 
-module _ (n : ℕ) (text : List ℕ) (x : Running) (started : (start_call n text x).answer ≡ start_accepted) where
+module _ (g : Given) (x : Running) (started : (start_call g.kind g.n g.text x).answer ≡ start_accepted) where
+  long : stack_bytes g.n ≤ length x.stack
+  long = start_long g.kind g.n g.text x started
+
   -- state 0 alone at the bottom
   first_as : put_state x.stack 0 0 ≡ stack_as x.stack fresh
-  first_as = laid_bottom x.stack 0 (omega (arith, start_long n text x started))
+  first_as = laid_bottom x.stack 0 (omega (arith, long))
 
   -- it leaves the machine's first run
-  start_as : start_call n text x ≡ leaving start_accepted (running_as n x.stack fresh)
-  start_as = start_left n text x started ∙ ap (run_left start_accepted (first_run n)) first_as
+  start_as : start_call g.kind g.n g.text x ≡ leaving start_accepted (running_as g x.stack fresh)
+  start_as = start_left g.kind g.n g.text x started ∙ ap (run_left start_accepted (first_run g.kind g.n)) first_as
 
   start_begins : Begins fresh.stack (stack_as x.stack fresh)
-  start_begins = laid_begins x.stack fresh.stack (omega (arith, start_long n text x started))
+  start_begins = laid_begins x.stack fresh.stack (omega (arith, long))
 
 -- ---- the calls
 
 -- the calls on a sheet with the linked rules follow the machine, from an accepted start on
-module _ (name : Rule → List ℕ) (c : Contents) (es : List Entry) (limit : ℕ) (sound : Sound c) (differ : Distinct es)
-    (b : SheetBytes) (sheet : Sheet name c es b) (n : ℕ) (text : List ℕ) (x : Running) (started : (start_call n text x).answer ≡ start_accepted)
+module _ (name : Rule → List ℕ) (c : Contents) (es : List Entry) (kind limit : ℕ) (sound : Sound c) (differ : Distinct es)
+    (b : SheetBytes) (sheet : Sheet name c es b) (n : ℕ) (text : List ℕ) (x : Running) (started : (start_call kind n text x).answer ≡ start_accepted)
     (is : List Input) (over : AllOver text is) where
   abbrev Followed : File → List Entry → RunLeft StartAnswer → Type 0
   Followed f map left =
-      let g : Given = record { file = f; map = map; limit = limit; n = n; text = text } in
+      let g : Given = record { file = f; map = map; kind = kind; limit = limit; n = n; text = text } in
       AsMachine g fresh [] x.stack left.after × Follows g x.stack fresh [] is (calls b left.after is)
 
-  followed : Followed (file_in name c) es (start_call n text x)
+  followed : Followed (file_in name c) es (start_call kind n text x)
   unfolding AlwaysHolds
   followed =
-      let g : Given = record { file = file_in name c; map = es; limit = limit; n = n; text = text } in
+      let g : Given = record { file = file_in name c; map = es; kind = kind; limit = limit; n = n; text = text } in
+      let after : Running = (start_call kind n text x).after in
       let size : ℕ = length x.stack in
       let first : List ℕ = stack_as x.stack fresh in
       let states : length (decoded b).states ≡ length g.file.states =
       ap (λ (l : Lexer). length l.states) sheet.reads ∙ sym (length-map c.states file_state) in
-      let w = always b sheet.checks n text x started is in
-      let sound-first = subst (λ (k : ℕ). SoundRun k n size (start_call n text x).after) states w.first in
-      let sound-each = subst (λ (k : ℕ). EachCall (SoundCall k n size) (start_call n text x).after (calls b (start_call n text x).after is)) states w.each in
-      let left = start_as n text x started in
-      let formed = start_text n text x started in
+      let w = always b sheet.checks kind n text x started is in
+      let sound-first = subst (λ (k : ℕ). SoundRun k kind n size after) states w.first in
+      let sound-each = subst (λ (k : ℕ). EachCall (SoundCall k kind n size) after (calls b after is)) states w.each in
+      let left = start_as g x started in
+      let formed = start_text kind n text x started in
       let judged = edges_judged text (text_formed n text formed) in
       let edge : EdgeOf text 0 = start_edge text ((utf8_judges text).sound (text_formed n text formed)) in
       let runs : Runs g size fresh first = record {
         sound = subst (λ (z : RunLeft StartAnswer). SoundAs g size z.after) left sound-first;
-        begins = start_begins n text x started;
+        begins = start_begins g x started;
       } in
       let each = subst (λ (z : RunLeft StartAnswer). AllSound g size z.after (calls b z.after is)) left sound-each in
       let places = place_next [] fresh.stack x.stack x.stack (place_first x.stack) in
       subst⁻¹ (Followed (file_in name c) es) left (
         as_machine g fresh [] x.stack first runs places edge,
-        follows g judged differ b (sheet_calls name c es limit n text formed sound b sheet) x.stack is over fresh [] first runs places edge each,
+        follows g judged differ b (sheet_calls name c es kind limit n text formed sound b sheet) x.stack is over fresh [] first runs places edge each,
       )
 
 -- ---- the demand
@@ -123,17 +128,21 @@ demand q ok is over =
           link.reads ∙ ap (linked_lexer (name_in (sheet_parsed q)) es) (accepted_decodes q.request q.capacities c accepts)
           ∙ ap (λ (f : Rule → List ℕ). linked_lexer f es c) (name_same (sheet_parsed q));
     } in
+    let most : ℕ = (given q).limit in
     let Met : File → List Entry → Type 0 =
-    λ f map. Followed name c es most_bytes sound link.differ b sheet q.n q.text q.running ok.started is over f map (start_left_of q) in
-    let by-file : Met (file_in name c) es = followed name c es most_bytes sound link.differ b sheet q.n q.text q.running ok.started is over in
+    λ f map. Followed name c es q.kind most sound link.differ b sheet q.n q.text q.running ok.started is over f map (start_left_of q) in
+    let by-file : Met (file_in name c) es = followed name c es q.kind most sound link.differ b sheet q.n q.text q.running ok.started is over in
     let met : Met (session_file q) (session_map q) = subst (Met (session_file q)) maps (subst⁻¹ (λ (f : File). Met f es) same by-file) in
-    let w = always b link.checks q.n q.text q.running ok.started is in
+    let w = always b link.checks q.kind q.n q.text q.running ok.started is in
+    let inside = within_is (limit q.kind) q.n (start_limited q.kind q.n q.text q.running ok.started) in
     record {
-      small = start_small q.n q.text q.running ok.started;
+      limited = inside.0;
+      small = inside.1;
       first = met.0;
       each = met.1;
       cover = w.cover;
       once = w.once;
       whole = whole_characters (given q) q.running.stack is (session_calls q is) fresh [] met.1 met.0.edge;
       few = w.few;
+      few_of_kiosk = w.few_of_kiosk;
     }

@@ -40,21 +40,23 @@ pub record Sheet (name : Rule → List ℕ) (c : Contents) (es : List Entry) (b 
 -- calls given the machine's text that are the machine's steps wherever its run is as it has it
 pub record Calls (g : Given) (b : SheetBytes) : Type 0 where
   pub called : (size : ℕ) (m : Machine) (l : List ℕ) (i : Input) → Runs g size m l → i.text ≡ g.text
-      → step_call b (running (run_as g.n m) l) i ≡ left_as g.n l (step g m i)
+      → step_call b (running (run_as g m) l) i ≡ left_as g l (step g m i)
 
-pub sheet_calls : (name : Rule → List ℕ) (c : Contents) (es : List Entry) (limit n : ℕ) (text : List ℕ) → good_text n text ≡ true → Sound c
+pub sheet_calls : (name : Rule → List ℕ) (c : Contents) (es : List Entry) (kind limit n : ℕ) (text : List ℕ) → good_text n text ≡ true → Sound c
     → (b : SheetBytes) → Sheet name c es b
-    → Calls (record { file = file_in name c; map = es; limit = limit; n = n; text = text }) b
+    → Calls (record { file = file_in name c; map = es; kind = kind; limit = limit; n = n; text = text }) b
 unfolding step_call
-sheet_calls name c es limit n text formed sound b sheet = record {
-  called = λ size m l i h same.
-      rw sheet.checks
-      (ap (λ (x : Lexer). step_run x (running (run_as n m) l) i) sheet.reads ∙ step_as name c es limit n text formed sound size m l h i same);
-}
+sheet_calls name c es kind limit n text formed sound b sheet =
+    let g : Given = record { file = file_in name c; map = es; kind = kind; limit = limit; n = n; text = text } in
+    record {
+      called = λ size m l i h same.
+          rw sheet.checks
+          (ap (λ (x : Lexer). step_run x (running (run_as g m) l) i) sheet.reads ∙ step_as name c es kind limit n text formed sound size m l h i same);
+    }
 
 -- the run and the bytes are as the machine has them
 pub as_machine : (g : Given) (m : Machine) (held : List (List ℕ)) (s l : List ℕ) → Runs g (length s) m l → Places (m.stack ∷ held) s l
-    → EdgeOf g.text m.position → AsMachine g m held s (running (run_as g.n m) l)
+    → EdgeOf g.text m.position → AsMachine g m held s (running (run_as g m) l)
 as_machine g m held s l h places edge = record {
   run = refl;
   places = places;
@@ -81,14 +83,14 @@ linked_answer g m i a next h held e = go (subst (λ (z : StepAnswer). Means g m 
 
 -- each of them is sound
 abbrev pub AllSound : Given → ℕ → Running → List (RunLeft StepAnswer) → Type 0
-AllSound g size x os = EachCall (SoundCall (length g.file.states) g.n size) x os
+AllSound g size x os = EachCall (SoundCall (length g.file.states) g.kind g.n size) x os
 
 -- over a stack whose bytes were s before the start call
 module _ (g : Given) (judged : JudgesEdges g.text) (differ : Distinct g.map) (b : SheetBytes) (by-machine : Calls g b) (s : List ℕ) where
   -- from the machine m on, which held these stacks before
   pub follows : (is : List Input) → AllOver g.text is → (m : Machine) (held : List (List ℕ)) (l : List ℕ)
       → Runs g (length s) m l → Places (m.stack ∷ held) s l → EdgeOf g.text m.position
-      → (let x : Running = running (run_as g.n m) l in AllSound g (length s) x (calls b x is) → Follows g s m held is (calls b x is))
+      → (let x : Running = running (run_as g m) l in AllSound g (length s) x (calls b x is) → Follows g s m held is (calls b x is))
   unfolding calls EachCall Follows AllOver
   follows [] over m held l h places edge sound = tt
   follows (i ∷ is) over m held l h places edge sound =
@@ -97,7 +99,7 @@ module _ (g : Given) (judged : JudgesEdges g.text) (differ : Distinct g.map) (b 
       let meant = means g m i judged in
       let left = by-machine.called (length s) m l i h over.0 in
       let edge-after = edge_next g m i a next meant edge in
-      let each = subst (λ (o : RunLeft StepAnswer). AllSound g (length s) (running (run_as g.n m) l) (o ∷ calls b o.after is)) left sound in
+      let each = subst (λ (o : RunLeft StepAnswer). AllSound g (length s) (running (run_as g m) l) (o ∷ calls b o.after is)) left sound in
       let runs = next_runs g (length s) m l h next each.0.after in
       let stand = place_next (m.stack ∷ held) next.stack s l places in
       subst⁻¹ (λ (o : RunLeft StepAnswer). Follows g s m held (i ∷ is) (o ∷ calls b o.after is)) left (

@@ -27,6 +27,7 @@ use Rattle.run.specs.Run.{step_call, start_fields, start_word, view, view_fields
 use Rattle.run.proofs.RunWords.{step_tells}
 use Rattle.run_laws.specs.Calls.{calls}
 use Rattle.troymantle.specs.RunWords.{step_in_words}
+use Rattle.run.proofs.Limits.{limit_low}
 use Rattle.machine.specs.File.{map_of}
 use Rattle.machine.specs.Machine.{Given, Machine, fresh, step}
 use Rattle.machine.specs.Means.{Means}
@@ -57,6 +58,7 @@ link_zero (Err (L.AreaFull Area.Unused)) e = absurd (omega (arith, e))
 start_zero : (x : StartAnswer) → start_word x ≡ 0 → x ≡ start_accepted
 unfolding start_fields
 start_zero (Ok _) e = refl
+start_zero (Err Start.UnknownCaller) e = absurd (omega (arith, e))
 start_zero (Err Start.StartRefused) e = absurd (omega (arith, e))
 start_zero (Err Start.TextMismatch) e = absurd (omega (arith, e))
 
@@ -130,5 +132,6 @@ in_words q bytes h is over =
     record {
       same = same_words b is (start_left_of q).after;
       demand = d;
-      each = in_words_follows (given q) q.running.stack b (omega (arith, d.small)) ids is (start_left_of q).after fresh [] d.each;
+      each = in_words_follows (given q) q.running.stack b (omega (arith, d.small, limit_low q.kind (given q).limit d.limited)) ids
+          is (start_left_of q).after fresh [] d.each;
     }

@@ -1,6 +1,6 @@
 -- Demand 3: one statement about a whole list of step calls, from an accepted parse, an accepted link and an accepted start, each step given the text of
--- the start. Where the link's map holds all rule names no answer is 'unlinked'; all else holds of any map (01, The run machine; 02, 2/13).
-use Rattle.std.specs.Prelude.{ℕ, ◌+◌, ◌*◌, ◌/◌, ◌%◌, ◌≤◌, ◌<◌, ◌≡◌, cond, List, [], ◌∷◌, ltb, length, get_or, Ok, Err}
+-- the start. Where the link's map holds all rule names no answer is 'unlinked'; all else holds of any map (01, The run machine; 02, 2/13 and 3/13).
+use Rattle.std.specs.Prelude.{ℕ, ◌+◌, ◌*◌, ◌/◌, ◌%◌, ◌≤◌, ◌<◌, ◌≡◌, cond, List, [], ◌∷◌, ltb, length, get_or, Some, unwrap_or, Ok, Err}
 use Rattle.std.proofs.Math.Option.{Option, none, some}
 use Rattle.std.proofs.Math.ListN.{get_elem?}
 use Rattle.section.specs.Request.{Request}
@@ -13,7 +13,7 @@ use Rattle.input_check.specs.InputCheck.{EdgeOf}
 use Rattle.run.specs.declared.StepError.TheVariants.{BrokenSheet, TextMismatch, BrokenRun}
 use Rattle.run.specs.declared.Step.TheVariants.{Unlinked}
 use Rattle.run.specs.declared.Run.{Run}
-use Rattle.run.specs.Run.{StartAnswer, start_accepted, StepAnswer, Running, most_bytes, Input, RunLeft, start_call}
+use Rattle.run.specs.Run.{StartAnswer, start_accepted, StepAnswer, kiosk, most_kiosk_bytes, limit, Running, Input, RunLeft, start_call}
 use Rattle.run_laws.specs.Calls.{calls, last_position}
 use Rattle.run_laws.specs.Pieces.{Piece, pieces, Adjoin, covered}
 use Rattle.machine.specs.File.{FileRule, File, map_of, file_of}
@@ -36,14 +36,14 @@ abbrev pub PlaceHolds : Option ℕ → ℕ → List ℕ → List ℕ → Type 0
 PlaceHolds none p s b = (get_or b (p * 2) 0 ≡ get_or s (p * 2) 0) × (get_or b (p * 2 + 1) 0 ≡ get_or s (p * 2 + 1) 0)
 PlaceHolds (some v) p s b = (get_or b (p * 2) 0 ≡ v % 256) × (get_or b (p * 2 + 1) 0 ≡ v / 256)
 
--- a run's numbers as the machine has them: n, position and moves are equal, and depth is the length of its stack
-abbrev pub run_as : ℕ → Machine → Run
-run_as n m = record { n = n; position = m.position; depth = length m.stack; moves = m.moves }
+-- a run's numbers as the machine has them: n, position and moves are equal, depth is the length of its stack, and the kind is that of the start
+abbrev pub run_as : Given → Machine → Run
+run_as g m = record { n = g.n; position = m.position; depth = length m.stack; moves = m.moves; kind = g.kind }
 
 -- the run x and its stack's bytes are as the machine has them, which held these stacks before; the current state is declared, and the position is at
 -- the edge of a character
 pub record AsMachine (g : Given) (m : Machine) (held : List (List ℕ)) (s : List ℕ) (x : Running) : Type 0 where
-  pub run : x.run ≡ run_as g.n m
+  pub run : x.run ≡ run_as g m
   pub places : (p : ℕ) → PlaceHolds (last_held p (m.stack ∷ held)) p s x.stack
   pub size : length x.stack ≡ length s
   pub declared : current_state m.stack < length g.file.states
@@ -87,7 +87,8 @@ OfCharacters text (x ∷ xs) = (EdgeOf text x.start × EdgeOf text (x.start + x.
 
 -- of step calls with these inputs that left os, after a start call that left f, over a stack whose bytes were s before it
 pub record Demand (g : Given) (s : List ℕ) (f : RunLeft StartAnswer) (is : List Input) (os : List (RunLeft StepAnswer)) : Type 0 where
-  -- n is within the limit, and at first the run is as the machine has it
+  -- the limit is that of the kind of caller, n is within it, and at first the run is as the machine has it
+  pub limited : limit g.kind ≡ Some g.limit
   pub small : g.n ≤ g.limit
   pub first : AsMachine g fresh [] s f.after
   -- after each call its answer, the run and the stack's bytes are as the machine has them
@@ -98,8 +99,9 @@ pub record Demand (g : Given) (s : List ℕ) (f : RunLeft StartAnswer) (is : Lis
   pub once : (x : ℕ) → covered x (pieces 0 os) ≡ cond (ltb x (last_position f.after os)) 1 0
   -- each of them is of whole characters
   pub whole : OfCharacters g.text (pieces 0 os)
-  -- at most n calls move
+  -- at most n calls move, and of a kiosk's run at most 512 (02, 3/13)
   pub few : length (pieces 0 os) ≤ g.n
+  pub few_of_kiosk : g.kind ≡ kiosk → length (pieces 0 os) ≤ most_kiosk_bytes
 
 -- ---- what it is demanded of
 
@@ -111,6 +113,7 @@ pub record Session : Type 0 where
   pub entries : List ℕ
   pub area7 : List ℕ
   pub area8 : List ℕ
+  pub kind : ℕ
   pub n : ℕ
   pub text : List ℕ
   pub running : Running
@@ -129,7 +132,7 @@ linked_sheet b l = sheet_bytes b.source b.area1 l.area2 b.area3 b.area4 b.area5 
 
 -- what the start call left
 abbrev pub start_left_of : Session → RunLeft StartAnswer
-start_left_of q = start_call q.n q.text q.running
+start_left_of q = start_call q.kind q.n q.text q.running
 
 -- the file and the map, by their bytes alone
 abbrev pub session_file : Session → File
@@ -138,9 +141,17 @@ session_file q = file_of q.request
 abbrev pub session_map : Session → List Entry
 session_map q = map_of q.names q.entries
 
--- what the machine is given: the file, flags and verdicts by what they mean, the map, n and the text; and the limit of n, which 01 sets at 4,096
+-- what the machine is given: the file, flags and verdicts by what they mean, the map, the kind of caller with its limit, n and the text; 0 stands for
+-- the limit that an unknown kind has not
 abbrev pub given : Session → Given
-given q = record { file = session_file q; map = session_map q; limit = most_bytes; n = q.n; text = q.text }
+given q = record {
+  file = session_file q;
+  map = session_map q;
+  kind = q.kind;
+  limit = unwrap_or (limit q.kind) 0;
+  n = q.n;
+  text = q.text;
+}
 
 -- the file, the link and the start are accepted
 pub record Accepts (q : Session) : Type 0 where

@@ -1,5 +1,5 @@
--- The run machine (01, The run machine; 02, 2/13). It is given a file's states and rules, a map, n, the limit of n and the entry's text, and reads
--- neither sheet nor run.
+-- The run machine (01, The run machine; 02, 2/13 and 3/13). It is given a file's states and rules, a map, the kind of caller, the limit of n, n and the
+-- entry's text, and reads neither sheet nor run.
 use Rattle.std.specs.Prelude.{ℕ, ◌+◌, ◌*◌, ◌-◌, Bool, true, false, cond, not, ◌&&◌, ◌||◌, List, [], ◌∷◌, ◌++◌, eqb, ltb, leb, length, get_or, take, Ok, Err}
 use Rattle.std.proofs.Math.Option.{Option, none, some}
 use Rattle.characters.specs.Utf8.{is_edge}
@@ -13,10 +13,11 @@ use Rattle.machine.specs.File.{Operation, keep, replace, push, pop, FileState, F
 
 -- ---- what it is given, and what it holds
 
--- for a whole run; the limit is the greatest n that a start accepts, and no step reads it
+-- for a whole run; the limit is the greatest n that a start accepts of this kind of caller, and no step reads kind or limit
 pub record Given : Type 0 where
   pub file : File
   pub map : List Entry
+  pub kind : ℕ
   pub limit : ℕ
   pub n : ℕ
   pub text : List ℕ

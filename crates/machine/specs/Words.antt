@@ -34,7 +34,7 @@ linked_given q =
 
 -- what the exported start call gives back
 abbrev pub start_gives : Session → RunLeft ℕ
-start_gives q = start_in_words (start_call q.n q.text q.running)
+start_gives q = start_in_words (start_call q.kind q.n q.text q.running)
 
 -- the file, the link and the start are accepted, by the numbers in the words
 pub record AcceptsInWords (q : Session) : Type 0 where

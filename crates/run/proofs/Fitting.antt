@@ -16,11 +16,11 @@ use Rattle.area.specs.Lists.{all}
 use Rattle.area.proofs.Contents.{contents_count, contents_read}
 use Rattle.area.proofs.All.{all-at}
 use Rattle.run.specs.declared.Run.{Run}
-use Rattle.run.specs.Run.{running, moves_of, most_bytes, stack_bytes, current, good_numbers, good_run}
+use Rattle.run.specs.Run.{limit, within_limit, running, moves_of, stack_bytes, current, good_numbers, good_run}
 
 -- the numbers of a run fit each other and a stack of so many bytes
 pub record GoodNumbers (r : Run) (space : ℕ) : Type 0 where
-  pub small : r.n ≤ most_bytes
+  pub limited : within_limit (limit r.kind) r.n ≡ true
   pub inside : r.position ≤ r.n
   pub some_depth : 1 ≤ r.depth
   pub low_depth : r.depth ≤ r.position + 1
@@ -30,7 +30,7 @@ pub record GoodNumbers (r : Run) (space : ℕ) : Type 0 where
 pub good_numbers_lem : (r : Run) (s : List ℕ) → good_numbers (running r s) ≡ true → GoodNumbers r (length s)
 unfolding good_numbers
 good_numbers_lem r s e =
-    let a1 : Bool = leb r.n most_bytes in
+    let a1 : Bool = within_limit (limit r.kind) r.n in
     let a2 : Bool = leb r.position r.n in
     let a3 : Bool = leb 1 r.depth in
     let a4 : Bool = leb r.depth (r.position + 1) in
@@ -41,7 +41,7 @@ good_numbers_lem r s e =
     let t3 = (and_parts (a1 && a2 && a3) a4 t4).0 in
     let t2 = (and_parts (a1 && a2) a3 t3).0 in
     record {
-      small = leb-true r.n most_bytes (and_parts a1 a2 t2).0;
+      limited = (and_parts a1 a2 t2).0;
       inside = leb-true r.position r.n (and_parts a1 a2 t2).1;
       some_depth = leb-true 1 r.depth (and_parts (a1 && a2) a3 t3).1;
       low_depth = leb-true r.depth (r.position + 1) (and_parts (a1 && a2 && a3) a4 t4).1;

@@ -1,3 +1,4 @@
+pub mod Limits
 pub mod Fitting
 pub mod Moving
 pub mod Stepping

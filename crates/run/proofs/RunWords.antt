@@ -3,21 +3,28 @@ use mathlib.Core.Path.{◌≡◌, refl}
 use mathlib.Core.Bool.{cond}
 use lib.Dec.{eqb}
 use Rattle.std.specs.Prelude.{Ok, Err}
-use Rattle.answers.specs.Numbers.{accepted_number, start_refused_number, broken_sheet_number, text_mismatch_number, broken_run_number, row_mismatch_number}
+use Rattle.answers.specs.Numbers.{accepted_number, unknown_caller_number, start_refused_number, text_mismatch_number}
+use Rattle.answers.specs.Numbers.{broken_sheet_number, broken_run_number, row_mismatch_number}
 use Rattle.answers.specs.Numbers.{done_number, stopped_number, unlinked_number, skip_number}
 use Rattle.answers.specs.Words.{Fields, TellsApart}
 use Rattle.answers.proofs.Words.{tells_by}
 use Rattle.run.specs.declared.StartError.TheVariants as Start
 use Rattle.run.specs.declared.StepError.TheVariants.{BrokenSheet, TextMismatch, BrokenRun, RowMismatch}
 use Rattle.run.specs.declared.Step.TheVariants.{Done, Stopped, Unlinked, Skip, Token}
-use Rattle.run.specs.Run.{StartAnswer, start_accepted, start_refused, start_text_mismatch, StepAnswer, start_fields, view, view_fields, step_fields}
+use Rattle.run.specs.Run.{StartAnswer, start_accepted, start_unknown_caller, start_refused, start_text_mismatch, start_fields}
+use Rattle.run.specs.Run.{StepAnswer, view, view_fields, step_fields}
 
 start_back : Fields → StartAnswer
-start_back f = cond (eqb f.number accepted_number) start_accepted (cond (eqb f.number start_refused_number) start_refused start_text_mismatch)
+start_back f =
+    let n = f.number in
+    cond (eqb n accepted_number) start_accepted
+    (cond (eqb n unknown_caller_number) start_unknown_caller
+    (cond (eqb n start_refused_number) start_refused start_text_mismatch))
 
 start_again : (x : StartAnswer) → start_back (start_fields x) ≡ x
 unfolding start_back start_fields
 start_again (Ok _) = refl
+start_again (Err Start.UnknownCaller) = refl
 start_again (Err Start.StartRefused) = refl
 start_again (Err Start.TextMismatch) = refl
 

@@ -27,14 +27,16 @@ use Rattle.run.specs.declared.Run.{Run}
 use Rattle.run.specs.declared.After.{After}
 use Rattle.run.specs.declared.StepError.TheVariants.{BrokenSheet, TextMismatch, BrokenRun, RowMismatch}
 use Rattle.run.specs.declared.Step.TheVariants.{Done, Stopped}
-use Rattle.run.specs.Run.{most_bytes, stack_bytes, Running, running, Input, current, put_state, RunLeft, leaving}
-use Rattle.run.specs.Run.{run_left, StepAnswer, start_accepted, start_refused, start_text_mismatch, first_run, start_call, good_start}
+use Rattle.run.specs.Run.{limit, within_limit, most_bytes, stack_bytes, Running, running, Input, current, put_state, RunLeft, leaving}
+use Rattle.run.specs.Run.{run_left, StartAnswer, start_accepted, start_unknown_caller, start_refused, start_text_mismatch, first_run, good_start, start_call}
+use Rattle.run.specs.Run.{StepAnswer}
 use Rattle.run.specs.Run.{good_run, fits_in, won_by, choose, lexer_of, step_row, step_run, step_call}
 use Rattle.run.specs.Phrases.{Inside, within_left}
 use Rattle.winner.specs.Top.{good_row, RowFits}
 use Rattle.winner.proofs.Fitting.{row-length}
 use Rattle.input_check.specs.InputCheck.{good_text}
 use Rattle.input_check.proofs.Rows.{row_low}
+use Rattle.run.proofs.Limits.{within_low}
 use Rattle.run.proofs.Fitting.{GoodNumbers, run_is}
 
 -- what a run and an answer beside it leave
@@ -44,25 +46,33 @@ left_with {A} x a r s y p q e = (λ i. run_left (p i) (q i) s) ∙ e
 
 -- ---- the start call
 
-module _ (n : ℕ) (text : List ℕ) (r : Run) (s : List ℕ) where
-  pub start_long : most_bytes < n → run_left start_refused r s ≡ start_call n text (running r s)
-  unfolding start_call good_start
-  start_long h = rw (lt-leb n most_bytes h)
+module _ (kind n : ℕ) (text : List ℕ) (r : Run) (s : List ℕ) where
+  abbrev started : RunLeft StartAnswer
+  started = start_call kind n text (running r s)
 
-  pub start_short : length s < stack_bytes n → run_left start_refused r s ≡ start_call n text (running r s)
-  unfolding start_call good_start
-  start_short h = rw (lt-leb (stack_bytes n) (length s) h, and-false)
+  pub start_unknown : None ≡ limit kind → run_left start_unknown_caller r s ≡ started
+  unfolding start_call
+  start_unknown h = rw (← h)
 
-  module _ (h : n ≤ most_bytes) (g : stack_bytes n ≤ length s) (t : Bool) (is : t ≡ good_text n text) where
-    pub start_misfit : t ≡ false → run_left start_text_mismatch r s ≡ start_call n text (running r s)
+  module _ (most : ℕ) (known : Some most ≡ limit kind) where
+    pub start_long : most < n → run_left start_refused r s ≡ started
+    unfolding start_call good_start within_limit
+    start_long h = rw (← known, lt-leb n most h)
+
+    pub start_short : length s < stack_bytes n → run_left start_refused r s ≡ started
     unfolding start_call good_start
-    start_misfit e = rw (le-leb n most_bytes h, le-leb (stack_bytes n) (length s) g, ← is, e)
+    start_short h = rw (← known, lt-leb (stack_bytes n) (length s) h, and-false)
 
-    pub start_good : t ≡ true → (e : List ℕ) → e ≡ put_state s 0 0 → run_left start_accepted (first_run n) e ≡ start_call n text (running r s)
-    unfolding start_call good_start
-    start_good f e q = rw (le-leb n most_bytes h, le-leb (stack_bytes n) (length s) g, ← is, f, q)
+    module _ (h : n ≤ most) (g : stack_bytes n ≤ length s) (t : Bool) (is : t ≡ good_text n text) where
+      pub start_misfit : t ≡ false → run_left start_text_mismatch r s ≡ started
+      unfolding start_call good_start within_limit
+      start_misfit e = rw (← known, le-leb n most h, le-leb (stack_bytes n) (length s) g, ← is, e)
 
-pub ruleset starting = (rules, start_long, start_short, start_misfit, start_good)
+      pub start_good : t ≡ true → (e : List ℕ) → e ≡ put_state s 0 0 → run_left start_accepted (first_run kind n) e ≡ started
+      unfolding start_call good_start within_limit
+      start_good f e q = rw (← known, le-leb n most h, le-leb (stack_bytes n) (length s) g, ← is, f, q)
+
+pub ruleset starting = (rules, start_unknown, start_long, start_short, start_misfit, start_good)
 
 -- ---- a row that fits
 
@@ -112,15 +122,17 @@ module _ (lexer : Lexer) (r : Run) (s : List ℕ) (x : Row) (state : ℕ) (top :
 
 -- a move by no more bytes than are left stays inside the entry, and its operation inside the stack
 pub move_inside : (r : Run) (bytes space : ℕ) → GoodNumbers r space → r.position < r.n → bytes ≤ r.n - r.position → Inside r bytes space
-move_inside r bytes space g h l = record {
-  stack = record {
-    some_depth = g.some_depth;
-    low_depth = omega (arith, g.small, g.low_depth, h);
-    room = omega (arith, g.low_depth, g.long, h);
-  };
-  position = omega (arith, g.small, h, l);
-  moves = omega (arith, g.small, g.inside, g.few_moves);
-}
+move_inside r bytes space g h l =
+    let small : r.n ≤ most_bytes = within_low r.kind r.n g.limited in
+    record {
+      stack = record {
+        some_depth = g.some_depth;
+        low_depth = omega (arith, small, g.low_depth, h);
+        room = omega (arith, g.low_depth, g.long, h);
+      };
+      position = omega (arith, small, h, l);
+      moves = omega (arith, small, g.inside, g.few_moves);
+    }
 
 -- ---- a sheet that passed the check
 

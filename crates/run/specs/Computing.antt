@@ -6,10 +6,10 @@ use Rattle.parse.specs.Computing.{computing as parse-computing}
 use Rattle.sheet_check.specs.Computing.{computing as sheet-check-computing}
 use Rattle.winner.specs.Computing.{computing as winner-computing}
 use Rattle.input_check.specs.Computing.{computing as input-check-computing}
-use Rattle.run.specs.Run.{put_state, good_start, start_call, good_numbers, good_run, popped, operated, move_by, won_by, choose, step_row, step_run, step_call, start_fields, view, view_fields}
+use Rattle.run.specs.Run.{limit, within_limit, put_state, good_start, start_call, good_numbers, good_run, popped, operated, move_by, won_by, choose, step_row, step_run, step_call, start_fields, view, view_fields}
 
 unfoldable run_file : Unit {0}
-unfolding put_state good_start start_call good_numbers good_run popped operated move_by won_by choose step_row step_run step_call start_fields view view_fields
+unfolding limit within_limit put_state good_start start_call good_numbers good_run popped operated move_by won_by choose step_row step_run step_call start_fields view view_fields
 run_file = tt
 
 unfoldable pub computing : Unit {0}

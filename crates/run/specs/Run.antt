@@ -1,12 +1,14 @@
--- A run as a call takes it, and what the start call and the step call do (01, The run, and Numbers given at the counter, 6, 8, 9, 10; 02, 2/13).
-use Rattle.std.specs.Prelude.{ℕ, ◌+◌, ◌*◌, ◌-◌, Bool, cond, ◌&&◌, List, eqb, leb, length, Result, Ok, Err}
+-- A run as a call takes it, and what the start call and the step call do (01, The run, and Numbers given at the counter, 6, 8, 9, 10; 02, 2/13 and
+-- 3/13).
+use Rattle.std.specs.Prelude.{ℕ, ◌+◌, ◌*◌, ◌-◌, Bool, false, cond, ◌&&◌, List, eqb, leb, length, Option, Some, None, is_some, Result, Ok, Err}
 use Rattle.std.proofs.lemmas.List.Edits.{sets}
 use Rattle.area.specs.declared.Rule.{Rule}
 use Rattle.area.specs.Bytes.{two}
 use Rattle.area.specs.Lists.{all}
 use Rattle.area.specs.Records.{entry_at, nth_rule, entry_width}
 use Rattle.area.specs.Contents.{contents, entry_format}
-use Rattle.answers.specs.Numbers.{accepted_number, start_refused_number, text_mismatch_number, broken_sheet_number, broken_run_number, row_mismatch_number}
+use Rattle.answers.specs.Numbers.{accepted_number, unknown_caller_number, start_refused_number, text_mismatch_number}
+use Rattle.answers.specs.Numbers.{broken_sheet_number, broken_run_number, row_mismatch_number}
 use Rattle.answers.specs.Numbers.{done_number, stopped_number, unlinked_number, skip_number, token_number}
 use Rattle.answers.specs.Words.{Fields, fields, word}
 use Rattle.parse.specs.Parse.{Contents}
@@ -17,15 +19,41 @@ use Rattle.winner.specs.Top.{good_row}
 use Rattle.input_check.specs.InputCheck.{good_text, length_fits}
 use Rattle.run.specs.declared.Run.{Run}
 use Rattle.run.specs.declared.StartError.{StartError}
-use Rattle.run.specs.declared.StartError.TheVariants.{StartRefused, TextMismatch as StartTextMismatch}
+use Rattle.run.specs.declared.StartError.TheVariants.{UnknownCaller, StartRefused, TextMismatch as StartTextMismatch}
 use Rattle.run.specs.declared.StepError.{StepError}
 use Rattle.run.specs.declared.StepError.TheVariants.{BrokenSheet, TextMismatch, BrokenRun, RowMismatch}
 use Rattle.run.specs.declared.Step.{Step}
 use Rattle.run.specs.declared.Step.TheVariants.{Done, Stopped, Unlinked, Skip, Token}
 
+-- ---- the kinds of callers
+
+-- a seller, and a kiosk (02, 3/13)
+abbrev pub seller : ℕ
+seller = 0
+
+abbrev pub kiosk : ℕ
+kiosk = 1
+
+-- the most bytes of a seller's entry, and so of any
+abbrev pub most_bytes : ℕ
+most_bytes = 4096
+
+-- the most bytes of a kiosk's entry (02, 3/13)
+abbrev pub most_kiosk_bytes : ℕ
+most_kiosk_bytes = 512
+
+-- the most bytes of an entry by the kind of its caller; a kind that is neither a seller nor a kiosk has no limit (02, 3/13)
+unfoldable pub limit : ℕ → Option ℕ
+limit kind = cond (eqb kind seller) (Some most_bytes) (cond (eqb kind kiosk) (Some most_kiosk_bytes) None)
+
+-- there is a limit, and n is not above it
+unfoldable pub within_limit : Option ℕ → ℕ → Bool
+within_limit None n = false
+within_limit (Some most) n = leb n most
+
 -- ---- the run
 
--- a run's four numbers and its stack, as one value
+-- a run's five numbers and its stack, as one value
 pub record Running : Type 0 where
   pub run : Run
   pub stack : List ℕ
@@ -36,10 +64,6 @@ running r s = record { run = r; stack = s }
 -- how many moves a run has made
 abbrev pub moves_of : Run → ℕ
 moves_of r = r.moves
-
--- the most bytes of an entry
-abbrev pub most_bytes : ℕ
-most_bytes = 4096
 
 -- how many bytes the stack of an entry of n bytes has at least
 abbrev pub stack_bytes : ℕ → ℕ
@@ -81,6 +105,9 @@ StartAnswer = Result (Unit {0}) StartError
 abbrev pub start_accepted : StartAnswer
 start_accepted = Ok tt
 
+abbrev pub start_unknown_caller : StartAnswer
+start_unknown_caller = Err UnknownCaller
+
 abbrev pub start_refused : StartAnswer
 start_refused = Err StartRefused
 
@@ -93,28 +120,30 @@ StepAnswer = Result Step StepError
 
 -- ---- the start call
 
--- the run of an entry of n bytes at its start
-abbrev pub first_run : ℕ → Run
-first_run n = record { n = n; position = 0; depth = 1; moves = 0 }
+-- the run of an entry of n bytes at its start, by the kind of its caller
+abbrev pub first_run : ℕ → ℕ → Run
+first_run kind n = record { n = n; position = 0; depth = 1; moves = 0; kind = kind }
 
--- number 8: the entry is too long, or the stack too short for it
-unfoldable pub good_start : ℕ → List ℕ → Bool
-good_start n s = leb n most_bytes && leb (stack_bytes n) (length s)
+-- number 8: n is within the limit of its kind of caller, and the stack long enough for n
+unfoldable pub good_start : ℕ → ℕ → List ℕ → Bool
+good_start kind n s = within_limit (limit kind) n && leb (stack_bytes n) (length s)
 
--- 8, then 12; accepted, only the first entry of the stack is changed; refused, nothing is (01, The run; 02, 2/13)
-unfoldable pub start_call : ℕ → List ℕ → Running → RunLeft StartAnswer
-start_call n text g =
-    cond (good_start n g.stack)
-    (cond (good_text n text) (run_left start_accepted (first_run n) (put_state g.stack 0 0)) (leaving start_text_mismatch g))
-    (leaving start_refused g)
+-- 13, 8, then 12; accepted, only the first entry of the stack is changed; refused, nothing is (01, The run; 02, 2/13 and 3/13)
+unfoldable pub start_call : ℕ → ℕ → List ℕ → Running → RunLeft StartAnswer
+start_call kind n text g =
+    cond (is_some (limit kind))
+    (cond (good_start kind n g.stack)
+    (cond (good_text n text) (run_left start_accepted (first_run kind n) (put_state g.stack 0 0)) (leaving start_text_mismatch g))
+    (leaving start_refused g))
+    (leaving start_unknown_caller g)
 
 -- ---- the tests of the step call
 
--- the numbers fit each other and the stack
+-- the kind is known, n is within its limit, and the numbers fit each other and the stack
 unfoldable pub good_numbers : Running → Bool
 good_numbers g =
     let r = g.run in
-    leb r.n most_bytes && leb r.position r.n && leb 1 r.depth && leb r.depth (r.position + 1)
+    within_limit (limit r.kind) r.n && leb r.position r.n && leb 1 r.depth && leb r.depth (r.position + 1)
     && leb (moves_of r) r.position && leb (stack_bytes r.n) (length g.stack)
 
 -- number 9: beside so many states, the numbers fit and every state id in use is declared
@@ -129,11 +158,11 @@ fits_in text r = length_fits text (r.n - r.position) r.position
 
 -- a run with so many entries of its stack in use
 abbrev pub with_depth : Run → ℕ → Run
-with_depth r d = record { n = r.n; position = r.position; depth = d; moves = moves_of r }
+with_depth r d = record { n = r.n; position = r.position; depth = d; moves = moves_of r; kind = r.kind }
 
 -- a run that is so many bytes and one move further
 abbrev pub advanced : Run → ℕ → Run
-advanced r bytes = record { n = r.n; position = r.position + bytes; depth = r.depth; moves = moves_of r + 1 }
+advanced r bytes = record { n = r.n; position = r.position + bytes; depth = r.depth; moves = moves_of r + 1; kind = r.kind }
 
 module _ (g : Running) where
   -- the run with another depth and stack
@@ -197,6 +226,7 @@ step_call b g i = cond (sheet_check b) (step_run (lexer_of (decoded b)) g i) (le
 -- the number of each answer, and its values (01, Numbers given at the counter)
 unfoldable pub start_fields : StartAnswer → Fields
 start_fields (Ok _) = fields accepted_number 0 0 0
+start_fields (Err UnknownCaller) = fields unknown_caller_number 0 0 0
 start_fields (Err StartRefused) = fields start_refused_number 0 0 0
 start_fields (Err StartTextMismatch) = fields text_mismatch_number 0 0 0
 

@@ -1,4 +1,4 @@
-// The start call and the step call, on a run by value (01, Numbers given at the counter, and The run; 02, 2/13).
+// The start call and the step call, on a run by value (01, Numbers given at the counter, and The run; 02, 2/13 and 3/13).
 ghost use Rattle.std.specs.Prelude.{◌≡◌, true, ◌<◌, length};
 ghost use Rattle.sheet_check.specs.SheetCheck.{decoded, sheet_check};
 ghost use Rattle.sheet_check.specs.Phrases.{lent_sheet};
@@ -7,19 +7,28 @@ ghost use Rattle.run.specs.Phrases.{lent_input, within_left};
 ghost use Rattle.winner.specs.Top.{RowFits};
 
 use crate::moves::put_state;
-use crate::{After, LentInput, MOST_BYTES, Run, StartError, Step, StepError};
+use crate::{After, LentInput, Run, StartError, Step, StepError, limit};
 use area::Record;
 use input_check::{good_text, row_top};
 use sheet_check::Sheet;
 use sheet_check::check::quick_check;
 use winner::{LentLexer, Row};
 
-// Begins a run over an entry of n bytes, which is this text.
+// Begins a run over an entry of n bytes, which is this text, for a caller of this kind.
 #[tactic(auto, using(crate::proofs::Stepping::left_with, crate::proofs::Stepping::starting))]
-pub fn start(n: u64, text: &[u8], r: Run, stack: &mut [u8]) -> After<Result<(), StartError>>
-    ensures { run_left result.answer result.run stack.new ≡ start_call n text.now (running r stack.old) }
+pub fn start(
+    kind: u64,
+    n: u64,
+    text: &[u8],
+    r: Run,
+    stack: &mut [u8],
+) -> After<Result<(), StartError>>
+    ensures { run_left result.answer result.run stack.new ≡ start_call kind n text.now (running r stack.old) }
 {
-    if n > MOST_BYTES {
+    let Some(most) = limit(kind) else {
+        return r.after(Err(StartError::UnknownCaller));
+    };
+    if n > most as u64 {
         return r.after(Err(StartError::StartRefused));
     }
     if stack.len() < u16::WIDTH * (n as usize + 1) {
@@ -34,6 +43,7 @@ pub fn start(n: u64, text: &[u8], r: Run, stack: &mut [u8]) -> After<Result<(), 
         position: 0,
         depth: 1,
         moves: 0,
+        kind: kind as u16,
     };
     first.after(Ok(()))
 }

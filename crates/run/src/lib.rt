@@ -1,10 +1,10 @@
-// A run of the lexer that a sheet describes: the start call and the step call (01, The run).
+// A run of the lexer that a sheet describes: the start call and the step call (01, The run; 02, 2/13 and 3/13).
 #![tactic(auto)]
 
 ghost use Rattle.std.specs.Prelude.{◌≡◌, Err};
 ghost use Rattle.answers.specs.Numbers.{number_of};
 ghost use Rattle.answers.specs.Words.{fields};
-ghost use Rattle.run.specs.Run.{start_fields, step_fields};
+ghost use Rattle.run.specs.Run.{limit, start_fields, step_fields};
 
 mod fit; // whether a run fits
 mod moves; // what the winner does
@@ -12,11 +12,21 @@ pub mod call; // the calls
 
 use answers::Number;
 
-// The most bytes of an entry: a limit, and no number of a kind.
-const MOST_BYTES: u64 = 4096;
+// The most bytes of an entry by the kind of its caller: 0 is a seller, 1 a kiosk, and no other number is a kind.
+#[tactic(auto, unfolding(crate::specs::Run::limit))]
+fn limit(kind: u64) -> Option<u16>
+    ensures { result ≡ limit kind }
+{
+    match kind {
+        0 => Some(4096),
+        1 => Some(512),
+        _ => None,
+    }
+}
 
-// A run's numbers: the bytes of the entry, those behind it, the entries of the stack in use, and the moves so far. For C they are four
-// two-byte numbers in this order. The stack stays beside it, as C lends it: in a struct with it each function would promise that the same bytes are lent.
+// A run's numbers: the bytes of the entry, those behind it, the entries of the stack in use, the moves so far, and the kind of caller. For C they
+// are five two-byte numbers in this order. The stack stays beside it, as C lends it: in a struct with it each function would promise that the same
+// bytes are lent.
 #[repr(C)]
 #[derive(Clone, Copy, PartialEq, Eq, Debug, Default)]
 pub struct Run {
@@ -24,6 +34,7 @@ pub struct Run {
     pub position: u16,
     pub depth: u16,
     pub moves: u16,
+    pub kind: u16,
 }
 
 // What a step is given beside the sheet and the run: the entry's text, and the row, two bytes for the length of each rule.
@@ -33,9 +44,10 @@ pub struct LentInput<'a> {
     pub row: &'a [u8],
 }
 
-// What the start call refuses: number 8 of 01, and 12 of 02.
+// What the start call refuses: number 8 of 01, and 12 and 13 of 02.
 #[derive(Clone, Copy, PartialEq, Eq, Debug)]
 pub enum StartError {
+    UnknownCaller,
     StartRefused,
     TextMismatch,
 }
@@ -46,6 +58,7 @@ impl From<StartError> for Number {
     #[tactic(auto, unfolding(crate::specs::Run::start_fields))]
     fn from(error: StartError) -> Number {
         match error {
+            StartError::UnknownCaller => Number::UnknownCaller,
             StartError::StartRefused => Number::StartRefused,
             StartError::TextMismatch => Number::TextMismatch,
         }

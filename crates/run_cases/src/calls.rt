@@ -17,11 +17,11 @@ enum Command {
     Fill,
     // `damage K VALUE`: another byte of the text.
     Damage,
-    // `start N BYTES`: over an entry of N bytes, with so many bytes of the stack.
+    // `start KIND N BYTES`: by a caller of that kind, over an entry of N bytes, with so many bytes of the stack.
     Start,
     // `put K ID`: another entry of the stack.
     Put,
-    // `numbers N POSITION DEPTH MOVES`: another run.
+    // `numbers N POSITION DEPTH MOVES KIND`: another run.
     Numbers,
     // `row LENGTH ..`: a step.
     Row,
@@ -75,7 +75,7 @@ pub fn answer(sheet: &mut Sheet, runs: &mut Runs, line: &[u8]) -> Outcome {
             runs.damage(number(0), number(1));
             Outcome::Changed
         }
-        Command::Start => runs.start(number(0), number(1)).into(),
+        Command::Start => runs.start(number(0), number(1), number(2)).into(),
         Command::Put => {
             runs.put(number(0), number(1));
             Outcome::Changed
@@ -86,6 +86,7 @@ pub fn answer(sheet: &mut Sheet, runs: &mut Runs, line: &[u8]) -> Outcome {
                 position: number(1),
                 depth: number(2),
                 moves: number(3),
+                kind: number(4),
             };
             Outcome::Changed
         }

@@ -44,11 +44,17 @@ impl Runs {
         }
     }
 
-    // Over an entry of n bytes, with so many bytes of the stack, or all of it.
-    pub fn start(&mut self, n: u16, bytes: u16) -> Result<(), StartError> {
+    // By a caller of this kind, over an entry of n bytes, with so many bytes of the stack, or all of it.
+    pub fn start(&mut self, kind: u16, n: u16, bytes: u16) -> Result<(), StartError> {
         let most = self.stack.len().min(bytes as usize);
         let stack = &mut self.stack[..];
-        let begun = start(n as u64, &self.text, self.run, &mut stack[..most]);
+        let begun = start(
+            kind as u64,
+            n as u64,
+            &self.text,
+            self.run,
+            &mut stack[..most],
+        );
         self.run = begun.run;
         begun.answer
     }
@@ -74,11 +80,11 @@ impl Runs {
     }
 }
 
-// The four numbers of the run, and the first four entries of its stack.
+// The five numbers of the run, and the first four entries of its stack.
 impl fmt::Display for Runs {
     fn fmt<W: fmt::Write>(&self, f: &mut fmt::Formatter<W>) -> fmt::Result {
         let run = self.run;
-        let numbers = Listed(&[run.n, run.position, run.depth, run.moves]);
+        let numbers = Listed(&[run.n, run.position, run.depth, run.moves, run.kind]);
         let entries = Listed(&[0, 1, 2, 3].map(|k| number_at(&self.stack, k)));
         write!(f, " |{numbers} |{entries}")
     }

@@ -1,5 +1,5 @@
 -- One step call on a sheet that passes the check, from a good run: it stays, or moves by a rule that wins, and leaves a good run.
-use mathlib.Core.Path.{◌≡◌, refl, sym, ap, ◌∙◌}
+use mathlib.Core.Path.{◌≡◌, refl, sym, ap, ap₂, ◌∙◌}
 use mathlib.Core.Bool.{true}
 use mathlib.Core.List.{List, [], ◌∷◌}
 use Prim.Native.Nat.{ℕ, ◌+◌, ◌-◌, ◌≤◌, ◌<◌}
@@ -15,20 +15,21 @@ use Rattle.area.proofs.All.{all-at}
 use Rattle.std.specs.Prelude.{Ok, Err}
 use Rattle.run.specs.declared.StepError.TheVariants.{BrokenSheet, BrokenRun}
 use Rattle.run.specs.declared.Step.TheVariants.{Skip, Token}
-use Rattle.run.specs.Run.{StepAnswer, Running, Input, RunLeft, leaving, moves_of, good_run, move_by, step_call, View, stays, view, view_fields, step_fields}
+use Rattle.run.specs.Run.{limit, within_limit, StepAnswer, Running, Input, RunLeft, leaving, moves_of, good_run, move_by, step_call, View, stays, view, view_fields, step_fields}
 use Rattle.run.proofs.Fitting.{run_is}
 use Rattle.run_laws.specs.Pieces.{Piece, piece, piece_of, piece_left, Adjoin}
 use Rattle.run_laws.proofs.Cases.{call_cases}
 use Rattle.run_laws.proofs.Operated.{operated_good, run_good}
 
 -- a call from the run x that left o: neither 6 nor 9; it stays and changes nothing, or its piece has some bytes; and the run is good again, with the
--- same n and as many bytes of stack; its piece, if it has one, stands between the two positions, and is one move
+-- same kind and n and as many bytes of stack; its piece, if it has one, stands between the two positions, and is one move
 pub record Called (states : ℕ) (x : Running) (o : RunLeft StepAnswer) : Type 0 where
   pub not_6 : o.answer ≡ Err BrokenSheet → ⊥
   pub not_9 : o.answer ≡ Err BrokenRun → ⊥
   pub unchanged : (number : ℕ) → view o.answer ≡ stays number → o.after ≡ x
   pub some_bytes : (y : Piece) → piece_left x.run.position o ≡ y ∷ [] → 0 < y.bytes
   pub good : good_run states o.after ≡ true
+  pub same_kind : o.after.run.kind ≡ x.run.kind
   pub same_n : o.after.run.n ≡ x.run.n
   pub same_bytes : length o.after.stack ≡ length x.stack
   pub adjoins : Adjoin x.run.position (piece_left x.run.position o) o.after.run.position
@@ -54,6 +55,7 @@ stays_called states x good a k e p q =
       unchanged = λ _ _. refl;
       some_bytes = λ y h. absurd (omega (arith, ap length h, ap (λ (v : View). length (piece_of x.run.position x.run.position v)) e));
       good = good;
+      same_kind = refl;
       same_n = refl;
       same_bytes = refl;
       adjoins = rw e refl;
@@ -78,7 +80,7 @@ module _ (states : ℕ) (x : Running) (good : good_run states x ≡ true) (r : R
         some_bytes = λ y h. omega (arith, ap first_bytes (sym one ∙ h), some);
         good = run_good states (move_by x r bytes)
             (record {
-              small = omega (arith, g.small, o.same_n);
+              limited = ap₂ (λ (kind n : ℕ). within_limit (limit kind) n) o.same_kind o.same_n ∙ g.limited;
               inside = omega (arith, g.inside, o.same_n, o.same_position, left);
               some_depth = o.some_depth;
               low_depth = omega (arith, o.low_depth, o.same_position, g.low_depth, some);
@@ -86,6 +88,7 @@ module _ (states : ℕ) (x : Running) (good : good_run states x ≡ true) (r : R
               long = omega (arith, g.long, o.same_n, o.same_bytes);
             })
             o.ids;
+        same_kind = o.same_kind;
         same_n = o.same_n;
         same_bytes = o.same_bytes;
         adjoins = rw one (refl, omega (arith, o.same_position));

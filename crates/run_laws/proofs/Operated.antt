@@ -19,7 +19,7 @@ use Rattle.area.specs.Contents.{Format, contents, entry_format}
 use Rattle.sheet_check.specs.SheetCheck.{declared}
 use Rattle.area.proofs.Contents.{contents_count, contents_read}
 use Rattle.area.proofs.All.{all_none, all_next, all-at}
-use Rattle.run.specs.Run.{Running, running, moves_of, most_bytes, stack_bytes, put_state, good_numbers, good_run, with_depth, popped, operated}
+use Rattle.run.specs.Run.{Running, running, moves_of, stack_bytes, put_state, good_numbers, good_run, with_depth, popped, operated}
 use Rattle.run.proofs.Fitting.{GoodNumbers, run_is}
 use Rattle.run_laws.proofs.Stacks.{put_length, put_same, put_other}
 
@@ -52,18 +52,18 @@ module _ (states : ℕ) (x : Running) where
   unfolding good_run good_numbers
   run_good g ids =
       let r = x.run in
-      let small = le-leb r.n most_bytes g.small in
       let inside = le-leb r.position r.n g.inside in
       let some_depth = le-leb 1 r.depth g.some_depth in
       let low_depth = le-leb r.depth (r.position + 1) g.low_depth in
       let few_moves = le-leb (moves_of r) r.position g.few_moves in
       let long = le-leb (stack_bytes r.n) (length x.stack) g.long in
-      rw (small, inside, some_depth, low_depth, few_moves, long)
+      rw (g.limited, inside, some_depth, low_depth, few_moves, long)
       (contents_pass entry_format (declared states) x.stack r.depth (λ k h. lt-ltb (entry_at x.stack k) states (ids k h)))
 
 -- ---- an operation
 
 pub record Operated (states : ℕ) (x o : Running) : Type 0 where
+  pub same_kind : o.run.kind ≡ x.run.kind
   pub same_n : o.run.n ≡ x.run.n
   pub same_position : o.run.position ≡ x.run.position
   pub same_moves : moves_of o.run ≡ moves_of x.run
@@ -77,6 +77,7 @@ module _ (states : ℕ) (x : Running) (good : good_run states x ≡ true) (room 
   -- one id alone
   alone : (id : ℕ) → id < states → Operated states x (running (with_depth x.run 1) (put_state x.stack 0 id))
   alone id h = record {
+    same_kind = refl;
     same_n = refl;
     same_position = refl;
     same_moves = refl;
@@ -91,6 +92,7 @@ module _ (states : ℕ) (x : Running) (good : good_run states x ≡ true) (room 
   -- one id more
   more : (id : ℕ) → id < states → Operated states x (running (with_depth x.run (x.run.depth + 1)) (put_state x.stack x.run.depth id))
   more id h = record {
+    same_kind = refl;
     same_n = refl;
     same_position = refl;
     same_moves = refl;
@@ -108,6 +110,7 @@ module _ (states : ℕ) (x : Running) (good : good_run states x ≡ true) (room 
   -- some of the ids, or all
   fewer : (d : ℕ) → 1 ≤ d → d ≤ x.run.depth → Operated states x (running (with_depth x.run d) x.stack)
   fewer d some h = record {
+    same_kind = refl;
     same_n = refl;
     same_position = refl;
     same_moves = refl;

@@ -1,4 +1,4 @@
-// The start call and the step call (01, The run; 02, 2/13).
+// The start call and the step call (01, The run; 02, 2/13 and 3/13).
 ghost use Rattle.std.specs.Prelude.{◌≡◌};
 ghost use Rattle.run.specs.Run.{running, input, run_left, start_call, step_call};
 ghost use Rattle.run.specs.Phrases.{lent_input};
@@ -12,17 +12,17 @@ use words::Word;
 
 // The start call on a run by value, its answer as a word: what is lent a `&mut Run` stays thin.
 #[tactic(auto, using(crate::proofs::Words::word_run_left))]
-fn start_by_value(n: u64, text: &[u8], r: Run, stack: &mut [u8]) -> After<Word>
-    ensures { run_left result.answer.0 result.run stack.new ≡ start_in_words (start_call n text.now (running r stack.old)) }
+fn start_by_value(kind: u64, n: u64, text: &[u8], r: Run, stack: &mut [u8]) -> After<Word>
+    ensures { run_left result.answer.0 result.run stack.new ≡ start_in_words (start_call kind n text.now (running r stack.old)) }
 {
-    start(n, text, r, stack).map(Word::from)
+    start(kind, n, text, r, stack).map(Word::from)
 }
 
-// Begins a run over an entry of n bytes, which is this text. A refusal changes nothing.
-pub fn troymantle_start(n: u64, text: &[u8], run: &mut Run, stack: &mut [u8]) -> u64
-    ensures { run_left result run.new stack.new ≡ start_in_words (start_call n text.now (running run.old stack.old)) }
+// Begins a run over an entry of n bytes, which is this text, for a seller (kind 0) or a kiosk (kind 1). A refusal changes nothing.
+pub fn troymantle_start(kind: u64, n: u64, text: &[u8], run: &mut Run, stack: &mut [u8]) -> u64
+    ensures { run_left result run.new stack.new ≡ start_in_words (start_call kind n text.now (running run.old stack.old)) }
 {
-    let after = start_by_value(n, text, *run, stack);
+    let after = start_by_value(kind, n, text, *run, stack);
     *run = after.run;
     after.answer.0
 }

@@ -99,12 +99,18 @@ pub extern "C" fn troymantle_link(
     )
 }
 
-// Begins a run over an entry of n bytes, which is this text. A refusal changes nothing.
+// Begins a run over an entry of n bytes, which is this text, for a seller (kind 0) or a kiosk (kind 1). A refusal changes nothing.
 #[unsafe(no_mangle)]
-pub extern "C" fn troymantle_start(n: u64, text: &[u8], run: &mut Run, stack: &mut [u8]) -> u64
-    ensures { run_left result run.new stack.new ≡ start_in_words (start_call n text.now (running run.old stack.old)) }
+pub extern "C" fn troymantle_start(
+    kind: u64,
+    n: u64,
+    text: &[u8],
+    run: &mut Run,
+    stack: &mut [u8],
+) -> u64
+    ensures { run_left result run.new stack.new ≡ start_in_words (start_call kind n text.now (running run.old stack.old)) }
 {
-    troymantle::running::troymantle_start(n, text, run, stack)
+    troymantle::running::troymantle_start(kind, n, text, run, stack)
 }
 
 // Moves a run over this text on by a row, one length for each rule. A refusal changes nothing.

@@ -9,7 +9,7 @@ const MOST_KEPT: usize = MOST_ENTRY + 1;
 /// What was typed.
 #[derive(Debug, PartialEq, Eq)]
 pub struct Entry {
-    /// Its bytes, without the line's end; of an entry that is too long the first ones.
+    /// Its bytes, without the line's end; of one that is too long for any caller the first ones.
     pub bytes: Vec<u8>,
     /// How many bytes it has.
     pub length: usize,

@@ -4,10 +4,12 @@ use crate::entries::Entry;
 use crate::load::Loaded;
 use regex::Regex;
 use std::ops::Range;
-use troymantle::{Refusal, Row, Rule, Run, Sheet, State, Step};
+use troymantle::{Caller, Refusal, Row, Rule, Run, Sheet, State, Step};
 
 /// What entries are read by.
 pub struct Lexer<'a> {
+    /// Who types them.
+    pub caller: Caller,
     pub sheet: &'a Sheet,
     unlinked: &'a Sheet,
     pub rules: Vec<Rule<'a>>,
@@ -45,9 +47,9 @@ pub enum End {
 }
 
 impl<'a> Lexer<'a> {
-    pub fn new(loaded: &'a Loaded) -> Lexer<'a> {
+    pub fn new(loaded: &'a Loaded, caller: Caller) -> Lexer<'a> {
         let Loaded { sheet, unlinked, patterns, .. } = loaded;
-        Lexer { sheet, unlinked, rules: sheet.rules().collect(), states: sheet.states().collect(), patterns }
+        Lexer { caller, sheet, unlinked, rules: sheet.rules().collect(), states: sheet.states().collect(), patterns }
     }
 
     /// The name of a state; every state of a run is declared.
@@ -59,7 +61,7 @@ impl<'a> Lexer<'a> {
     pub fn read(&self, entry: &Entry) -> Reading {
         // the whole entry, or what stands before the first byte that is not UTF-8
         let text = entry.bytes.utf8_chunks().next().map_or("", |chunk| chunk.valid());
-        let mut run = match self.sheet.start(&entry.bytes) {
+        let mut run = match self.sheet.start(self.caller, &entry.bytes) {
             Ok(run) => run,
             Err(refusal) => {
                 let position = if refusal == Refusal::TextMismatch { text.len() } else { 0 };
@@ -127,7 +129,7 @@ mod tests {
     fn names_are_told_apart_where_ids_are_not() {
         let loaded =
             loaded("%x S\n%%\n<S>aa 'X'\na <+S>'A'\na+ 'B'\n<S>b <-S>'C'\né 'E'\n", &[("A", 7), ("B", 7), ("C", 7)]);
-        let lexer = Lexer::new(&loaded);
+        let lexer = Lexer::new(&loaded, Caller::Seller);
         let reading = lexer.read(&Entry::new("abaaé".into()));
         let tokens: Vec<_> = reading.moves.iter().map(|made| made.token.clone().unwrap()).collect();
         assert_eq!(tokens, [("A", 7), ("C", 7), ("B", 7)].map(|(name, id)| (name.to_string(), id)));
@@ -139,7 +141,7 @@ mod tests {
     #[test]
     fn a_token_has_what_its_pattern_matches_at_its_place() {
         let loaded = loaded("%%\nx)|(?:b 'A'\n[a-z] 'L'\n", &[("A", 1), ("L", 2)]);
-        let reading = Lexer::new(&loaded).read(&Entry::new("aab".into()));
+        let reading = Lexer::new(&loaded, Caller::Seller).read(&Entry::new("aab".into()));
         let tokens: Vec<_> =
             reading.moves.iter().map(|made| (made.token.clone().unwrap().1, made.range.clone())).collect();
         assert_eq!(tokens, [(2, 0..1), (2, 1..2), (1, 2..3)]);
@@ -148,7 +150,7 @@ mod tests {
     #[test]
     fn entries_are_text() {
         let loaded = loaded("%%\na+ ;\n", &[]);
-        let lexer = Lexer::new(&loaded);
+        let lexer = Lexer::new(&loaded, Caller::Seller);
         for (bytes, position) in [(b"aa\xff".to_vec(), 2), (b"\xe2\x82".to_vec(), 0), (b"a\xc3\xa9\xc3a".to_vec(), 3)] {
             let reading = lexer.read(&Entry::new(bytes));
             let ended = (reading.end, reading.position, reading.moves.len());
@@ -159,13 +161,15 @@ mod tests {
     #[test]
     fn long_entries_are_refused() {
         let loaded = loaded("%%\na+ ;\n", &[]);
-        let lexer = Lexer::new(&loaded);
-        let end = |bytes: &[u8]| lexer.read(&Entry::new(bytes.to_vec())).end;
-        assert_eq!(end(&[b'a'; 4_096]), End::Done);
-        assert_eq!(end(&[b'a'; 4_097]), End::Refused(Refusal::StartRefused));
-        assert_eq!(end(&[255; 4_097]), End::Refused(Refusal::StartRefused));
-        let kept = vec![b'a'; 4_097];
-        assert_eq!(lexer.read(&Entry { bytes: kept, length: usize::MAX }).end, End::Refused(Refusal::StartRefused));
-        assert_eq!(end(&[]), End::Done);
+        for (caller, most) in [(Caller::Seller, 4_096), (Caller::Kiosk, 512)] {
+            let lexer = Lexer::new(&loaded, caller);
+            let end = |bytes: Vec<u8>| lexer.read(&Entry::new(bytes)).end;
+            assert_eq!(end(vec![b'a'; most]), End::Done);
+            assert_eq!(end(vec![b'a'; most + 1]), End::Refused(Refusal::StartRefused));
+            assert_eq!(end(vec![255; most + 1]), End::Refused(Refusal::StartRefused));
+            let kept = vec![b'a'; 4_097];
+            assert_eq!(lexer.read(&Entry { bytes: kept, length: usize::MAX }).end, End::Refused(Refusal::StartRefused));
+            assert_eq!(end(vec![]), End::Done);
+        }
     }
 }

@@ -3,8 +3,8 @@
 use std::ffi::{OsStr, OsString};
 use std::os::unix::ffi::{OsStrExt, OsStringExt};
 use std::path::PathBuf;
-use troymantle::Flags;
 use troymantle::numbers::{FLAG_COMMENTS, FLAG_POSIX_ESCAPES};
+use troymantle::{Caller, Flags};
 
 pub const HELP: &str = include_str!("help.txt");
 
@@ -24,6 +24,8 @@ pub struct Options {
     pub flags: u64,
     /// Entries of the command line. Where there are none, standard input is read.
     pub entries: Vec<Vec<u8>>,
+    /// Whether they are typed at a kiosk.
+    pub kiosk: bool,
     pub json: bool,
     pub color: Color,
 }
@@ -39,6 +41,10 @@ pub enum Color {
 impl Options {
     pub fn flags(&self) -> Flags {
         Flags::from_number(self.flags)
+    }
+
+    pub fn caller(&self) -> Caller {
+        if self.kiosk { Caller::Kiosk } else { Caller::Seller }
     }
 }
 
@@ -56,7 +62,7 @@ pub fn read(arguments: Vec<OsString>) -> Result<Command, String> {
     while let Some(word) = words.next() {
         let (name, given) = name_and_value(&word);
         match name {
-            "--help" | "-h" | "--version" | "--demo" | "--comments" | "--posix-escapes" | "--json"
+            "--help" | "-h" | "--version" | "--demo" | "--kiosk" | "--comments" | "--posix-escapes" | "--json"
                 if given.is_some() =>
             {
                 return Err(format!("{name} takes no value"));
@@ -64,6 +70,7 @@ pub fn read(arguments: Vec<OsString>) -> Result<Command, String> {
             "--help" | "-h" => return Ok(Command::Help),
             "--version" => return Ok(Command::Version),
             "--demo" => demo = true,
+            "--kiosk" => options.kiosk = true,
             "--comments" => options.flags |= FLAG_COMMENTS,
             "--posix-escapes" => options.flags |= FLAG_POSIX_ESCAPES,
             "--json" => options.json = true,
@@ -158,6 +165,13 @@ mod tests {
     }
 
     #[test]
+    fn entries_are_a_sellers_or_a_kiosks() {
+        assert_eq!(options(&["a", "b"]).caller(), Caller::Seller);
+        assert_eq!(options(&["a", "--kiosk", "b"]).caller(), Caller::Kiosk);
+        assert_eq!(run(&["--kiosk=1", "a", "b"]), Err("--kiosk takes no value".to_string()));
+    }
+
+    #[test]
     fn help_and_version_need_no_files() {
         assert_eq!(run(&["--help"]), Ok(Command::Help));
         assert_eq!(run(&["a", "--version", "--unknown"]), Ok(Command::Version));
@@ -211,6 +225,7 @@ mod tests {
         let all = [
             "--entry",
             "--demo",
+            "--kiosk",
             "--comments",
             "--posix-escapes",
             "--flags",

@@ -42,7 +42,7 @@ struct Counts {
 
 /// Reads every entry. `stopped` is set where one is not read to its end.
 pub fn run(options: &Options, loaded: &Loaded, output: &mut Output, stopped: &mut bool) -> Result<(), Failure> {
-    let lexer = Lexer::new(loaded);
+    let lexer = Lexer::new(loaded, options.caller());
     let columns = Columns::new(&lexer);
     let mut session = Session::new(options);
     let mut counts = Counts::default();
@@ -58,7 +58,7 @@ pub fn run(options: &Options, loaded: &Loaded, output: &mut Output, stopped: &mu
                 return show::objects(&mut out, &lexer, counts.all, &entry, &reading);
             }
             if session.prompt != Prompt::Output {
-                writeln!(out, "{}{}", paint.paint(Style::Bold, PROMPT), show::echo(&entry))?;
+                writeln!(out, "{}{}", paint.paint(Style::Bold, PROMPT), show::echo(&lexer, &entry))?;
             }
             show::lines(&mut out, &lexer, &columns, paint, &entry, &reading)
         })?;

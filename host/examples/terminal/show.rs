@@ -8,7 +8,7 @@ use crate::paint::{Paint, Style};
 use crate::source::{grouped, marked, visible};
 use crate::width::{self, padded};
 use std::io::{self, Write};
-use troymantle::Refusal;
+use troymantle::{Caller, Refusal};
 
 /// Names, states and texts that are longer than this are not waited for by the columns.
 const WIDEST: usize = 24;
@@ -39,9 +39,9 @@ fn widest(widths: impl Iterator<Item = usize>) -> usize {
 }
 
 /// The entry as it stands behind a prompt.
-pub fn echo(entry: &Entry) -> String {
+pub fn echo(lexer: &Lexer, entry: &Entry) -> String {
     let text = visible(&String::from_utf8_lossy(&entry.bytes));
-    if entry.length == entry.bytes.len() && text.chars().count() <= troymantle::numbers::MOST_ENTRY {
+    if entry.length <= lexer.caller.most_bytes() {
         return text;
     }
     format!("{}... ({} bytes)", text.chars().take(MOST_SHOWN).collect::<String>(), grouped(entry.length))
@@ -62,7 +62,7 @@ pub fn lines(
     for (made, quoted) in reading.moves.iter().zip(&texts) {
         writeln!(out, "{}", move_line(lexer, columns, text_width, paint, made, quoted))?;
     }
-    let (word, words) = end_words(lexer, reading);
+    let (word, words) = end_words(lexer, entry, reading);
     let style = if reading.end == End::Done { Style::Good } else { Style::Bad };
     match words {
         None => writeln!(out, "  {}", paint.paint(style, word))?,
@@ -124,23 +124,32 @@ fn stack_words(lexer: &Lexer, stack: &[u16]) -> String {
 }
 
 /// How an entry ended: a word for it, and what happened.
-pub fn end_words(lexer: &Lexer, reading: &Reading) -> (&'static str, Option<String>) {
+pub fn end_words(lexer: &Lexer, entry: &Entry, reading: &Reading) -> (&'static str, Option<String>) {
     let state = reading.stack.last().map_or("", |state| lexer.state_name(*state));
     match &reading.end {
         End::Done => ("done", None),
         End::Stopped => ("stopped", Some(format!("no rule of state {state} matches here"))),
         End::Unlinked(name, _) => ("unlinked", Some(format!("rule {} is not in the map", visible(name)))),
-        End::Refused(refusal) => ("refused", Some(refusal_words(refusal))),
+        End::Refused(refusal) => ("refused", Some(refusal_words(lexer.caller, entry, refusal))),
     }
 }
 
-fn refusal_words(refusal: &Refusal) -> String {
-    match refusal {
-        Refusal::TextMismatch => {
-            format!("{} ({}): the entry is not UTF-8 from here on", refusal.words(), refusal.number())
-        }
-        refusal => refusal.to_string(),
-    }
+fn refusal_words(caller: Caller, entry: &Entry, refusal: &Refusal) -> String {
+    let reason = match refusal {
+        Refusal::StartRefused => too_long(caller, entry.length),
+        Refusal::TextMismatch => "the entry is not UTF-8 from here on".to_string(),
+        refusal => return refusal.to_string(),
+    };
+    format!("{} ({}): {reason}", refusal.words(), refusal.number())
+}
+
+/// Which limit an entry of so many bytes passes.
+fn too_long(caller: Caller, length: usize) -> String {
+    let whose = match caller {
+        Caller::Seller => "a seller's",
+        Caller::Kiosk => "a kiosk's",
+    };
+    format!("the entry has {} bytes, and {whose} at most {}", grouped(length), grouped(caller.most_bytes()))
 }
 
 /// How many bytes at the position are marked, where an entry was not read to its end.
@@ -164,7 +173,7 @@ fn move_object(lexer: &Lexer, number: usize, text: &str, made: &Move) -> Object 
 }
 
 fn end_object(lexer: &Lexer, number: usize, entry: &Entry, reading: &Reading) -> Object {
-    let (word, words) = end_words(lexer, reading);
+    let (word, words) = end_words(lexer, entry, reading);
     let object = Object::of(word).number("entry", number);
     let object = match &reading.end {
         End::Done => with_states(object.number("length", entry.length), lexer, &reading.stack),
@@ -200,7 +209,7 @@ mod tests {
         let sheet = LexFile::new("%%\n. ;\n").parse().unwrap();
         let (unlinked, name) = (sheet.clone(), String::new());
         let loaded = crate::load::Loaded { sheet, unlinked, patterns: vec![], name, sample: "", warnings: vec![] };
-        let (lexer, entry) = (Lexer::new(&loaded), Entry::new("😀é".into()));
+        let (lexer, entry) = (Lexer::new(&loaded, Caller::Seller), Entry::new("😀é".into()));
         let reading = Reading { moves: vec![], end: End::Refused(Refusal::RowMismatch), position: 4, stack: vec![0] };
         let (mut told, mut object) = (vec![], vec![]);
         lines(&mut told, &lexer, &Columns::new(&lexer), Paint { on: false }, &entry, &reading).unwrap();

@@ -76,11 +76,12 @@ functions! {
         area8: *mut u8, area8_length: usize,
     );
 
-    /// Begins a run over an entry of n bytes, of which the text is lent.
+    /// Begins a run of a kind of caller over an entry of n bytes, of which the text is lent.
     fn troymantle_start as Start(
+        kind: u64,
         n: u64,
         text: *const u8, text_length: usize,
-        run: *mut [u16; 4],
+        run: *mut [u16; 5],
         stack: *mut u8, stack_length: usize,
     );
 
@@ -94,7 +95,7 @@ functions! {
         area5: *const u8, area5_length: usize,
         counts: *const [u16; 6],
         text: *const u8, text_length: usize,
-        run: *mut [u16; 4],
+        run: *mut [u16; 5],
         stack: *mut u8, stack_length: usize,
         row: *const u8, row_length: usize,
     );

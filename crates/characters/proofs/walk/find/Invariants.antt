@@ -1,5 +1,5 @@
 -- `characters::walk::find` meets its contract: at each position passed the answer is false.
-use Rattle.std.proofs.Common.{ℕ, ◌≤◌, ◌<◌, ◌-◌, false}
+use Rattle.std.proofs.Common.{ℕ, ◌≤◌, ◌<◌, false}
 use Rattle.characters.proofs.walk.find.Given as goal
 
 abbrev pub invariant-loop-k : goal.invariant-loop-k
