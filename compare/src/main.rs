@@ -13,6 +13,7 @@ mod library;
 mod link;
 mod misreadings;
 mod model;
+mod one_mark;
 mod options;
 mod oracle;
 mod place;

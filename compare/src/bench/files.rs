@@ -3,6 +3,7 @@
 
 use super::MOST_RULES;
 use super::shape::{Around, Note, Shape, Work, timed, timed_by};
+use crate::answers::{self, ACCEPTED};
 use crate::bare_walk::{self, Room};
 use crate::case::{AREAS, Case, FLAG_COMMENTS, SOURCE_LIMIT};
 use crate::library::Library;
@@ -22,7 +23,7 @@ pub fn shapes() -> Vec<Shape> {
         shape("parse: few long lines, long names", 0, long_names),
         shape("parse: comments, long lines", FLAG_COMMENTS, || comments(LONG_COMMENT)),
         shape("parse: comments, short lines", FLAG_COMMENTS, || comments("//\n")),
-        shape("parse: 2,048 rules whose names begin alike", 0, alike_names),
+        shape("parse: 2,048 rules whose names begin alike", 0, || alike_names(MOST_RULES)),
     ]
 }
 
@@ -31,38 +32,43 @@ fn shape(name: &str, flags: u64, source: fn() -> String) -> Shape {
 }
 
 pub fn work(source: String, flags: u64) -> Work {
+    work_answered(source, flags, ACCEPTED)
+}
+
+/// A file whose answer has this number: accepted, or with faults.
+pub fn work_answered(source: String, flags: u64, number: u64) -> Work {
     let case = Case { source: source.clone().into_bytes(), flags, verdicts: vec![], capacities: [0; AREAS] };
     let case = Case { capacities: oracle::needs(&case), ..case };
     let walked = case.clone();
     Work {
         bytes: source.len(),
-        original: Box::new(move |around| time_original(around, &source, flags)),
-        ours: Box::new(move |library| time_ours(library, &case)),
+        original: Box::new(move |around| time_original(around, &source, flags, number)),
+        ours: Box::new(move |library| time_ours(library, &case, number)),
         note: Some(Note::BareWalk(Box::new(move || time_bare_walk(&walked)))),
     }
 }
 
-fn time_original(around: Around, source: &str, flags: u64) -> Duration {
+fn time_original(around: Around, source: &str, flags: u64, number: u64) -> Duration {
     let comments = flags & FLAG_COMMENTS != 0;
     timed_by(
         around,
         || source.to_string(),
         |source| {
             let parsed = original::parse_only(std::mem::take(source), comments, false);
-            assert!(parsed.is_accepted(), "the file has faults");
+            assert_eq!(parsed.is_accepted(), number == ACCEPTED, "the original differs on whether the file has faults");
             parsed
         },
     )
 }
 
-fn time_ours(library: &Library, case: &Case) -> Duration {
+fn time_ours(library: &Library, case: &Case, number: u64) -> Duration {
     timed(
         || case.capacities.map(|length| vec![0xa5; length]),
         |areas| {
             let mut counts = [0; AREAS];
             let mut lent = areas.each_mut().map(Vec::as_mut_slice);
             let word = library.parse(&case.source, case.flags, &[], &mut lent, &mut counts);
-            assert_eq!(word, 0, "our library does not accept the file");
+            assert_eq!(answers::number(word), number, "our library answers otherwise");
         },
     )
 }
@@ -118,8 +124,8 @@ fn comments(comment: &str) -> String {
     to_limit(half.clone() + "%%\n" + &half)
 }
 
-pub fn alike_names() -> String {
-    let lines: String = (0..MOST_RULES).map(|number| format!("a{number:04} 'BEGINS_ALIKE_{number:04}'\n")).collect();
+pub fn alike_names(rules: usize) -> String {
+    let lines: String = (0..rules).map(|number| format!("a{number:04} 'BEGINS_ALIKE_{number:04}'\n")).collect();
     "%%\n".to_string() + &lines
 }
 

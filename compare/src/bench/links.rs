@@ -31,7 +31,7 @@ type Entries<'a> = [(&'a str, u16)];
 
 /// Every rule has an entry, and every entry a rule. The original's map is there already, or its making is in the time.
 fn all_linked(with_making: bool) -> Work {
-    let source = alike_names();
+    let source = alike_names(MOST_RULES);
     let names: Vec<String> = (0..MOST_RULES).map(|j| format!("BEGINS_ALIKE_{j:04}")).collect();
     let call = link::call(sheet::parsed(&source, 0), &names.iter().cloned().zip(0..).collect::<Vec<_>>());
     // never given back, so that the map of them can be kept too

@@ -6,6 +6,7 @@ mod growth;
 mod hostile;
 mod layouts;
 mod links;
+mod names;
 mod places;
 mod plot;
 mod runs;
@@ -108,7 +109,7 @@ impl Wanted {
 }
 
 fn shapes() -> Vec<Shape> {
-    [files::shapes(), links::shapes(), runs::shapes(), places::shapes(), growth::shapes()]
+    [files::shapes(), names::shapes(), links::shapes(), runs::shapes(), places::shapes(), growth::shapes()]
         .into_iter()
         .flatten()
         .collect()
@@ -206,7 +207,9 @@ mod tests {
         let ours = wanted(None, None, 2).archives().unwrap_or_default();
         let tested = Archive { name: "tested", file: ours[0].file.clone() };
         let libraries = layouts::load(&tested, 2).unwrap_or_else(|told| panic!("{told}"));
-        for shape in chosen(&["small file", "10 rules", "place", "growth"].map(str::to_string)).unwrap_or_default() {
+        for shape in chosen(&["small file", "repeats of the newest", "10 rules", "place", "growth"].map(str::to_string))
+            .unwrap_or_default()
+        {
             let work = shape.work();
             for library in libraries.iter().chain([&crate::library::LINKED]) {
                 assert!(!(work.ours)(library).is_zero());

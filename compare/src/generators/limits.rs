@@ -3,6 +3,7 @@
 use super::room::{exact, roomy, short};
 use super::{Draft, grammar};
 use crate::case::{Case, RECORD_SIZES, SOURCE_LIMIT};
+use crate::one_mark::{Differing, of_eight_lengths, of_one_length};
 use crate::random::Random;
 
 /// How the areas of a draft are measured.
@@ -101,6 +102,12 @@ fn fixed_cases() -> &'static [Fixed] {
         || (Draft::new(["%s A", &" A".repeat(32_700), "\n%%"].concat(), 0), Areas::OneByteShort(6)),
         || (Draft::new(["%s A B A", &" B A".repeat(2_000), "\n%%"].concat(), 0), Areas::Exact),
         || (Draft::new(["%%\na 'N'", &"\nb 'N'\n v".repeat(2_000)].concat(), 0), Areas::Exact),
+        // names that repeat, which are looked for among many rules
+        || (repeated_names(&of_eight_lengths(600)), Areas::Exact),
+        || (repeated_names(&of_one_length(600, 20, Differing::Start)), Areas::Exact),
+        || (repeated_names(&of_one_length(600, 20, Differing::Middle)), Areas::Exact),
+        || (repeated_names(&of_one_length(600, 20, Differing::End)), Areas::Exact),
+        || (repeated_names(&of_one_length(1_536, 4, Differing::End)), Areas::Exact),
     ]
 }
 
@@ -132,6 +139,19 @@ fn rules(count: usize, name: &str, verdicts: Vec<u8>) -> Draft {
         })
         .collect();
     Draft::new(["%%\n", &lines].concat(), 0).with_verdicts(verdicts)
+}
+
+/// Rules of these names, with a rule without a name behind every third; then names again: the oldest and the newest twice, and
+/// all of them, each seven names behind the one before.
+fn repeated_names(names: &[String]) -> Draft {
+    let rules = names.iter().enumerate().map(|(number, name)| match number % 3 {
+        0 => format!("a '{name}'\nb ;\n"),
+        _ => format!("a '{name}'\n"),
+    });
+    let ends = [0, names.len() - 1, 0, names.len() - 1].into_iter();
+    let again = ends.chain((0..names.len()).map(|number| 7 * number % names.len()));
+    let repeats = again.map(|number| format!("c \"{}\"\n", names[number]));
+    Draft::new("%%\n".to_string() + &rules.chain(repeats).collect::<String>(), 0)
 }
 
 fn refused_at(index: usize) -> Vec<u8> {

@@ -1,9 +1,9 @@
--- Rules with distinct names: no rules have them, and a rule more whose name is unused keeps them. Then a rule that has a name is the only one, so
--- that a search may go through the rules in any order.
-use mathlib.Core.Path.{◌≡◌, refl, sym, ◌∙◌}
+-- Rules with distinct names, which end inside the source: no rules have them, and a rule more whose name is unused and ends there keeps them. Then a rule
+-- that has a name is the only one, so that a search may go through the rules in any order.
+use mathlib.Core.Path.{◌≡◌, refl, sym, ap, subst⁻¹, ◌∙◌}
 use mathlib.Core.Bool.{Bool, true, false, ◌&&◌, true≢false}
 use mathlib.Core.List.{List, [], ◌∷◌, ◌++◌}
-use mathlib.Core.Logic.{⊎_elim}
+use mathlib.Core.Logic.{◌⊎◌, inl, inr, ⊎_elim}
 use Prim.Native.Nat.{ℕ, ◌+◌, ◌≤◌, ◌<◌}
 use native.Mathlib.Nat.{eq-or-lt_of_le}
 use native.Mathlib.Omega.{arith}
@@ -13,11 +13,15 @@ use lib.ListN.{length, length-append, get_or-append}
 use lib.Seq.{get_or-append_seam}
 use Rattle.text.specs.Range.{part, same_bytes, same_range}
 use Rattle.text.proofs.Ranges.{same_self}
+use Rattle.std.specs.Prelude.{Option}
+use Rattle.characters.specs.Walk.{last, Below}
 use Rattle.characters.proofs.Firsts.{first_before, first_only}
+use Rattle.characters.proofs.Lasts.{LastAt, LastNone, last_is}
 use Rattle.area.specs.declared.Rule.{Rule}
 use Rattle.area.specs.Records.{rule_of, nth_rule}
 use Rattle.names.specs.Names.{name_of, DistinctNames, has_name, find_rule}
-use Rattle.names.proofs.Finds.{named_same}
+use Rattle.names.specs.Marks.{EndsInside, NamesInside}
+use Rattle.names.proofs.Finds.{named_same, none_found}
 
 -- no rule of the list that is named has the name, of this length from here, of a rule that is named
 pub record Unused (s : List ℕ) (xs : List Rule) (named from len : ℕ) : Type 0 where
@@ -43,6 +47,9 @@ name_unused s a e xs h j l =
 pub distinct_none : (s : List ℕ) → DistinctNames s []
 distinct_none s = record { differ = λ i j _ l. absurd (omega (arith, l)) }
 
+pub inside_none : (s : List ℕ) → NamesInside s []
+inside_none s = record { each = λ j l. absurd (omega (arith, l)) }
+
 module _ (s : List ℕ) (xs : List Rule) (x : Rule) where
   earlier : (j : ℕ) → j < length xs → nth_rule (xs ++ (x ∷ [])) j ≡ nth_rule xs j
   earlier j h = get_or-append xs (x ∷ []) (rule_of (λ _. 0)) j h
@@ -62,9 +69,17 @@ module _ (s : List ℕ) (xs : List Rule) (x : Rule) where
       last : (j : ℕ) → j < length (xs ++ (x ∷ [])) → j ≤ length xs
       last j l = omega (arith, l, length-append xs (x ∷ []))
 
+  pub inside_more : NamesInside s xs → EndsInside s x → NamesInside s (xs ++ (x ∷ []))
+  inside_more i n = record {
+    each = λ j l. ⊎_elim
+        (λ q. subst⁻¹ (EndsInside s) (ap (nth_rule (xs ++ (x ∷ []))) q ∙ newest) n)
+        (λ g. subst⁻¹ (EndsInside s) (earlier j g) (i.each j g))
+        (eq-or-lt_of_le (omega (arith, l, length-append xs (x ∷ []))));
+  }
+
 -- ---- a search in any order
 
--- a rule that has the name is the one that the search from the first to the last finds
+-- a rule that has the name is the one that the definition finds, which is the first
 pub found_only : (s : List ℕ) (a e : ℕ) (xs : List Rule) → DistinctNames s xs → (j : ℕ) → j < length xs → has_name s a e (nth_rule xs j) ≡ true
     → find_rule s a e xs ≡ j
 unfolding find_rule
@@ -78,3 +93,15 @@ found_only s a e xs d j l t = first_only (λ i. has_name s a e (nth_rule xs i)) 
         let there = named_same s a e (nth_rule xs m) q in
         absurd (d.differ m j g l there.0 here.0 (sym there.1 ∙ here.1))
     other m g false q = q
+
+-- so the last that has it is that rule too
+module _ (s : List ℕ) (a e : ℕ) (xs : List Rule) (d : DistinctNames s xs) where
+  abbrev test : ℕ → Bool
+  test k = has_name s a e (nth_rule xs k)
+
+  pub found_last : (o : Option ℕ) → o ≡ last test 0 (length xs) → Below (length xs) (find_rule s a e xs) o
+  found_last o is = by (last_is test 0 (length xs) (omega arith))
+    where
+      by : LastAt test 0 (length xs) (last test 0 (length xs)) ⊎ LastNone test 0 (length xs) (last test 0 (length xs)) → Below (length xs) (find_rule s a e xs) o
+      by (inl l) = rw (is, l.is) (l.to, sym (found_only s a e xs d l.place l.to l.passes))
+      by (inr l) = rw (is, l.is) (none_found s a e xs (λ j h. l.fails j (omega arith) h))

@@ -13,13 +13,12 @@ use lib.ListN.{length, get_or, take, set, length-take, length-set}
 use lib.Seq.{take_all, get_or-take, get_or-set_same, get_or-set_other}
 use Rattle.text.specs.Range.{part}
 use Rattle.characters.proofs.Tests.{le_or_lt}
-use Rattle.characters.proofs.Walks.{first_over, first_none}
 use Rattle.area.specs.declared.Rule.{Rule}
 use Rattle.area.specs.Records.{nth_rule}
 use Rattle.area.specs.Contents.{rule_format}
 use Rattle.names.specs.Names.{name_of, has_name, find_rule}
 use Rattle.names.specs.Marks.{mark_count, from_end, mark_of, Mark, Marked}
-use Rattle.names.proofs.Finds.{named_same}
+use Rattle.names.proofs.Finds.{named_same, none_found}
 
 -- ---- the place of a mark
 
@@ -46,11 +45,7 @@ module _ (s : List ℕ) (xs : List Rule) (marks : List Bool) (M : Marked s xs ma
       by false t = refl
 
   pub unmarked_missing : length xs ≡ find_rule s a e xs
-  unfolding find_rule
-  unmarked_missing =
-      let m = length xs in
-      first_none test m m (omega arith)
-      ∙ sym (first_over test 0 m m (omega arith) (omega arith) (λ j u v. none_named j v))
+  unmarked_missing = none_found s a e xs none_named
 
 -- ---- marks of the first k rules
 

@@ -1,6 +1,6 @@
--- Marks of names; 01 has none. A name is compared with the names of the rules only where its mark is set, so the answer of a search never
--- depends on the marks.
-use Rattle.std.specs.Prelude.{ℕ, ◌+◌, ◌*◌, ◌-◌, ◌%◌, ◌<◌, ◌≡◌, Bool, true, false, List, length, get_or}
+-- Marks of names, and what a search may use of the rules held (02, 4/13); 01 has none of it. A name is compared with the names of the rules only where
+-- its mark is set, so the answer of a search never depends on the marks.
+use Rattle.std.specs.Prelude.{ℕ, ◌+◌, ◌*◌, ◌-◌, ◌%◌, ◌≤◌, ◌<◌, ◌≡◌, Bool, true, false, List, length, get_or}
 use Rattle.area.specs.declared.Rule.{Rule}
 use Rattle.area.specs.Records.{nth_rule}
 use Rattle.names.specs.Names.{name_of, DistinctNames}
@@ -28,7 +28,16 @@ pub record Marked (s : List ℕ) (xs : List Rule) (marks : List Bool) : Type 0 w
   pub long : length marks ≡ mark_count
   pub each : (j : ℕ) → j < length xs → (nth_rule xs j).named ≡ 1 → get_or marks (mark_of (name_of s (nth_rule xs j))) false ≡ true
 
--- what a search may use of the rules xs: the marks of their names, and that no two of them have the same name
+-- the name of the rule x ends inside the source, so that it is as long as its record says (02, 4/13)
+abbrev pub EndsInside : List ℕ → Rule → Type 0
+EndsInside s x = x.name_from + x.name_length ≤ length s
+
+-- the names of the rules xs end inside the source (02, 4/13)
+pub record NamesInside (s : List ℕ) (xs : List Rule) : Type 0 where
+  pub each : (j : ℕ) → j < length xs → EndsInside s (nth_rule xs j)
+
+-- what a search may use of the rules xs: the marks of their names, that the names end inside the source, and that no two are the same
 pub record NamesHeld (s : List ℕ) (xs : List Rule) (marks : List Bool) : Type 0 where
   pub marked : Marked s xs marks
+  pub inside : NamesInside s xs
   pub distinct : DistinctNames s xs

@@ -1,22 +1,24 @@
 // Names of states and of rules: their form, and the record of a name (01, Declarations and Rules).
-// A name is a source and two places in it, as in the definitions and in a record: of a slice each contract would have to say at which places of which
-// source it stands.
+// A name is a source and two places in it, as in the definitions and in a record. The search for a rule takes it as a slice, cut once, and promises what
+// it finds of any two places where those bytes stand.
 #![tactic(auto)]
 
 pub mod marks; // marks of the names of rules
 
-ghost use Rattle.std.specs.Prelude.{List, ◌≡◌, ◌≤◌, ◌<◌, length};
+ghost use Rattle.std.specs.Prelude.{ℕ, List, ◌≡◌, ◌≤◌, ◌<◌, length};
 ghost use Rattle.std.specs.List.{list_all};
 ghost use Rattle.characters.specs.Walk.{Below};
+ghost use Rattle.text.specs.Range.{part};
 ghost use Rattle.area.specs.declared.State.{State};
 ghost use Rattle.area.specs.Records.{nth_state, nth_rule};
 ghost use Rattle.names.specs.Names.{is_name_byte, is_state_name, is_state, find_state, has_name, find_rule};
-ghost use Rattle.names.specs.Marks.{NamesHeld};
+ghost use Rattle.names.specs.Marks.{EndsInside, NamesHeld};
 
 use crate::marks::{MARKS, mark_of};
 use area::list::Records;
 use area::{Rule, State};
 use characters::class::{is_digit, is_letter};
+use characters::walk::find_last;
 use text::range::{part, same_range};
 
 // The name of state 0.
@@ -68,15 +70,20 @@ pub fn get_start_state_by_name(
     states.position(|j, x| is_state(src, a, e, j, x))
 }
 
-// Whether the rule has the name from a to e. Bytes are compared only if the rule is named and its name is as long.
+// Whether the rule has the name, which is a part of the source. Lengths come first; bytes are compared only where the lengths are equal and the rule is
+// named.
 #[tactic(auto, using(crate::proofs::Finds::comparing_names))]
-fn has_name(src: &[u8], a: usize, e: usize, x: Rule) -> bool
-    ensures { result ≡ has_name src.now a e x }
+fn has_name(src: &[u8], name: &[u8], x: Rule) -> bool
+    requires { EndsInside src.now x }
+    ensures { (a e : ℕ) → name.now ≡ part src.now a e → result ≡ has_name src.now a e x }
 {
-    x.is_named() && same_range(src, a, e, src, x.name_from as usize, x.name_end())
+    if x.name_length as usize != name.len() {
+        return false;
+    }
+    x.is_named() && name == &src[x.name_from as usize..x.name_end()]
 }
 
-// The rules of a source so far, and the marks of their names. No two of them have the same name.
+// The rules of a source so far, and the marks of their names. Names end inside the source, and no two are the same.
 #[derive(Drop)]
 pub struct NamedRules<'a> {
     source: &'a [u8],
@@ -109,12 +116,14 @@ impl<'a> NamedRules<'a> {
         self.rules.get(k)
     }
 
-    // The rule whose name stands from a to e, by a look at every rule.
-    fn search(&self, a: usize, e: usize) -> Option<usize>
-        ensures { Below (length self.now.rules) (find_rule self.now.source.now a e self.now.rules) result }
+    // The rule that has the name, which is a part of the source: from the newest rule to the oldest (02, 4/13). No two rules have the same name, so the order
+    // does not change which is found.
+    fn search(&self, name: &[u8]) -> Option<usize>
+        ensures { (a e : ℕ) → name.now ≡ part self.now.source.now a e
+            → Below (length self.now.rules) (find_rule self.now.source.now a e self.now.rules) result }
     {
-        let source = self.source;
-        self.rules.position(|_, x| has_name(source, a, e, x))
+        let (source, rules) = (self.source, &self.rules);
+        find_last(0, rules.count(), |k| has_name(source, name, rules.get(k)))
     }
 
     // The rule whose name stands from a to e. Where the name's mark is not set no rule has it, and none is looked at.
@@ -122,10 +131,10 @@ impl<'a> NamedRules<'a> {
     pub fn find(&self, a: usize, e: usize) -> Option<usize>
         ensures { Below (length self.now.rules) (find_rule self.now.source.now a e self.now.rules) result }
     {
-        let at = mark_of(part(self.source, a, e));
-        if !self.marks[at] {
+        let name = part(self.source, a, e);
+        if !self.marks[mark_of(name)] {
             return None;
         }
-        self.search(a, e)
+        self.search(name)
     }
 }

@@ -42,12 +42,6 @@ impl<'a> Text<'a> {
         &self.bytes[..self.count]
     }
 
-    pub fn clear(&mut self)
-        ensures { Holds self.old.bytes self.new [] }
-    {
-        self.count = 0;
-    }
-
     pub fn push_text(&mut self, s: &[u8])
         ensures { Appends self.old self.new s.now }
     {

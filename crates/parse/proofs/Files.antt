@@ -35,7 +35,8 @@ use Rattle.fault.specs.Step.{Out, go, bad, full, next, onto, written, loop, outc
 use Rattle.fault.specs.Faults.{PrematureEnd, add_fault, HeldFaults, GrowsFaults}
 use Rattle.fault.proofs.Steps.{IsFault, does_full, bad_goes, full_goes, onto_err, was_ok, holds_ok, holds_err}
 use Rattle.names.specs.Names.{DistinctNames}
-use Rattle.names.proofs.Distinct.{distinct_none}
+use Rattle.names.specs.Marks.{NamesInside}
+use Rattle.names.proofs.Distinct.{distinct_none, inside_none}
 use Rattle.section.specs.declared.options.Options.{Options}
 use Rattle.section.specs.Request.{Request}
 use Rattle.section.specs.Section.{percents, in_section, to_declaration}
@@ -119,10 +120,15 @@ nothing_held {l1} {l5 = l5} {l6 = l6} z nothing =
       expected = held_empty expected_sound l5 z.is5;
     })
 
--- no rules yet, so no two with the same name
-pub no_names : (s l : List ℕ) → DistinctNames s (contents rule_format l 0)
-unfolding contents list_of
-no_names s l = distinct_none s
+-- no rules yet, so no two with the same name, and no name that ends outside
+module _ (s l : List ℕ) where
+  pub none_distinct : DistinctNames s (contents rule_format l 0)
+  unfolding contents list_of
+  none_distinct = distinct_none s
+
+  pub none_inside : NamesInside s (contents rule_format l 0)
+  unfolding contents list_of
+  none_inside = inside_none s
 
 -- ---- where the rules start
 

@@ -280,3 +280,21 @@ module _ (s : List ℕ) (i t : ℕ) (xs : List State) (rs : List Rule) where
   pub fresh_unused : (b : ℕ) (h : Head) → heading_of s i t xs rs ≡ Ok (Fresh b h)
       → Unused s rs (named_field h.name) (name_fields h.name).from (name_fields h.name).length
   fresh_unused b h q = subst (NewName s rs) q new_name
+
+-- ---- the name of a fresh rule ends inside the source
+
+-- the name in a heading; a rule without one has an empty name at 0
+abbrev NameInside : List ℕ → Result Heading LexError → Type 0
+NameInside s (Err error) = Unit {0}
+NameInside s (Ok (Repeated first again)) = Unit {0}
+NameInside s (Ok (Fresh b h)) = (name_fields h.name).from + (name_fields h.name).length ≤ length s
+
+module _ (s : List ℕ) (i t : ℕ) (xs : List State) (rs : List Rule) (l : t ≤ length s) where
+  -- the name stands in its quotes, which end at t
+  quoted_inside : (r : ℕ) (x : Option TargetState) (p : ℕ) → label_of s (span p t) ≡ Named → NameInside s (Ok (Fresh r (head_named r (span p t) x)))
+  quoted_inside r x p named = omega (arith, l, name_long s p t named)
+
+  pub fresh_name_inside : (b : ℕ) (h : Head) → heading_of s i t xs rs ≡ Ok (Fresh b h) → (name_fields h.name).from + (name_fields h.name).length ≤ length s
+  fresh_name_inside b h q =
+      subst (NameInside s) q
+      (heading_cases s i t xs rs (NameInside s) (λ _. tt) (λ _ _. tt) (λ _ _ _ _. omega arith) (λ r x _ _ named _. quoted_inside r x.state x.end named))

@@ -1,14 +1,16 @@
 -- What a line makes of the rules before it: where a step goes on, they stand first among the rules then. Only the record of a rule adds to them, by
--- an append, and its name is one that no rule has: distinct names stay distinct.
+-- an append, and its name is one that no rule has and ends inside the source: so names stay distinct, and inside.
 use mathlib.Core.Path.{◌≡◌, refl, sym, ap, subst, subst⁻¹, ◌∙◌}
 use mathlib.Core.List.{List, [], ◌∷◌, ◌++◌}
 use mathlib.Core.Option.{Option, none, some}
-use Prim.Native.Nat.{ℕ, ◌+◌}
+use Prim.Native.Nat.{ℕ, ◌+◌, ◌≤◌}
+use native.Mathlib.Omega.{arith}
 use lib.ListN.{length, take}
 use Rattle.std.proofs.lemmas.Bool.{cond_both}
 use Rattle.std.specs.Prelude.{Result, Ok, Err}
 use lib.Seq.{take-length, take-append_seam}
 use Rattle.characters.specs.Whitespace.{at_whitespace}
+use Rattle.characters.proofs.Walks.{first_to}
 use Rattle.text.specs.Scan.{trim_end, trim_end_unescaped}
 use Rattle.area.specs.declared.AreaName.TheVariants as Areas
 use Rattle.area.specs.declared.State.{State}
@@ -23,7 +25,8 @@ use Rattle.fault.specs.Faults.{add_fault, add_repeat, DuplicateName, RegexError,
 use Rattle.fault.proofs.Steps.{was_ok}
 use Rattle.fault.proofs.Yielding.{Yields, yields_onto}
 use Rattle.names.specs.Names.{DistinctNames}
-use Rattle.names.proofs.Distinct.{Unused, distinct_more}
+use Rattle.names.specs.Marks.{EndsInside, NamesInside}
+use Rattle.names.proofs.Distinct.{Unused, distinct_more, inside_more}
 use Rattle.section.specs.Request.{Request}
 use Rattle.escape.specs.Escape.{unescaped}
 use Rattle.rules.specs.declared.Head.{Head}
@@ -37,22 +40,26 @@ use Rattle.rules_section.specs.declared.pattern.StateList.{StateList}
 use Rattle.rules_section.specs.RulesSection.{Sheet, Caps, sheet, rule_of, source_text, text_since, no_list, list_since, with_rule}
 use Rattle.rules_section.specs.RulesSection.{listed_rule, rewritten_rule, pattern, Ruled, sheet_of, with_sheet, with_faults, rule_as, rule, line}
 use Rattle.rules_section.proofs.Patterns.{pattern_cases}
-use Rattle.rules.proofs.Heads.{fresh_unused}
+use Rattle.rules.proofs.Heads.{fresh_unused, fresh_name_inside}
 use Rattle.rules_section.specs.declared.RuleCounts.{RuleCounts}
 use Rattle.rules_section.specs.Answers.{ruled_in, HeldRuled}
 
--- what a line makes of the rules xs: the same rules, or one more, whose name none of them has
+-- what a line makes of the rules xs: the same rules, or one more, whose name none of them has and ends inside the source
 pub data Extends (s : List ℕ) (xs ys : List Rule) : Type 0 where
   same : ys ≡ xs → Extends s xs ys
-  more : (x : Rule) → Unused s xs x.named x.name_from x.name_length → ys ≡ xs ++ (x ∷ []) → Extends s xs ys
+  more : (x : Rule) → Unused s xs x.named x.name_from x.name_length → EndsInside s x → ys ≡ xs ++ (x ∷ []) → Extends s xs ys
 
 extends_first : {s : List ℕ} {xs ys : List Rule} → Extends s xs ys → take (length xs) ys ≡ xs
 extends_first {xs = xs} (same q) = ap (take (length xs)) q ∙ take-length xs
-extends_first {xs = xs} (more x u q) = ap (take (length xs)) q ∙ take-append_seam xs (x ∷ [])
+extends_first {xs = xs} (more x u n q) = ap (take (length xs)) q ∙ take-append_seam xs (x ∷ [])
 
 extends_distinct : {s : List ℕ} {xs ys : List Rule} → DistinctNames s xs → Extends s xs ys → DistinctNames s ys
 extends_distinct {s} d (same q) = subst⁻¹ (DistinctNames s) q d
-extends_distinct {s} {xs} d (more x u q) = subst⁻¹ (DistinctNames s) q (distinct_more s xs x d u)
+extends_distinct {s} {xs} d (more x u n q) = subst⁻¹ (DistinctNames s) q (distinct_more s xs x d u)
+
+extends_inside : {s : List ℕ} {xs ys : List Rule} → NamesInside s xs → Extends s xs ys → NamesInside s ys
+extends_inside {s} i (same q) = subst⁻¹ (NamesInside s) q i
+extends_inside {s} {xs} i (more x u n q) = subst⁻¹ (NamesInside s) q (inside_more s xs x i n)
 
 -- where the step goes on, the rules in its state extend the rules xs
 abbrev YieldsExtended : {S : Type 0} → List ℕ → List Rule → (S → List Rule) → Out S → Type 0
@@ -61,7 +68,8 @@ YieldsExtended s xs rules o = Yields (λ _ t. Extends s xs (rules t)) o
 -- ---- the record
 
 module _ (asked : Request) (k : Caps) (i e : ℕ) (h : Head) (w : Sheet)
-    (unused : Unused asked.source w.rules (named_field h.name) (name_fields h.name).from (name_fields h.name).length) where
+    (unused : Unused asked.source w.rules (named_field h.name) (name_fields h.name).from (name_fields h.name).length)
+    (inside : (name_fields h.name).from + (name_fields h.name).length ≤ length asked.source) where
   abbrev Sheets : Out Sheet → Type 0
   Sheets o = YieldsExtended asked.source w.rules (λ v. v.rules) o
 
@@ -75,7 +83,7 @@ module _ (asked : Request) (k : Caps) (i e : ℕ) (h : Head) (w : Sheet)
       cond_both (refuses asked.verdicts (length rs)) (bad RegexError i rs) (written Areas.Rules e (append rule_format k.c2 (x ∷ []) rs)) (λ o. Sheets (made o))
       (λ _. tt)
       (λ _. cond_both (room rule_format.width rule_format.most k.c2 (length rs) 1) (some (rs ++ (x ∷ []))) none (λ o. Sheets (made (written Areas.Rules e o)))
-      (λ _. more x unused refl) (λ _. tt))
+      (λ _. more x unused inside refl) (λ _. tt))
 
   -- the rule follows a step that writes list entries, or text
   list_extends : (o : Out (List ℕ)) (t : RuleText) (l : Sheet → StateList)
@@ -100,7 +108,7 @@ module _ (asked : Request) (k : Caps) (i e : ℕ) (h : Head) (w : Sheet)
 
 -- ---- a line
 
-module _ (asked : Request) (xs : List State) (k : Caps) (c6 i e : ℕ) (r : Ruled) where
+module _ (asked : Request) (xs : List State) (k : Caps) (c6 i e : ℕ) (ordered : i ≤ e) (l : e ≤ length asked.source) (r : Ruled) where
   abbrev Lines : Out Ruled → Type 0
   Lines o = YieldsExtended asked.source r.rules (λ t. t.rules) o
 
@@ -110,15 +118,18 @@ module _ (asked : Request) (xs : List State) (k : Caps) (c6 i e : ℕ) (r : Rule
   faults_extend (some fs) = same refl
 
   as_extends : (x : Result Heading LexError) → heading_of asked.source i (trim_end asked.source i e) xs r.rules ≡ x → Lines (rule_as asked xs k c6 i e x r)
-  unfolding rule_as
+  unfolding rule_as trim_end
   as_extends (Err error) q = tt
   as_extends (Ok (Repeated first again)) q = faults_extend (add_repeat c6 DuplicateName first.start first.end again.start again.end r.faults)
   as_extends (Ok (Fresh b h)) q =
       let s = asked.source in
-      let unused = fresh_unused s i (trim_end s i e) xs r.rules b h q in
+      let t = trim_end s i e in
+      let trimmed : t ≤ e = first_to _ i e ordered in
+      let unused = fresh_unused s i t xs r.rules b h q in
+      let inside = fresh_name_inside s i t xs r.rules (omega (arith, l, trimmed)) b h q in
       let c = trim_end_unescaped s i b in
       yields_onto (λ _ w. Extends s r.rules w.rules) (λ _ t. Extends s r.rules t.rules) (with_sheet r) (pattern asked k i e h c xs (sheet_of r))
-      (pattern_extends asked k i e h (sheet_of r) unused c xs) (λ _ _ x. x)
+      (pattern_extends asked k i e h (sheet_of r) unused inside c xs) (λ _ _ x. x)
 
   line_extends : Lines (line asked xs k c6 i e r)
   unfolding line rule
@@ -129,11 +140,14 @@ module _ (asked : Request) (xs : List State) (k : Caps) (c6 i e : ℕ) (r : Rule
 
 -- ---- the areas before and after a line that goes on
 
-module _ (asked : Request) (xs : List State) (k : Caps) (c6 i e : ℕ) {l2 l3 l4 l6 v2 v3 v4 v6 : List ℕ} {q : RuleCounts} (h : HeldRuled l2 l3 l4 l6 q)
+module _ (asked : Request) (xs : List State) (k : Caps) (c6 i e : ℕ) (ordered : i ≤ e) (l : e ≤ length asked.source)
+    {l2 l3 l4 l6 v2 v3 v4 v6 : List ℕ} {q : RuleCounts} (h : HeldRuled l2 l3 l4 l6 q)
     (r : Result ℕ Stop) (p : RuleCounts)
     (d : Does (HeldRuled v2 v3 v4 v6) (line asked xs k c6 i e) (ruled_in l2 l3 l4 l6 q) (ruled_in v2 v3 v4 v6) (outcome r p)) {j : ℕ} (z : r ≡ Ok j) where
   extended : Extends asked.source (contents rule_format l2 q.sheet.rules) (contents rule_format v2 p.sheet.rules)
-  extended = subst (Lines asked xs k c6 i e (ruled_in l2 l3 l4 l6 q)) (was_ok r p d z) (line_extends asked xs k c6 i e (ruled_in l2 l3 l4 l6 q))
+  extended =
+      let before = ruled_in l2 l3 l4 l6 q in
+      subst (Lines asked xs k c6 i e ordered l before) (was_ok r p d z) (line_extends asked xs k c6 i e ordered l before)
 
   -- the rules that were there before it are the first ones
   pub rules_kept : take q.sheet.rules (contents rule_format v2 p.sheet.rules) ≡ contents rule_format l2 q.sheet.rules
@@ -143,3 +157,7 @@ module _ (asked : Request) (xs : List State) (k : Caps) (c6 i e : ℕ) {l2 l3 l4
   -- distinct names stay distinct
   pub names_kept : DistinctNames asked.source (contents rule_format l2 q.sheet.rules) → DistinctNames asked.source (contents rule_format v2 p.sheet.rules)
   names_kept names = extends_distinct names extended
+
+  -- and names stay inside the source
+  pub inside_kept : NamesInside asked.source (contents rule_format l2 q.sheet.rules) → NamesInside asked.source (contents rule_format v2 p.sheet.rules)
+  inside_kept inside = extends_inside inside extended

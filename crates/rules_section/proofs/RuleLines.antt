@@ -28,7 +28,7 @@ use Rattle.fault.specs.Faults.{add_fault, add_repeat, DuplicateName, VerbatimNot
 use Rattle.fault.proofs.Steps.{Loops, loops_stop, loops_next, loops_err, going_start, does_go, does_bad, does_full, does_err, does_onto, onto_outcome}
 use Rattle.fault.proofs.Steps.{holds_ok, holds_err, written_next, written_full, then_ok, then_err, next_err}
 use Rattle.names.specs.Names.{DistinctNames}
-use Rattle.names.specs.Marks.{Marked, NamesHeld}
+use Rattle.names.specs.Marks.{Marked, NamesInside, NamesHeld}
 use Rattle.section.specs.Request.{Request}
 use Rattle.section.specs.Section.{in_section, to_rule, has_routines}
 use Rattle.section.specs.Reader.{NextLine}
@@ -45,7 +45,7 @@ use Rattle.rules_section.specs.declared.RuleCounts.{RuleCounts}
 use Rattle.rules_section.specs.Answers.{rules_sheet_in, HeldSheet, ruled_in, HeldRuled, rule_counts, rule_caps_of}
 use Rattle.rules_section.specs.declared.areas.RuleAreas.{RuleAreas}
 use Rattle.rules_section.specs.Areas.{SameAreas, caps_in, rules_in, ruled_held_in, RuledHeld}
-use Rattle.rules_section.proofs.Extending.{rules_kept, names_kept}
+use Rattle.rules_section.proofs.Extending.{rules_kept, names_kept, inside_kept}
 
 -- ---- a rule
 
@@ -194,11 +194,12 @@ pub record Rules (whole : Out Ruled) (asked : Request) (xs : List State) (start 
 pub rules_start : (asked : Request) (xs : List State) (i : ℕ) (x : Line) (a : RuleAreas) → RuledHeld a
     → NextLine asked.source (to_rule asked.source asked.options) i x
     → (marks : List Bool) → Marked asked.source (rules_in a) marks → DistinctNames asked.source (rules_in a)
+    → NamesInside asked.source (rules_in a)
     → Rules (rules asked xs (caps_in a) (length a.faults.now) i (ruled_held_in a)) asked xs a x a marks
 unfolding rules
-rules_start asked xs i x a h b marks m d = record {
+rules_start asked xs i x a h b marks m d n = record {
   held = h;
-  names = record { marked = m; distinct = d };
+  names = record { marked = m; inside = n; distinct = d };
   within = b.starts.to;
   ends = b.ends;
   starts = rw b.starts.is (rule_starts asked.source asked.options i);
@@ -248,8 +249,8 @@ module _ {whole : Out Ruled} {asked : Request} {xs : List State} {start : RuleAr
         held = holds_ok r v.counts d z;
         names = record {
           marked = m;
-          distinct = names_kept asked xs (caps_in a) (length a.faults.now) i e x.held r v.counts d z
-              x.names.distinct;
+          inside = inside_kept asked xs (caps_in a) (length a.faults.now) i e x.ends.from x.ends.to x.held r v.counts d z x.names.inside;
+          distinct = names_kept asked xs (caps_in a) (length a.faults.now) i e x.ends.from x.ends.to x.held r v.counts d z x.names.distinct;
         };
         within = c.starts.to;
         ends = c.ends;
@@ -267,7 +268,7 @@ module _ {whole : Out Ruled} {asked : Request} {xs : List State} {start : RuleAr
     pub rules_marked : Marked asked.source (take a.counts.sheet.rules (rules_in v)) marks
     rules_marked =
         subst (λ (ys : List Rule). Marked asked.source ys marks)
-        (sym (rules_kept asked xs (caps_in a) (length a.faults.now) i e x.held r v.counts d z)) x.names.marked
+        (sym (rules_kept asked xs (caps_in a) (length a.faults.now) i e x.ends.from x.ends.to x.held r v.counts d z)) x.names.marked
 
   whole_err : (y : Stop) → r ≡ Err y → whole ≡ outcome (Err y) (ruled_held_in v)
   whole_err y z =

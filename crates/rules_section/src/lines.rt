@@ -1,6 +1,7 @@
 // The rules section (01, Rules).
 ghost use Rattle.std.specs.Prelude.{◌≤◌, length};
 ghost use Rattle.names.specs.Names.{DistinctNames};
+ghost use Rattle.names.specs.Marks.{NamesInside};
 ghost use Rattle.section.specs.Request.{asked_by};
 ghost use Rattle.rules_section.specs.RulesSection.{rules_section};
 ghost use Rattle.rules_section.specs.Areas.{SameAreas, RuledHeld, rules_in};
@@ -26,6 +27,7 @@ pub fn parse_rules(
     requires i_in_bounds { i ≤ length file.source.now }
     requires held_ruled { RuledHeld areas.old }
     requires distinct_names { DistinctNames file.source.now (rules_in areas.old) }
+    requires names_inside { NamesInside file.source.now (rules_in areas.old) }
     ensures same { SameAreas areas.old areas.new }
     ensures does { DoesRuled (λ k c6. rules_section (asked_by file.entry) states.now k c6 i) areas result }
 {

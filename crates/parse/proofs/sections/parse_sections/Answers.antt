@@ -1,7 +1,8 @@
 -- `parse::sections::parse_sections` meets its contract: each return is an outcome of the file.
 use Rattle.std.proofs.Common.{refl, rules}
 use Rattle.section.specs.Request.{asked_by}
-use Rattle.parse.proofs.Files.{nothing_held, no_names, opening_faults, file_stops, rules_inside, states_fit, rules_held, rules_faults, rules_stop, rules_judged}
+use Rattle.parse.proofs.Files.{nothing_held, none_distinct, none_inside, opening_faults, file_stops}
+use Rattle.parse.proofs.Files.{rules_inside, states_fit, rules_held, rules_faults, rules_stop, rules_judged}
 use Rattle.parse.proofs.sections.parse_sections.Goals as goal
 
 pub parse_opening-requires : goal.parse_opening-requires
@@ -22,7 +23,10 @@ parse_rules-requires-clause-held_ruled c =
     rw c.no_rules.ensures (rules_held (asked_by c.args.lex_file) _ _ _ _ _ _ c.requires.zeroed c.default.ensures _ _ _ _ _ c.parse_opening.ensures.does refl refl (search rules) c.in-Ok.is)
 
 pub parse_rules-requires-clause-distinct_names : goal.parse_rules-requires-clause-distinct_names
-parse_rules-requires-clause-distinct_names c = rw c.no_rules.ensures (no_names _ _)
+parse_rules-requires-clause-distinct_names c = rw c.no_rules.ensures (none_distinct _ _)
+
+pub parse_rules-requires-clause-names_inside : goal.parse_rules-requires-clause-names_inside
+parse_rules-requires-clause-names_inside c = rw c.no_rules.ensures (none_inside _ _)
 
 pub close-requires-in-Err-parse_rules : goal.close-requires-in-Err-parse_rules
 close-requires-in-Err-parse_rules c =

@@ -7,7 +7,7 @@ use Rattle.rules_section.proofs.lines.parse_rules.Goals as goal
 pub loop-marks-init : goal.loop-marks-init
 loop-marks-init c =
     rules_start (asked_by c.args.file) _ _ _ c.args.areas.now c.requires.held_ruled c.next_rule-line.ensures _ (rw c.rule_records.ensures at c.mark_rules.ensures)
-    c.requires.distinct_names
+    c.requires.distinct_names c.requires.names_inside
 
 pub returns-in_err-parse_line-clause-does : goal.returns-in_err-parse_line-clause-does
 returns-in_err-parse_line-clause-does c =
