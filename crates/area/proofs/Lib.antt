@@ -6,6 +6,7 @@ pub mod Records
 pub mod Rooms
 pub mod Contents
 pub mod All
+pub mod Elements
 pub mod Lent
 pub mod Numbers
 pub mod Relaid

@@ -1,5 +1,5 @@
--- Tests of lists and of numbers, and the numbers that pass.
-use Rattle.std.specs.Prelude.{ℕ, zero, suc, Bool, true, cond, ◌&&◌, List, [], ◌∷◌, ◌++◌, length, get_or}
+-- Tests of lists and of numbers, the numbers that pass, and what holds of each element by its place.
+use Rattle.std.specs.Prelude.{ℕ, zero, suc, ◌<◌, Bool, true, cond, ◌&&◌, List, [], ◌∷◌, ◌++◌, length, get_or}
 
 -- every element passes the test
 unfoldable pub all : {A : Type 0} → (A → Bool) → List A → Bool
@@ -19,3 +19,7 @@ numbers test (suc n) = numbers test n ++ cond (test n) (n ∷ []) []
 -- the numbers of the elements that pass the test, in order; d stands for no element
 abbrev pub numbers_of : {A : Type 0} → (A → Bool) → A → List A → List ℕ
 numbers_of test d xs = numbers (λ k. test (get_or xs k d)) (length xs)
+
+-- P holds of each element of the list and its place; d is what stands past the end
+pub record Each {A : Type 0} (P : ℕ → A → Type 0) (d : A) (xs : List A) : Type 0 where
+  pub at : (j : ℕ) → j < length xs → P j (get_or xs j d)

@@ -1,6 +1,6 @@
--- Rules with distinct names, which end inside the source: no rules have them, and a rule more whose name is unused and ends there keeps them. Then a rule
--- that has a name is the only one, so that a search may go through the rules in any order.
-use mathlib.Core.Path.{◌≡◌, refl, sym, ap, subst⁻¹, ◌∙◌}
+-- Rules with distinct names: no rules have them, and a rule more whose name is unused keeps them. Then a rule that has a name is the only one, so
+-- that a search may go through the rules in any order.
+use mathlib.Core.Path.{◌≡◌, refl, sym, ◌∙◌}
 use mathlib.Core.Bool.{Bool, true, false, ◌&&◌, true≢false}
 use mathlib.Core.List.{List, [], ◌∷◌, ◌++◌}
 use mathlib.Core.Logic.{◌⊎◌, inl, inr, ⊎_elim}
@@ -20,7 +20,6 @@ use Rattle.characters.proofs.Lasts.{LastAt, LastNone, last_is}
 use Rattle.area.specs.declared.Rule.{Rule}
 use Rattle.area.specs.Records.{rule_of, nth_rule}
 use Rattle.names.specs.Names.{name_of, DistinctNames, has_name, find_rule}
-use Rattle.names.specs.Marks.{EndsInside, NamesInside}
 use Rattle.names.proofs.Finds.{named_same, none_found}
 
 -- no rule of the list that is named has the name, of this length from here, of a rule that is named
@@ -47,9 +46,6 @@ name_unused s a e xs h j l =
 pub distinct_none : (s : List ℕ) → DistinctNames s []
 distinct_none s = record { differ = λ i j _ l. absurd (omega (arith, l)) }
 
-pub inside_none : (s : List ℕ) → NamesInside s []
-inside_none s = record { each = λ j l. absurd (omega (arith, l)) }
-
 module _ (s : List ℕ) (xs : List Rule) (x : Rule) where
   earlier : (j : ℕ) → j < length xs → nth_rule (xs ++ (x ∷ [])) j ≡ nth_rule xs j
   earlier j h = get_or-append xs (x ∷ []) (rule_of (λ _. 0)) j h
@@ -68,14 +64,6 @@ module _ (s : List ℕ) (xs : List Rule) (x : Rule) where
     where
       last : (j : ℕ) → j < length (xs ++ (x ∷ [])) → j ≤ length xs
       last j l = omega (arith, l, length-append xs (x ∷ []))
-
-  pub inside_more : NamesInside s xs → EndsInside s x → NamesInside s (xs ++ (x ∷ []))
-  inside_more i n = record {
-    each = λ j l. ⊎_elim
-        (λ q. subst⁻¹ (EndsInside s) (ap (nth_rule (xs ++ (x ∷ []))) q ∙ newest) n)
-        (λ g. subst⁻¹ (EndsInside s) (earlier j g) (i.each j g))
-        (eq-or-lt_of_le (omega (arith, l, length-append xs (x ∷ []))));
-  }
 
 -- ---- a search in any order
 

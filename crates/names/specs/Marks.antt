@@ -2,7 +2,8 @@
 -- its mark is set, so the answer of a search never depends on the marks.
 use Rattle.std.specs.Prelude.{ℕ, ◌+◌, ◌*◌, ◌-◌, ◌%◌, ◌≤◌, ◌<◌, ◌≡◌, Bool, true, false, List, length, get_or}
 use Rattle.area.specs.declared.Rule.{Rule}
-use Rattle.area.specs.Records.{nth_rule}
+use Rattle.area.specs.Records.{rule_of, nth_rule}
+use Rattle.area.specs.Lists.{Each}
 use Rattle.names.specs.Names.{name_of, DistinctNames}
 
 -- how many marks there are
@@ -33,8 +34,8 @@ abbrev pub EndsInside : List ℕ → Rule → Type 0
 EndsInside s x = x.name_from + x.name_length ≤ length s
 
 -- the names of the rules xs end inside the source (02, 4/13)
-pub record NamesInside (s : List ℕ) (xs : List Rule) : Type 0 where
-  pub each : (j : ℕ) → j < length xs → EndsInside s (nth_rule xs j)
+abbrev pub NamesInside : List ℕ → List Rule → Type 0
+NamesInside s xs = Each (λ _ x. EndsInside s x) (rule_of (λ _. 0)) xs
 
 -- what a search may use of the rules xs: the marks of their names, that the names end inside the source, and that no two are the same
 pub record NamesHeld (s : List ℕ) (xs : List Rule) (marks : List Bool) : Type 0 where

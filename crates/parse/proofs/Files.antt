@@ -27,6 +27,7 @@ use Rattle.area.specs.Areas.{Pushed}
 use Rattle.area.specs.Records.{state_width, most_states, state_bytes}
 use Rattle.area.specs.Contents.{list_of, contents, state_format, rule_format, entry_format, text_format, expected_format, fault_format, append, left_by, Grows, Held}
 use Rattle.area.proofs.Contents.{state_sound, rule_sound, entry_sound, text_sound, expected_sound, fault_sound, held_empty, held_push, contents-length}
+use Rattle.area.proofs.Elements.{each_none}
 use Rattle.fault.specs.declared.Stop.{Stop}
 use Rattle.fault.specs.declared.Stop.TheVariants.{Fault, Full}
 use Rattle.fault.specs.declared.kinds.LexError.{LexError}
@@ -35,8 +36,8 @@ use Rattle.fault.specs.Step.{Out, go, bad, full, next, onto, written, loop, outc
 use Rattle.fault.specs.Faults.{PrematureEnd, add_fault, HeldFaults, GrowsFaults}
 use Rattle.fault.proofs.Steps.{IsFault, does_full, bad_goes, full_goes, onto_err, was_ok, holds_ok, holds_err}
 use Rattle.names.specs.Names.{DistinctNames}
-use Rattle.names.specs.Marks.{NamesInside}
-use Rattle.names.proofs.Distinct.{distinct_none, inside_none}
+use Rattle.names.specs.Marks.{EndsInside, NamesInside}
+use Rattle.names.proofs.Distinct.{distinct_none}
 use Rattle.section.specs.declared.options.Options.{Options}
 use Rattle.section.specs.Request.{Request}
 use Rattle.section.specs.Section.{percents, in_section, to_declaration}
@@ -128,7 +129,7 @@ module _ (s l : List ℕ) where
 
   pub none_inside : NamesInside s (contents rule_format l 0)
   unfolding contents list_of
-  none_inside = inside_none s
+  none_inside = each_none (λ _ x. EndsInside s x) rule_format.blank
 
 -- ---- where the rules start
 

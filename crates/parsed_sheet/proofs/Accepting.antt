@@ -27,7 +27,7 @@ use Rattle.area.specs.Lists.{all}
 use Rattle.parsed_sheet.specs.Accepted.{Fits, StateHolds, ExpectedHolds, EntryHolds, RuleHolds, StatesHold, ExpectedsHold, ContentsHold, is_byte}
 use Rattle.fault.proofs.Yielding.{Yields, yields_next, yields_onto}
 use Rattle.parsed_sheet.proofs.Appending.{yields_append}
-use Rattle.parsed_sheet.proofs.Elements.{each_none, each_snoc}
+use Rattle.area.proofs.Elements.{each_none, each_snoc}
 use Rattle.parsed_sheet.proofs.ByteLists.{utf8_bytes}
 use Rattle.parsed_sheet.proofs.Outcomes.{outcome_cases}
 use Rattle.parsed_sheet.proofs.Declaring.{DeclaredHolds, declarations_hold}

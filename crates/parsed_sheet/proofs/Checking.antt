@@ -20,7 +20,7 @@ use Rattle.sheet_check.specs.SheetCheck.{sizes_of, good_counts, declared, text_b
 use Rattle.area.specs.Lists.{all}
 use Rattle.names.specs.Names.{name_of}
 use Rattle.parsed_sheet.specs.Accepted.{StateHolds, ExpectedHolds, EntryHolds, RuleHolds, ContentsHold, ContentsFit, is_byte, sheet_left_by}
-use Rattle.parsed_sheet.proofs.Elements.{all_pass}
+use Rattle.area.proofs.Elements.{all_pass}
 use Rattle.parsed_sheet.proofs.Accepting.{accepted_holds}
 
 -- ---- each record

@@ -30,10 +30,11 @@ use Rattle.declarations.specs.Declarations.{Range, range, trimmed, first_word, r
 use Rattle.declarations.specs.Declarations.{Names, names, NameCaps, name_caps, state, behind_name, add_state, repeat_state, state_named, declare_state, state_names, expected, is_quoted, declare_expected, expected_names, Declared, Caps, with_names, with_expected, then_at}
 use Rattle.declarations.proofs.Expecting.{quotes_long}
 use Rattle.declarations.proofs.Lines.{names_within}
-use Rattle.parsed_sheet.specs.Accepted.{Each, Fits, StateHolds, ExpectedHolds, StatesHold, ExpectedsHold}
+use Rattle.area.specs.Lists.{Each}
+use Rattle.parsed_sheet.specs.Accepted.{Fits, StateHolds, ExpectedHolds, StatesHold, ExpectedsHold}
 use Rattle.fault.proofs.Yielding.{Yields, yields_next, yields_onto, yields_written, yields_loop}
 use Rattle.parsed_sheet.proofs.Appending.{yields_append}
-use Rattle.parsed_sheet.proofs.Elements.{each_snoc}
+use Rattle.area.proofs.Elements.{each_snoc}
 use Rattle.parsed_sheet.proofs.Places.{declaration_to, word_to}
 
 -- ---- the names of states

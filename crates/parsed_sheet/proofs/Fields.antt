@@ -16,7 +16,7 @@ use Rattle.section.specs.Request.{Request}
 use Rattle.parse.specs.Parse.{Contents, Caps, outcome, accepted}
 use Rattle.area.specs.Lists.{all}
 use Rattle.parsed_sheet.specs.Accepted.{StateHolds, ExpectedHolds, EntryHolds, RuleHolds, FieldsFit, is_field}
-use Rattle.parsed_sheet.proofs.Elements.{all_pass}
+use Rattle.area.proofs.Elements.{all_pass}
 use Rattle.parsed_sheet.proofs.Accepting.{accepted_holds, accepted_short}
 
 field_more : (v : ℕ) (vs : List ℕ) → v ≤ 65535 → all is_field vs ≡ true → all is_field (v ∷ vs) ≡ true

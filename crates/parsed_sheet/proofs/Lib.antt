@@ -1,5 +1,4 @@
 pub mod Appending
-pub mod Elements
 pub mod Places
 pub mod ByteLists
 pub mod Declaring

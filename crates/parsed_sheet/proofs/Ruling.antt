@@ -43,7 +43,7 @@ use Rattle.area.specs.Lists.{all}
 use Rattle.parsed_sheet.specs.Accepted.{Fits, RuleHolds, EntryHolds, RulesHold, EntriesHold, TextHolds, is_byte}
 use Rattle.fault.proofs.Yielding.{Yields, yields_next, yields_onto, yields_loop}
 use Rattle.parsed_sheet.proofs.Appending.{yields_append}
-use Rattle.parsed_sheet.proofs.Elements.{each_snoc, each_weaken}
+use Rattle.area.proofs.Elements.{each_snoc, each_weaken}
 use Rattle.parsed_sheet.proofs.Places.{rule_to, pattern_to}
 use Rattle.parsed_sheet.proofs.ByteLists.{unescaped_bytes}
 use Rattle.parsed_sheet.proofs.Headings.{HeadHolds, heading_holds}

@@ -1,6 +1,6 @@
 -- What holds of the contents that an accepted parse yields: of each record by its place in its list, and of the lists as wholes (01, Areas,
 -- and the sheet check at the end of Linking).
-use Rattle.std.specs.Prelude.{ℕ, ◌+◌, ◌*◌, ◌≤◌, ◌<◌, ◌≡◌, Bool, true, cond, List, [], eqb, ltb, length, get_or}
+use Rattle.std.specs.Prelude.{ℕ, ◌+◌, ◌*◌, ◌≤◌, ◌<◌, ◌≡◌, Bool, true, cond, List, [], eqb, ltb, length}
 use Rattle.names.specs.Names.{DistinctNames}
 use Rattle.area.specs.declared.State.{State}
 use Rattle.area.specs.declared.Rule.{Rule}
@@ -10,7 +10,7 @@ use Rattle.area.specs.Contents.{Format, Held, state_format, rule_format, entry_f
 use Rattle.declarations.specs.Declarations.{state}
 use Rattle.parse.specs.Parse.{Contents, Caps, Left, counts_of}
 use Rattle.sheet_check.specs.SheetCheck.{SheetBytes, sheet_bytes}
-use Rattle.area.specs.Lists.{all}
+use Rattle.area.specs.Lists.{all, Each}
 
 -- a number that fits a byte, and one that fits a field (01, the introduction)
 abbrev pub is_byte : ℕ → Bool
@@ -18,10 +18,6 @@ is_byte v = ltb v 256
 
 abbrev pub is_field : ℕ → Bool
 is_field v = ltb v 65536
-
--- P holds of each element of the list and its place; d is what stands past the end
-pub record Each {A : Type 0} (P : ℕ → A → Type 0) (d : A) (xs : List A) : Type 0 where
-  pub at : (j : ℕ) → j < length xs → P j (get_or xs j d)
 
 -- a list passes neither the limit of its area nor the cap bytes of it (01, Numbers given at the counter, 4)
 pub record Fits {A : Type 0} (F : Format A) (cap : ℕ) (xs : List A) : Type 0 where

@@ -19,6 +19,7 @@ use Rattle.area.specs.declared.Fault.{Fault}
 use Rattle.area.specs.Areas.{room}
 use Rattle.area.specs.Contents.{append, contents, rule_format, text_format}
 use Rattle.area.proofs.Contents.{rule_sound, contents-length}
+use Rattle.area.proofs.Elements.{each_snoc}
 use Rattle.fault.specs.declared.Stop.{Stop}
 use Rattle.fault.specs.Step.{Out, go, bad, full, next, onto, written, outcome, Does}
 use Rattle.fault.specs.Faults.{add_fault, add_repeat, DuplicateName, RegexError, VerbatimNotSupported}
@@ -26,7 +27,7 @@ use Rattle.fault.proofs.Steps.{was_ok}
 use Rattle.fault.proofs.Yielding.{Yields, yields_onto}
 use Rattle.names.specs.Names.{DistinctNames}
 use Rattle.names.specs.Marks.{EndsInside, NamesInside}
-use Rattle.names.proofs.Distinct.{Unused, distinct_more, inside_more}
+use Rattle.names.proofs.Distinct.{Unused, distinct_more}
 use Rattle.section.specs.Request.{Request}
 use Rattle.escape.specs.Escape.{unescaped}
 use Rattle.rules.specs.declared.Head.{Head}
@@ -49,17 +50,11 @@ pub data Extends (s : List ℕ) (xs ys : List Rule) : Type 0 where
   same : ys ≡ xs → Extends s xs ys
   more : (x : Rule) → Unused s xs x.named x.name_from x.name_length → EndsInside s x → ys ≡ xs ++ (x ∷ []) → Extends s xs ys
 
-extends_first : {s : List ℕ} {xs ys : List Rule} → Extends s xs ys → take (length xs) ys ≡ xs
-extends_first {xs = xs} (same q) = ap (take (length xs)) q ∙ take-length xs
-extends_first {xs = xs} (more x u n q) = ap (take (length xs)) q ∙ take-append_seam xs (x ∷ [])
-
-extends_distinct : {s : List ℕ} {xs ys : List Rule} → DistinctNames s xs → Extends s xs ys → DistinctNames s ys
-extends_distinct {s} d (same q) = subst⁻¹ (DistinctNames s) q d
-extends_distinct {s} {xs} d (more x u n q) = subst⁻¹ (DistinctNames s) q (distinct_more s xs x d u)
-
-extends_inside : {s : List ℕ} {xs ys : List Rule} → NamesInside s xs → Extends s xs ys → NamesInside s ys
-extends_inside {s} i (same q) = subst⁻¹ (NamesInside s) q i
-extends_inside {s} {xs} i (more x u n q) = subst⁻¹ (NamesInside s) q (inside_more s xs x i n)
+-- so what holds of the rules before it, and of them with such a rule behind them, holds of the rules after it
+extends_keeps : {s : List ℕ} {xs ys : List Rule} (P : List Rule → Type 0) → P xs
+    → ((x : Rule) → Unused s xs x.named x.name_from x.name_length → EndsInside s x → P (xs ++ (x ∷ []))) → Extends s xs ys → P ys
+extends_keeps P h f (same q) = subst⁻¹ P q h
+extends_keeps P h f (more x u n q) = subst⁻¹ P q (f x u n)
 
 -- where the step goes on, the rules in its state extend the rules xs
 abbrev YieldsExtended : {S : Type 0} → List ℕ → List Rule → (S → List Rule) → Out S → Type 0
@@ -144,20 +139,27 @@ module _ (asked : Request) (xs : List State) (k : Caps) (c6 i e : ℕ) (ordered 
     {l2 l3 l4 l6 v2 v3 v4 v6 : List ℕ} {q : RuleCounts} (h : HeldRuled l2 l3 l4 l6 q)
     (r : Result ℕ Stop) (p : RuleCounts)
     (d : Does (HeldRuled v2 v3 v4 v6) (line asked xs k c6 i e) (ruled_in l2 l3 l4 l6 q) (ruled_in v2 v3 v4 v6) (outcome r p)) {j : ℕ} (z : r ≡ Ok j) where
-  extended : Extends asked.source (contents rule_format l2 q.sheet.rules) (contents rule_format v2 p.sheet.rules)
+  abbrev before : List Rule
+  before = contents rule_format l2 q.sheet.rules
+
+  abbrev after : List Rule
+  after = contents rule_format v2 p.sheet.rules
+
+  extended : Extends asked.source before after
   extended =
-      let before = ruled_in l2 l3 l4 l6 q in
-      subst (Lines asked xs k c6 i e ordered l before) (was_ok r p d z) (line_extends asked xs k c6 i e ordered l before)
+      let ruled = ruled_in l2 l3 l4 l6 q in
+      subst (Lines asked xs k c6 i e ordered l ruled) (was_ok r p d z) (line_extends asked xs k c6 i e ordered l ruled)
 
   -- the rules that were there before it are the first ones
-  pub rules_kept : take q.sheet.rules (contents rule_format v2 p.sheet.rules) ≡ contents rule_format l2 q.sheet.rules
+  pub rules_kept : take q.sheet.rules after ≡ before
   rules_kept =
-      ap (λ (n : ℕ). take n (contents rule_format v2 p.sheet.rules)) (sym (contents-length rule_sound h.sheet.rules)) ∙ extends_first extended
+      ap (λ (n : ℕ). take n after) (sym (contents-length rule_sound h.sheet.rules))
+      ∙ extends_keeps (λ (ys : List Rule). take (length before) ys ≡ before) (take-length before) (λ x _ _. take-append_seam before (x ∷ [])) extended
 
   -- distinct names stay distinct
-  pub names_kept : DistinctNames asked.source (contents rule_format l2 q.sheet.rules) → DistinctNames asked.source (contents rule_format v2 p.sheet.rules)
-  names_kept names = extends_distinct names extended
+  pub names_kept : DistinctNames asked.source before → DistinctNames asked.source after
+  names_kept d = extends_keeps (DistinctNames asked.source) d (λ x u _. distinct_more asked.source before x d u) extended
 
   -- and names stay inside the source
-  pub inside_kept : NamesInside asked.source (contents rule_format l2 q.sheet.rules) → NamesInside asked.source (contents rule_format v2 p.sheet.rules)
-  inside_kept inside = extends_inside inside extended
+  pub inside_kept : NamesInside asked.source before → NamesInside asked.source after
+  inside_kept i = extends_keeps (NamesInside asked.source) i (λ x _ n. each_snoc (λ _ y. EndsInside asked.source y) rule_format.blank before x i n) extended

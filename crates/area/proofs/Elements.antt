@@ -8,9 +8,8 @@ use native.Mathlib.Nat.{not-suc-le-zero, eq-or-lt_of_le}
 use native.Mathlib.Omega.{arith}
 use lib.ListN.{length, get_or, length-append, get_or-append}
 use lib.Seq.{get_or-append_seam}
-use Rattle.area.specs.Lists.{all}
+use Rattle.area.specs.Lists.{all, Each}
 use Rattle.area.proofs.All.{all_from}
-use Rattle.parsed_sheet.specs.Accepted.{Each}
 
 -- a place in a list with one element more is one of the list, or the last
 pub place_cases : {A : Type 0} (x : A) (xs : List A) (j : ℕ) → j < length (xs ++ (x ∷ [])) → {B : Type 0} → (j < length xs → B) → (j ≡ length xs → B) → B
