@@ -45,24 +45,30 @@ room_fewer w limit cap n m k h e =
     let f : (n + k) * w ≤ (n + m) * w = mul-le-mul_right w g in
     room_yes w limit cap n k (omega (arith, room_few w limit cap n m e)) (omega (arith, f, room_fits w limit cap n m e))
 
--- ---- the test for room, made by a record's own numbers
+-- ---- the test for room
 
-module _ {A : Type 0} {F : Format A} {name : AreaName} {width most : ℕ} (s : Sized F name width most) (n m : ℕ) {limit : ℕ} (is : limit ≡ most) where
-  pub room_over : (cap : ℕ) → limit < n + m → false ≡ room F.width F.most cap n m
+module _ (w limit cap n m : ℕ) where
+  pub room_over : limit < n + m → false ≡ room w limit cap n m
   unfolding room
-  room_over cap h = rw (lt-leb (n + m) F.most (omega (arith, h, is, s.most_is))) refl
+  room_over h = rw (lt-leb (n + m) limit h) refl
 
-  module _ {w : ℕ} (w_is : w ≡ width) (h : n + m ≤ limit) where
-    pub room_within : (cap : ℕ) → leb ((n + m) * w) cap ≡ room F.width F.most cap n m
-    unfolding room
-    room_within cap = rw (w_is, s.width_is, le-leb (n + m) F.most (omega (arith, h, is, s.most_is))) refl
+  pub room_within : n + m ≤ limit → leb ((n + m) * w) cap ≡ room w limit cap n m
+  unfolding room
+  room_within h = rw (le-leb (n + m) limit h) refl
 
-    -- the product that it computes cannot wrap
-    pub product_fits : Fits w64 ((n + m) * w)
-    product_fits =
-        let few : n + m ≤ 65535 = omega (arith, h, is, s.most_is, s.few) in
-        let narrow : w ≤ 28 = omega (arith, w_is, s.width_is, s.narrow) in
-        record { fits = omega (arith, mul-le-mul few narrow) }
+-- the product that it computes cannot wrap
+pub product_fits : (w limit a : ℕ) → w ≤ 28 → limit ≤ 65535 → a ≤ limit → Fits w64 (a * w)
+product_fits w limit a narrow few h =
+    let small : a ≤ 65535 = omega arith in
+    record { fits = omega (arith, mul-le-mul small narrow) }
+
+-- made by a record's own numbers
+module _ {A : Type 0} {F : Format A} {name : AreaName} {width most : ℕ} (s : Sized F name width most) {w limit : ℕ} (w_is : w ≡ width) (is : limit ≡ most) where
+  pub room_asked : (w ≤ 28) × (limit ≤ 65535)
+  room_asked = (omega (arith, w_is, s.width_is, s.narrow), omega (arith, is, s.most_is, s.few))
+
+  pub room_told : (cap n m : ℕ) (t : Bool) → t ≡ room w limit cap n m → t ≡ room F.width F.most cap n m
+  room_told cap n m t e = e ∙ (λ i. room ((w_is ∙ s.width_is) i) ((is ∙ s.most_is) i) cap n m)
 
 -- ---- a test for room that came out true, or false
 

@@ -413,19 +413,26 @@ impl Record for u8 {
 
 // ---- records, appended
 
-// Whether m records more, behind n, fit an area of that length and do not pass its limit. The limit comes first, so that the product
+// Whether m records of a width more, behind n, fit an area of that length and do not pass a limit. The limit comes first, so that the product
 // cannot wrap.
-pub fn has_room<R: Record>(length: usize, n: usize, m: usize) -> bool
-    ensures { result ≡ room R.format.width R.format.most length n m }
+pub fn has_room_of_width(length: usize, width: usize, limit: usize, n: usize, m: usize) -> bool
+    requires { (width ≤ 28) × (limit ≤ 65535) }
+    ensures { result ≡ room width limit length n m }
 {
-    let limit = R::MOST;
     if limit < n {
         return false;
     }
     if limit - n < m {
         return false;
     }
-    (n + m) * R::WIDTH <= length
+    (n + m) * width <= length
+}
+
+// The same of the records of an area.
+pub fn has_room<R: Record>(length: usize, n: usize, m: usize) -> bool
+    ensures { result ≡ room R.format.width R.format.most length n m }
+{
+    has_room_of_width(length, R::WIDTH, R::MOST, n, m)
 }
 
 // A record behind n others.

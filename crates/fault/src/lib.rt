@@ -112,14 +112,22 @@ fn next_number(spans: &Records<Fault>) -> u16
     last.number + 1
 }
 
-// A fault of one span behind the others. The area that is lent stays beside its count: in a struct of both there would be a parameter less and, at
-// each function, a promise more that the same bytes are lent.
+// A fault of one span behind the others, of the kind of a number, which may be any. The area that is lent stays beside its count: in a struct of both
+// there would be a parameter less and, at each function, a promise more that the same bytes are lent.
+pub fn add_fault_by_number(area: &mut [u8], n: u16, kind: u16, span: Span) -> Result<u16, AreaFull>
+    requires { HeldFaults area.old n }
+    ensures { GrowsFaults (add_fault (length area.old) kind span.start span.end) area.old n result area.new }
+{
+    let number = next_number(&Records::new(area, n));
+    push(area, n, fault_of(number, kind, span))
+}
+
+// The same of a kind.
 pub fn add_fault(area: &mut [u8], n: u16, kind: LexErrorKind, span: Span) -> Result<u16, AreaFull>
     requires { HeldFaults area.old n }
     ensures { GrowsFaults (add_fault (length area.old) (kind_number kind) span.start span.end) area.old n result area.new }
 {
-    let number = next_number(&Records::new(area, n));
-    push(area, n, fault_of(number, u16::from(kind), span))
+    add_fault_by_number(area, n, u16::from(kind), span)
 }
 
 // Whether the span j is the first of its fault.
@@ -197,8 +205,26 @@ fn add_pair(area: &mut [u8], n: u16, kind: u16, first: Span, second: Span) -> Re
     Err(AreaFull(AreaName::Faults))
 }
 
-// The name at `first` is repeated at `second`: a span more of its fault, or a new fault of both spans.
+// The name at `first` is repeated at `second`: a span more of its fault, or a new fault of both spans. The kind is that of a number, which may be any.
 #[tactic(auto, using(crate::proofs::Spans::repeat_within))]
+pub fn add_duplicate_occurrence_by_number(
+    area: &mut [u8],
+    n: u16,
+    kind: u16,
+    first: Span,
+    second: Span,
+) -> Result<u16, AreaFull>
+    requires { HeldFaults area.old n }
+    ensures { GrowsFaults (add_repeat (length area.old) kind first.start first.end second.start second.end)
+        area.old n result area.new }
+{
+    match find_fault(&Records::new(area, n), kind, first) {
+        Some(j) => add_span(area, n, j, second),
+        None => add_pair(area, n, kind, first, second),
+    }
+}
+
+// The same of a kind.
 pub fn add_duplicate_occurrence(
     area: &mut [u8],
     n: u16,
@@ -210,9 +236,5 @@ pub fn add_duplicate_occurrence(
     ensures { GrowsFaults (add_repeat (length area.old) (kind_number kind) first.start first.end second.start second.end)
         area.old n result area.new }
 {
-    let code = u16::from(kind);
-    match find_fault(&Records::new(area, n), code, first) {
-        Some(j) => add_span(area, n, j, second),
-        None => add_pair(area, n, code, first, second),
-    }
+    add_duplicate_occurrence_by_number(area, n, u16::from(kind), first, second)
 }

@@ -1,13 +1,14 @@
 -- What the code of lines and columns goes by. No sentence of 02 is in this file, and no answer depends on it.
-use Rattle.std.specs.Prelude.{ℕ, ◌+◌, ◌≤◌, ◌<◌, ◌≡◌, Bool, true, false, ◌&&◌, ◌||◌, List, eqb, ltb, length}
+use Rattle.std.specs.Prelude.{ℕ, ◌+◌, ◌≤◌, ◌<◌, ◌≡◌, Bool, true, false, cond, ◌&&◌, ◌||◌, List, map, eqb, ltb, length}
 use Rattle.std.specs.Prelude.{Result, Ok, Option, MatchOption}
-use Rattle.characters.specs.Walk.{count}
+use Rattle.std.specs.Simd.Lanes.{chunk, mask_l}
+use Rattle.characters.specs.Walk.{last, count}
 use Rattle.characters.specs.Whitespace.{byte}
 use Rattle.lines.specs.declared.Byte.{Byte}
 use Rattle.lines.specs.declared.Place.{Place}
 use Rattle.lines.specs.declared.PlaceError.{PlaceError}
 use Rattle.lines.specs.declared.search.Reached.{Reached}
-use Rattle.lines.specs.Lines.{line_num, col_num, place, line_of, column_of}
+use Rattle.lines.specs.Lines.{line_feed, ends_line, behind_end, line_num, col_num, place, line_of, column_of}
 
 -- the range from i to e is inside the text, and has at most 64 bytes
 pub record ShortRange (s : List ℕ) (i e : ℕ) : Type 0 where
@@ -19,6 +20,15 @@ pub record ShortRange (s : List ℕ) (i e : ℕ) : Type 0 where
 abbrev pub Counts : (ℕ → Bool → Type 0) → List ℕ → ℕ → ℕ → ℕ → Type 0
 Counts answers s i e n =
     (passes : ℕ → Bool) → ((b : ℕ) (r : Bool) → answers b r → r ≡ passes b) → n ≡ count (λ k. passes (byte s k)) i e
+
+-- of the k bytes from i on, n stand up to the last line end
+pub record LastEnd (s : List ℕ) (i k n : ℕ) : Type 0 where
+  pub few : n ≤ k
+  pub is : behind_end (last (ends_line s) i (i + k)) ≡ cond (eqb n 0) 0 (i + n)
+
+-- a bit for each of the 64 bytes from i on, the first the lowest: 1 where a line ends
+abbrev pub end_bits : List ℕ → ℕ → ℕ
+end_bits s i = mask_l (map (λ b. eqb b line_feed) (chunk i 64 s))
 
 -- the line and column of any offset, allowed or not
 unfoldable pub place_at : List ℕ → ℕ → Place

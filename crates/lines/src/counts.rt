@@ -1,13 +1,16 @@
-// What is counted in a block. The counts look at every byte, so that the compiler can take many at once, and are one byte wide.
-ghost use Rattle.std.specs.Prelude.{◌≡◌, ◌≤◌, ◌<◌, ◌+◌, not, eqb, cond, length};
+// What is counted in a block. Line ends are counted and found in a whole block by one comparison of all its bytes. The other counts look at every byte,
+// so that the compiler can take many at once, and are one byte wide.
+ghost use Rattle.std.specs.Prelude.{◌≡◌, ◌≤◌, ◌<◌, ◌+◌, ◌-◌, not, eqb, cond, length};
 ghost use Rattle.answers.specs.Numbers.{most_source};
 ghost use Rattle.characters.specs.Utf8.{is_continuation, at_edge};
 ghost use Rattle.characters.specs.Walk.{last, count};
 ghost use Rattle.lines.specs.Lines.{line_feed, ends_line, behind_end};
-ghost use Rattle.lines.specs.Places.{ShortRange, Counts};
+ghost use Rattle.lines.specs.Places.{ShortRange, Counts, LastEnd, end_bits};
 
+use crate::places::BLOCK;
 use crate::{Byte, ColNum, LineByte};
 use characters::utf8::is_continuation;
+use std::simd::prelude::*;
 
 // A line ends at it only.
 const LINE_FEED: u8 = 0x0a;
@@ -62,10 +65,23 @@ impl Block<'_> {
         n
     }
 
+    // Which bytes of a whole block end a line: a bit each, the first byte the lowest.
+    fn end_bits(&self) -> u64
+        requires { self.now.to.0 ≡ self.now.from.0 + 64 }
+        ensures { result ≡ end_bits self.now.source.bytes.now self.now.from.0 }
+    {
+        u8x64::from_slice(&self.source.bytes[self.from.0..])
+            .simd_eq(u8x64::splat(LINE_FEED))
+            .to_bitmask()
+    }
+
     // How many lines end there.
     pub fn line_ends(&self) -> u8
         ensures { result ≡ count (ends_line self.now.source.bytes.now) self.now.from.0 self.now.to.0 }
     {
+        if self.to.0 - self.from.0 == BLOCK {
+            return self.end_bits().count_ones() as u8;
+        }
         self.count(ends_line)
     }
 
@@ -76,17 +92,30 @@ impl Block<'_> {
         self.count(starts_character)
     }
 
-    // Where the line starts that follows the last line end there; 0 where no line ends there. Every byte is looked at, as for the counts: by `find_last`
-    // a search from place to offset took up to 1.44 times as many instructions as before, on short lines.
-    #[tactic(auto, using(crate::proofs::Counting::seeking_line_start))]
-    pub fn line_byte(&self) -> LineByte
-        ensures { result.0 ≡ behind_end (last (ends_line self.now.source.bytes.now) self.now.from.0 self.now.to.0) }
+    // How many of its bytes come up to the last line end, with it; 0 where no line ends there. In a short block too every byte is looked at: by
+    // `find_last` a search from place to offset took up to 1.44 times as many instructions as before, on short lines.
+    #[tactic(auto, using(crate::proofs::Counting::seeking_last_end))]
+    fn up_to_last_end(&self) -> u8
+        ensures { LastEnd self.now.source.bytes.now self.now.from.0 (self.now.to.0 - self.now.from.0) result }
     {
+        if self.to.0 - self.from.0 == BLOCK {
+            let bits = self.end_bits();
+            return if bits == 0 { 0 } else { bits.ilog2() as u8 + 1 };
+        }
         let bytes = &self.source.bytes[self.from.0..self.to.0];
         let mut passed = 0;
         for k in 0..bytes.len() {
             passed = up_to_end(bytes[k], k as u8).max(passed);
         }
+        passed
+    }
+
+    // Where the line starts that follows the last line end there; 0 where no line ends there.
+    #[tactic(auto, using(crate::proofs::Counting::seeking_line_start))]
+    pub fn line_byte(&self) -> LineByte
+        ensures { result.0 ≡ behind_end (last (ends_line self.now.source.bytes.now) self.now.from.0 self.now.to.0) }
+    {
+        let passed = self.up_to_last_end();
         if passed == 0 {
             return LineByte(0);
         }

@@ -30,7 +30,8 @@ impl Place {
             | ((self.line_num == other.line_num) & (self.col_num > other.col_num))
     }
 
-    // The place of the block's end, where this is that of its start.
+    // The place of the block's end, where this is that of its start. In line, so that the compiler knows which blocks are whole.
+    #[inline(always)]
     pub(crate) fn behind(self, block: &Block) -> Place
         requires { self ≡ place_at block.now.source.bytes.now block.now.from.0 }
         ensures { result ≡ place_at block.now.source.bytes.now block.now.to.0 }

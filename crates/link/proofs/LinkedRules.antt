@@ -72,12 +72,12 @@ module _ (name : Rule → List ℕ) (es : List Entry) (l : List ℕ) where
     by_name named =
         F.each k h (ap is_named (sym as_before) ∙ named) ∙ ap (λ (w : Rule). found_entry es (name w)) (sym as_before)
 
-    pub rules_next : count * rule_width ≤ length a → (y : Rule) (e : List ℕ)
-        → y ≡ link_to es (get_or found k None) x → e ≡ sets a (k * rule_width) (rule_bytes y) → e ≡ linked_to (k + 1)
+    pub rules_next : count * rule_width ≤ length a → (o : Option ℕ) → o ≡ get_or found k None → (y : Rule) (e : List ℕ)
+        → y ≡ link_to es o x → e ≡ sets a (k * rule_width) (rule_bytes y) → e ≡ linked_to (k + 1)
     unfolding link_rules
-    rules_next long y e z p =
+    rules_next long o same y e z p =
         after_next rule_sound rule_local (link_rule name es) l k a is x y e (record_fits rule_width (length a) count k h long) read
-        (z ∙ linked_by name es (get_or found k None) x by_name) p
+        (z ∙ linked_by name es o x (λ named. same ∙ by_name named)) p
 
   pub rules_all : (k count : ℕ) (a : List ℕ) → a ≡ linked_to k → count ≤ k → k ≤ count → a ≡ linked_to count
   rules_all k count a is h g =

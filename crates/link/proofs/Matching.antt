@@ -24,7 +24,6 @@ use Rattle.area.specs.Lists.{all, numbers}
 use Rattle.area.proofs.All.{all_one_more}
 use Rattle.area.proofs.Numbers.{numbers_same, count_none, count_yes, count_no}
 use Rattle.name_map.specs.Map.{most_entries, Entry, nth, find_entry, found_entry, id_at, id_of, distinct}
-use Rattle.link.specs.declared.matches.Matches.{Matches}
 use Rattle.link.specs.Link.{is_named, is_none, is_unmapped, has_that_name, is_unused, unmapped, unused}
 use Rattle.link.specs.Matches.{unmarked, FoundInside, EntriesFound, Matched}
 use Rattle.name_map.proofs.Maps.{some_found, none_found, entry_first}
@@ -212,31 +211,33 @@ unmarked_unused name es xs used U =
 
 -- ---- the loop over the rules
 
-abbrev pub matches : ℕ → List (Option ℕ) → List Bool → Matches
-matches n found used = record { unmapped_count = n; found = found; used = used }
-
 module _ (name : Rule → List ℕ) (es : List Entry) (xs : List Rule) where
   abbrev test : ℕ → Bool
   test k = is_unmapped name es (nth_rule xs k)
 
-  pub record Matching (k : ℕ) (m : Matches) : Type 0 where
-    pub missing : m.unmapped_count ≡ length (numbers (λ j. is_unmapped name es (nth_rule xs j)) k)
-    pub entries : Finding name es xs k m.found
-    pub marks : EntriesMarked name es xs k m.used
+  pub record Matching (k n : ℕ) (found : List (Option ℕ)) (used : List Bool) : Type 0 where
+    pub missing : n ≡ length (numbers (λ j. is_unmapped name es (nth_rule xs j)) k)
+    pub entries : Finding name es xs k found
+    pub marks : EntriesMarked name es xs k used
 
-  pub matching_none : Matching 0 (matches 0 (replicate most_rules None) (replicate most_entries false))
-  matching_none = record { missing = count_none test; entries = found_none name es xs; marks = marked_none name es xs }
+  pub matching_none : (found : List (Option ℕ)) (used : List Bool) → found ≡ replicate most_rules None → used ≡ replicate most_entries false
+      → Matching 0 0 found used
+  matching_none found used no_entry no_mark = record {
+    missing = count_none test;
+    entries = subst (Finding name es xs 0) (sym no_entry) (found_none name es xs);
+    marks = subst (EntriesMarked name es xs 0) (sym no_mark) (marked_none name es xs);
+  }
 
-  module _ {k : ℕ} {m : Matches} (M : Matching k m) where
+  module _ {k n : ℕ} {found : List (Option ℕ)} {used : List Bool} (M : Matching k n found used) where
     module _ (h : k < length xs) (x : Rule) (is : x ≡ nth_rule xs k) where
       here : (P : Rule → Type 0) → P x → P (nth_rule xs k)
       here P p = subst P is p
 
-      pub matching_unnamed : is_named x ≡ false → Matching (k + 1) m
+      pub matching_unnamed : is_named x ≡ false → Matching (k + 1) n found used
       matching_unnamed unnamed =
           let e : is_named (nth_rule xs k) ≡ false = here (λ y. is_named y ≡ false) unnamed in
           record {
-            missing = count_no test k m.unmapped_count M.missing (unnamed_mapped name es (nth_rule xs k) e);
+            missing = count_no test k n M.missing (unnamed_mapped name es (nth_rule xs k) e);
             entries = found_kept name es xs M.entries (λ named. absurd (false≢true (sym e ∙ named)));
             marks = marked_kept name es xs M.marks h (λ j _. unnamed_lacks name es (nth_rule xs k) e (nth es j).name);
           }
@@ -246,33 +247,33 @@ module _ (name : Rule → List ℕ) (es : List Entry) (xs : List Rule) where
         named_here = here (λ y. is_named y ≡ true) named
 
         pub matching_found : (j : ℕ) → Some j ≡ found_entry es (name x) → k < most_rules → j < most_entries
-            → Matching (k + 1) (matches m.unmapped_count (set m.found k (Some j)) (set m.used j true))
-        matching_found j is_found few room =
+            → (m : List (Option ℕ)) → m ≡ set found k (Some j) → Matching (k + 1) n m (set used j true)
+        matching_found j is_found few room m is_set =
             let own : Some j ≡ found_entry es (name (nth_rule xs k)) = here (λ y. Some j ≡ found_entry es (name y)) is_found in
             let at = some_found es (name (nth_rule xs k)) j own in
             record {
-              missing = count_no test k m.unmapped_count M.missing (found_mapped name es (nth_rule xs k) named_here j at.1 at.0);
-              entries = found-set name es xs M.entries j few at.0 own;
+              missing = count_no test k n M.missing (found_mapped name es (nth_rule xs k) named_here j at.1 at.0);
+              entries = subst (Finding name es xs (k + 1)) (sym is_set) (found-set name es xs M.entries j few at.0 own);
               marks = marked-set name es xs M.marks h different named_here j at.1 room;
             }
 
-        pub matching_missing : None ≡ found_entry es (name x) → Matching (k + 1) (matches (m.unmapped_count + 1) m.found m.used)
+        pub matching_missing : None ≡ found_entry es (name x) → Matching (k + 1) (n + 1) found used
         matching_missing is_found =
             let own : None ≡ found_entry es (name (nth_rule xs k)) = here (λ y. None ≡ found_entry es (name y)) is_found in
             let past : length es ≤ find_entry es (name (nth_rule xs k)) = none_found es (name (nth_rule xs k)) own in
             record {
-              missing = count_yes test k m.unmapped_count M.missing (missing_unmapped name es (nth_rule xs k) named_here (find_entry es (name (nth_rule xs k))) refl past);
+              missing = count_yes test k n M.missing (missing_unmapped name es (nth_rule xs k) named_here (find_entry es (name (nth_rule xs k))) refl past);
               entries = found_kept name es xs M.entries (λ _. own);
               marks = marked_missing name es xs M.marks h different named_here (find_entry es (name (nth_rule xs k))) refl past;
             }
 
-    pub matched : length xs ≤ k → k ≤ length xs → Matched name es xs m
+    pub matched : length xs ≤ k → k ≤ length xs → Matched name es xs n found used
     unfolding unmapped
     matched h g =
         let q : k ≡ length xs = omega (arith, h, g) in
         record {
-          missing = M.missing ∙ ap (λ (n : ℕ). length (numbers test n)) q;
-          kept = subst (λ (n : ℕ). EntriesFound name es xs n m.found) q M.entries.kept;
+          missing = M.missing ∙ ap (λ (m : ℕ). length (numbers test m)) q;
+          kept = subst (λ (m : ℕ). EntriesFound name es xs m found) q M.entries.kept;
           inside = M.entries.inside;
-          without_mark = unmarked_unused name es xs m.used (subst (λ (n : ℕ). EntriesMarked name es xs n m.used) q M.marks);
+          without_mark = unmarked_unused name es xs used (subst (λ (m : ℕ). EntriesMarked name es xs m used) q M.marks);
         }

@@ -13,9 +13,10 @@ use crate::matches::match_rules;
 use crate::numbers::{count_unused, write_unlinked, write_unused};
 use crate::rule_ids::link_rules;
 use crate::{LinkArea, LinkError, Linked};
-use area::Record;
 use area::list::Records;
-use name_map::index::{NameIndex, SLOTS, check_map};
+use area::{Record, Rule};
+use name_map::MapEntry;
+use name_map::index::{NameIndex, SLOTS, Slot, check_map};
 use sheet_check::Sheet;
 use sheet_check::check::check;
 
@@ -30,7 +31,9 @@ fn check_room(area: &[u8], count: u16, which: LinkArea) -> Result<(), LinkError>
     Ok(())
 }
 
-// A sheet and a map that passed their checks. Area 7 is written from what the rules have become.
+// A sheet and a map that passed their checks. Area 7 is written from what the rules have become. It is not built into its caller, so that the check
+// of the sheet does not stand on the stack above these two arrays.
+#[inline(never)]
 fn link_checked(
     src: &[u8],
     area2: &mut [u8],
@@ -46,17 +49,19 @@ fn link_checked(
 {
     let entries = index.map.entries.len();
     let lent = Records::new(area2, rules);
-    let matches = match_rules(src, &lent, index);
-    check_room(area7, matches.unmapped_count, LinkArea::Unmapped)?;
-    let used = &matches.used[..entries];
-    let unused_count = count_unused(used);
+    let mut found = [Slot::FREE; Rule::MOST];
+    let mut used = [false; MapEntry::MOST];
+    let unmapped_count = match_rules(src, &lent, index, &mut found, &mut used);
+    check_room(area7, unmapped_count, LinkArea::Unmapped)?;
+    let marks = &used[..entries];
+    let unused_count = count_unused(marks);
     check_room(area8, unused_count, LinkArea::Unused)?;
-    write_unused(used, area8);
-    link_rules(area2, rules, &index.map, &matches.found);
+    write_unused(marks, area8);
+    link_rules(area2, rules, &index.map, &found);
     let linked = Records::new(area2, rules);
     write_unlinked(&linked, area7);
     Ok(Linked {
-        unmapped_count: matches.unmapped_count,
+        unmapped_count,
         unused_count,
     })
 }
@@ -91,7 +96,7 @@ pub fn set_rule_ids_spanned(
         return Err(LinkError::BrokenSheet);
     }
     let rules = sheet.sizes().rules;
-    let mut slots = [None; SLOTS];
+    let mut slots = [Slot::FREE; SLOTS];
     let Some(map) = check_map(names, entries, &mut slots) else {
         return Err(LinkError::BrokenMap);
     };

@@ -24,6 +24,9 @@ use Rattle.name_map.specs.Index.{slot_count, Taken, HasSlot, EntrySlots, FreeFor
 use Rattle.name_map.specs.Phrases.{map_in, MapChecked}
 use Rattle.name_map.proofs.Maps.{entry_first, distinct_read, found_some, found_none}
 
+number_same : (i j : ℕ) → Some i ≡ Some j → i ≡ j
+number_same i j q = ap (λ (o : Option ℕ). unwrap_or o i) q
+
 -- ---- the search; the loop stands at p
 
 module _ (es : List Entry) (slots : List (Option ℕ)) (name : List ℕ) where
@@ -39,6 +42,24 @@ module _ (es : List Entry) (slots : List (Option ℕ)) (name : List ℕ) where
     pub each : (q : ℕ) → home_of name ≤ q → q < p → TakenByOther q
 
   module _ (p : ℕ) (P : Passed p) where
+    pub passed_next : p < slot_count → (j : ℕ) → get_or slots p None ≡ Some j → same_bytes (nth es j).name name ≡ false → Passed (p + 1)
+    passed_next inside j has differs = record {
+      from = omega (arith, P.from);
+      to = omega (arith, inside);
+      each = λ q a b. ⊎_elim
+          (λ w.
+          let z : p ≡ q = omega (arith, b, w) in
+          subst TakenByOther z by_other)
+          (λ w. P.each q a w)
+          (le_or_lt p q);
+    }
+      where
+        by_other : TakenByOther p
+        by_other = record {
+          taken = ap is_some has;
+          other = λ i e. subst (λ (k : ℕ). same_bytes (nth es k).name name ≡ false) (number_same j i (sym has ∙ e)) differs;
+        }
+
     module _ (n : ℕ) (S : EntrySlots es n slots) (inside : p < slot_count) (free : get_or slots p None ≡ None) where
       -- an entry of the name would have a slot that was passed
       not_any : (i : ℕ) → i < n → (nth es i).name ≡ name → ⊥
@@ -65,9 +86,6 @@ module _ (es : List Entry) (slots : List (Option ℕ)) (name : List ℕ) where
 -- a slot is not both free and taken
 none_some : {i : ℕ} → None ≡ Some i → ⊥
 none_some q = false≢true (ap is_some q)
-
-number_same : (i j : ℕ) → Some i ≡ Some j → i ≡ j
-number_same i j q = ap (λ (o : Option ℕ). unwrap_or o i) q
 
 module _ (es : List Entry) where
   pub slots_none : (l : List (Option ℕ)) → l ≡ replicate slot_count None → EntrySlots es 0 l
@@ -183,10 +201,10 @@ module _ (es : List Entry) (l : List (Option ℕ)) where
     came : (q : Option Probed) → r ≡ q → Probes es j l (nth es j).name q
     came q e = subst (Probes es j l (nth es j).name) e N.answer
 
-    pub indexed_free : length l ≡ slot_count → (p : ℕ) → r ≡ Some (Free p) → EntryIndexed es j true (set l p (Some j))
-    indexed_free long p e =
+    pub indexed_free : length l ≡ slot_count → (p : ℕ) → r ≡ Some (Free p) → (m : List (Option ℕ)) → m ≡ set l p (Some j) → EntryIndexed es j true m
+    indexed_free long p e m is =
         let free : FreeFor es j l (nth es j).name p = came (Some (Free p)) e in
-        record { is = first_new es j N.inside free.none; slots = λ _. slots_set es j l N.slots p free long }
+        record { is = first_new es j N.inside free.none; slots = λ _. subst (EntrySlots es (j + 1)) (sym is) (slots_set es j l N.slots p free long) }
 
     pub indexed_found : (i : ℕ) → r ≡ Some (Found i) → EntryIndexed es j false l
     indexed_found i e =

@@ -1,7 +1,8 @@
 -- An index of names; 01 has none. A slot has the number of an entry, or is free. A name is looked for from its home on, slot by slot, up to a free
 -- one; an entry is put into the free one.
-use Rattle.std.specs.Prelude.{◌≡◌, ℕ, ◌+◌, ◌<◌, ◌≤◌, Bool, true, false, List, length, ◌==◌, is_some, slice_index_or, Option, Some, None}
+use Rattle.std.specs.Prelude.{◌≡◌, ℕ, ◌+◌, ◌-◌, ◌<◌, ◌≤◌, Bool, true, false, cond, List, length, ◌==◌, is_some, slice_index_or, Option, Some, None}
 use Rattle.text.specs.Range.{same_bytes}
+use Rattle.name_map.specs.declared.index.Slot.{Slot}
 use Rattle.name_map.specs.declared.index.Probed.{Probed}
 use Rattle.name_map.specs.declared.index.Probed.TheVariants.{Free, Found}
 use Rattle.name_map.specs.Map.{Entry, nth, find_entry, distinct}
@@ -10,6 +11,10 @@ use Rattle.name_map.specs.Home.{home_of}
 -- how many slots there are
 abbrev pub slot_count : ℕ
 slot_count = 4608
+
+-- the entry that a slot has, by its number from 1 on; none where that is 0
+unfoldable pub entry_in : Slot → Option ℕ
+entry_in s = cond (s.0 == 0) None (Some (s.0 - 1))
 
 -- ---- the slots of entries
 

@@ -10,7 +10,7 @@ ghost use Rattle.text.specs.Range.{same_bytes};
 ghost use Rattle.name_map.specs.Map.{map_entry_at, entry_of, name_inside};
 
 use area::read_field;
-use text::range::part;
+use text::range::{part, same_bytes};
 
 // Where an entry's name stands in the names of the map, and its id.
 #[derive(Clone, Copy, Debug, PartialEq, Eq)]
@@ -56,11 +56,10 @@ impl MapEntry {
         part(names, self.name_from as usize, self.name_end())
     }
 
-    #[tactic(auto, using(text::proofs::Ranges::slices_compared))]
     pub fn has_name(self, names: &[u8], name: &[u8]) -> bool
         ensures { result ≡ same_bytes (entry_of names.now self).name name.now }
     {
-        self.name(names) == name
+        same_bytes(self.name(names), name)
     }
 
     // Whether its name lies inside n bytes of names.

@@ -60,10 +60,10 @@ module _ (s name : List ℕ) (x : Rule) where
     unfolding has_name
     rule_unnamed f a e is = rw (← tested, f) refl
 
-    pub rule_compared : t ≡ true → (z : ℕ) (r : Bool) → z ≡ x.name_from + x.name_length → r ≡ pointwise eqb name (slice_range s x.name_from z)
+    pub rule_compared : t ≡ true → (z : ℕ) (r : Bool) → z ≡ x.name_from + x.name_length → r ≡ same_bytes name (slice_range s x.name_from z)
         → (a e : ℕ) → name ≡ part s a e → r ≡ has_name s a e x
     unfolding has_name same_range part
-    rule_compared pass z r end q a e is = rw (← tested, pass, ← end, ← is) (slices_same name (slice_range s x.name_from z) name r refl q)
+    rule_compared pass z r end q a e is = rw (← tested, pass, ← end, ← is) q
 
 pub ruleset comparing_names = (rules, state_initial, state_other, other_length, rule_unnamed)
 

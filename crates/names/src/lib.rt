@@ -19,7 +19,7 @@ use area::list::Records;
 use area::{Rule, State};
 use characters::class::{is_digit, is_letter};
 use characters::walk::find_last;
-use text::range::{part, same_range};
+use text::range::{part, same_bytes, same_range};
 
 // The name of state 0.
 const INITIAL: &[u8] = b"INITIAL";
@@ -80,7 +80,7 @@ fn has_name(src: &[u8], name: &[u8], x: Rule) -> bool
     if x.name_length as usize != name.len() {
         return false;
     }
-    x.is_named() && name == &src[x.name_from as usize..x.name_end()]
+    x.is_named() && same_bytes(name, &src[x.name_from as usize..x.name_end()])
 }
 
 // The rules of a source so far, and the marks of their names. Names end inside the source, and no two are the same.

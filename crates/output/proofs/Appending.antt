@@ -1,13 +1,13 @@
 -- Appending to the text of a buffer: nothing, one text behind another, and the texts of a list. Once the buffer is full the text stays as it is, so
 -- that none of these laws asks for room.
 use mathlib.Core.Path.{◌≡◌, refl, sym, ap, ap₂, subst, ◌∙◌}
-use mathlib.Core.List.{List, [], ◌++◌, append_assoc, append-nil}
-use Prim.Native.Nat.{ℕ, ◌+◌, ◌-◌, ◌≤◌, min}
+use mathlib.Core.List.{List, [], ◌∷◌, ◌++◌, append_assoc, append-nil}
+use Prim.Native.Nat.{ℕ, ◌+◌, ◌-◌, ◌≤◌, ◌<◌, min}
 use native.Mathlib.Nat.{sub-zero}
 use native.Mathlib.Omega.{arith}
 use native.Mathlib.Numerals.{add-one}
-use lib.ListN.{length, take, length-append, length-take}
-use lib.Seq.{take_all, take-append-le, take-append-add}
+use lib.ListN.{length, take, set, length-append, length-take}
+use lib.Seq.{take_all, take-append-le, take-append-add, take-suc-set}
 use borrow.Rule.Slice.PartMut.{put_mid}
 use Rattle.std.specs.Borrow.{MutBor}
 use Rattle.std.proofs.Common.{inl, inr}
@@ -65,6 +65,22 @@ copied l s v n m k h z e =
     let room : length l - length (take n l) ≡ length l - n = omega (arith, length-take n l) in
     take-put_mid n k l v (n + m) (omega arith) h
     ∙ ap (λ (u : List ℕ). take n l ++ u) (e ∙ take_most m (length l - n) s z ∙ ap (λ (j : ℕ). take j s) (sym room))
+
+-- ---- a byte that is stored behind the first n, if there is room for it
+
+module _ (l : List ℕ) (n b : ℕ) where
+  pub byte_in : n < length l → take (n + 1) (set l n b) ≡ appended (length l) (take n l) (b ∷ [])
+  unfolding appended
+  byte_in h =
+      ap (λ (k : ℕ). take k (set l n b)) (add-one n)
+      ∙ take-suc-set l n b h
+      ∙ ap (λ (u : List ℕ). take n l ++ u) (sym (take_all (length l - length (take n l)) (b ∷ []) (omega (arith, length-take n l))))
+
+  pub byte_out : length l ≤ n → take n l ≡ appended (length l) (take n l) (b ∷ [])
+  unfolding appended
+  byte_out h =
+      let z : length l - length (take n l) ≡ 0 = omega (arith, length-take n l) in
+      sym (append-nil (take n l)) ∙ ap (λ (m : ℕ). take n l ++ take m (b ∷ [])) (sym z)
 
 -- ---- texts in a buffer
 

@@ -1,71 +1,37 @@
--- Numbers in decimal: the library prints them, and their digits spell them.
-use Prim.Native.Nat.{ℕ, ◌+◌, ◌*◌, ◌-◌, ◌/◌, ◌%◌, ◌^◌, ◌≤◌, ◌<◌}
-use mathlib.Core.Path.{◌≡◌, refl, sym, ap, ◌∙◌}
+-- Numbers in decimal: how they are appended, and that their digits spell them.
+use Prim.Native.Nat.{ℕ, ◌+◌, ◌*◌, ◌-◌, ◌/◌, ◌%◌, ◌≤◌, ◌<◌}
+use mathlib.Core.Path.{◌≡◌, refl, ap, ◌∙◌}
 use mathlib.Core.Bool.{Bool, true, false, cond}
 use mathlib.Core.List.{List, [], ◌∷◌, ◌++◌}
 use native.Mathlib.Omega.{arith}
 use lib.Dec.{ltb}
 use borrow.Author.Tests.{lt-ltb, le-ltb, ltb-true}
-use Rattle.std.specs.Fmt.{decimal as digits}
-use Rattle.std.proofs.Common.{inl, inr, mod-eq_of_lt}
-use Rattle.std.proofs.lemmas.Bool.{cases_lt}
-use Rattle.std.proofs.lemmas.Fmt.{decimal_digit, decimal_step}
 use Rattle.output.specs.declared.Text.{Text}
 use Rattle.output.specs.Output.{digit_at, tens, decimal, printed_field}
 use Rattle.output.specs.Text.{Appends}
-use Rattle.output.proofs.Appending.{appends_same, appends_then}
+use Rattle.output.proofs.Appending.{appends_none, appends_then}
 
--- ---- the library's digits of a number below 100,000
+-- ---- a number in decimal: the digits that it reaches, then the last
 
--- what stands before the digit at a power of ten
-unfoldable front : ℕ → ℕ → List ℕ
-front x power = cond (ltb x power) [] (digits (x / power))
+module _ (x power : ℕ) {a : Text} where
+  pub digit_none : x < power → Appends a a (digit_at x power)
+  unfolding digit_at
+  digit_none h = rw (lt-ltb x power h) (appends_none a)
 
--- and at the next power, which is ten times the first
-front_next : (x power next : ℕ) → (x < power → x < next) → (x < next → x / power < 10) → (next ≤ x → 10 ≤ x / power) → x / power / 10 ≡ x / next
-    → x / power < 2 ^ 64 → front x power ≡ front x next ++ digit_at x power
-unfolding front digit_at
-front_next x power next low one more e small = elim (cases_lt x power) [
-  | inl h ↦ rw (lt-ltb x power h, lt-ltb x next (low h)) refl
-  | inr h ↦ elim (cases_lt x next) [
-    | inl g ↦
-        let z : x / power % 10 ≡ x / power = mod-eq_of_lt (one g) in
-        rw (le-ltb x power h, lt-ltb x next g, z) (decimal_digit (x / power) (one g))
-    | inr g ↦ rw (le-ltb x power h, le-ltb x next g, ← e) (decimal_step (x / power) (more g) small)
-  ]
-]
+  pub digit_one : {b : Text} → power ≤ x → Appends a b ((48 + x / power % 10) ∷ []) → Appends a b (digit_at x power)
+  unfolding digit_at
+  digit_one h p = rw (le-ltb x power h) p
 
--- below 10 there is none
-front_ten : (x : ℕ) → 10 ≤ x → x < 100000 → digits (x / 10) ≡ tens x
-unfolding front tens
-front_ten x g h =
-    let e : front x 10 ≡ digits (x / 10) = rw (le-ltb x 10 g) refl in
-    let z : front x 100000 ≡ [] = rw (lt-ltb x 100000 h) refl in
-    let e5 = front_next x 10000 100000 (λ q. omega arith) (λ q. omega arith) (λ q. omega arith) (omega arith) (omega arith) in
-    let e4 = front_next x 1000 10000 (λ q. omega arith) (λ q. omega arith) (λ q. omega arith) (omega arith) (omega arith) in
-    let e3 = front_next x 100 1000 (λ q. omega arith) (λ q. omega arith) (λ q. omega arith) (omega arith) (omega arith) in
-    let e2 = front_next x 10 100 (λ q. omega arith) (λ q. omega arith) (λ q. omega arith) (omega arith) (omega arith) in
-    sym e ∙ e2 ∙ rw (e3, e4, e5, z) refl
+module _ (x : ℕ) {a b c d e : Text} where
+  pub tens_parts : Appends a b (digit_at x 10000) → Appends b c (digit_at x 1000) → Appends c d (digit_at x 100) → Appends d e (digit_at x 10)
+      → Appends a e (tens x)
+  unfolding tens
+  tens_parts p q r s = appends_then s (appends_then r (appends_then q p))
 
-tens_none : (x : ℕ) → x < 10 → tens x ≡ []
-unfolding tens digit_at
-tens_none x h = rw (lt-ltb x 10000 (omega arith), lt-ltb x 1000 (omega arith), lt-ltb x 100 (omega arith), lt-ltb x 10 h) refl
-
--- the digits that the library prints
-decimal_printed : (x : ℕ) → x < 100000 → digits x ≡ decimal x
-unfolding decimal
-decimal_printed x h = elim (cases_lt x 10) [
-  | inl g ↦
-      let z : x % 10 ≡ x = omega arith in
-      decimal_digit x g ∙ rw (z, tens_none x g) refl
-  | inr g ↦ decimal_step x g (omega arith) ∙ ap (λ (t : List ℕ). t ++ ((48 + x % 10) ∷ [])) (front_ten x g h)
-]
-
--- a blank, then the number
-pub field_printed : (x : ℕ) {a b c : Text} {d : List ℕ} → x < 100000 → d ≡ digits x → Appends a b (32 ∷ []) → Appends b c d
-    → Appends a c (printed_field x)
-unfolding printed_field
-field_printed x h e p q = appends_then (appends_same (e ∙ decimal_printed x h) q) p
+module _ (x : ℕ) {a b c d : Text} where
+  pub field_parts : Appends a b (32 ∷ []) → Appends b c (tens x) → Appends c d ((48 + x % 10) ∷ []) → Appends a d (printed_field x)
+  unfolding printed_field decimal
+  field_parts p q r = appends_then (appends_then r q) p
 
 -- ---- what is printed is the number: its digits spell it, for every number below 100,000
 

@@ -5,7 +5,6 @@ pub mod fields;
 
 ghost use Rattle.std.specs.Prelude.{◌≤◌, length};
 
-use itoa::Buffer;
 use text::range::part;
 
 // The first `count` bytes of a buffer.
@@ -17,9 +16,9 @@ pub struct Text<'a> {
 }
 
 impl<'a> Text<'a> {
-    ghost use Rattle.std.specs.Prelude.{◌≡◌, ◌∷◌, [], take};
+    ghost use Rattle.std.specs.Prelude.{◌≡◌, ◌<◌, ◌∷◌, [], take};
     ghost use Rattle.text.specs.Range.{part};
-    ghost use Rattle.output.specs.Output.{newline, printed_field};
+    ghost use Rattle.output.specs.Output.{newline, digit_at, tens, printed_field};
     ghost use Rattle.output.specs.Text.{text_in, Holds, Appends};
 
     pub fn new(bytes: &'a mut [u8]) -> Self
@@ -58,10 +57,14 @@ impl<'a> Text<'a> {
         self.push_text(part(s, from, to));
     }
 
+    // Stored here, and not by `push_text`: a line has many single bytes, and a copy of one costs several times as much.
     pub fn push_byte(&mut self, b: u8)
         ensures { Appends self.old self.new (b ∷ []) }
     {
-        self.push_text(&[b]);
+        if self.count < self.bytes.len() {
+            self.bytes[self.count] = b;
+            self.count += 1;
+        }
     }
 
     pub fn push_line_end(&mut self)
@@ -76,11 +79,32 @@ impl<'a> Text<'a> {
         self.push_byte(b' ');
     }
 
+    // The digit of x at a power of ten, if x reaches it.
+    fn push_digit(&mut self, x: u16, power: u16)
+        requires { 0 < power }
+        ensures { Appends self.old self.new (digit_at x power) }
+    {
+        if power <= x {
+            self.push_byte(b'0' + (x / power % 10) as u8);
+        }
+    }
+
+    // The digits before the last.
+    fn push_tens(&mut self, x: u16)
+        ensures { Appends self.old self.new (tens x) }
+    {
+        self.push_digit(x, 10000);
+        self.push_digit(x, 1000);
+        self.push_digit(x, 100);
+        self.push_digit(x, 10);
+    }
+
     // A number as a field: a blank and the number.
     pub fn push_field(&mut self, x: u16)
         ensures { Appends self.old self.new (printed_field x) }
     {
         self.push_blank();
-        self.push_text(Buffer::new().format(x).as_bytes());
+        self.push_tens(x);
+        self.push_byte(b'0' + (x % 10) as u8);
     }
 }

@@ -1,14 +1,29 @@
 -- The pieces of a source, one behind the other.
-use mathlib.Core.Path.{◌≡◌, refl, ◌∙◌}
-use mathlib.Core.List.{List}
+use mathlib.Core.Path.{◌≡◌, refl, sym, ◌∙◌}
+use mathlib.Core.List.{List, [], ◌∷◌}
 use Prim.Native.Nat.{ℕ, zero, suc, ◌+◌, ◌≤◌, ◌<◌}
 use native.Mathlib.Omega.{arith}
 use native.Mathlib.Numerals.{add-one}
 use lib.ListN.{length}
 use Rattle.output.specs.declared.Text.{Text}
+use Rattle.output.specs.Output.{joined}
 use Rattle.output.specs.Text.{Appends}
 use Rattle.output.proofs.Appending.{appends_none, appends_same, appends_then}
 use Rattle.recorded.specs.Records.{number_at, skip_to, bytes_at, bytes_end, repeated, piece_end, pieces, pieces_end, source_end}
+
+-- ---- a piece without bytes is nothing, however often it stands
+
+nothing : (n : ℕ) → joined (λ (_ : ℕ). []) n ≡ []
+unfolding joined
+nothing zero = refl
+nothing (suc n) = rw (nothing n) refl
+
+pub repeated_nothing : (n : ℕ) (v : List ℕ) → length v ≡ 0 → {a : Text} → Appends a a (repeated n v)
+unfolding repeated
+repeated_nothing n [] e {a} = appends_same (sym (nothing n)) (appends_none a)
+repeated_nothing n (x ∷ v) e {a} = absurd (omega arith)
+
+-- ---- one piece behind the other
 
 module _ (l : List ℕ) (start : ℕ) where
   pub pieces_none : {a : Text} → Appends a a (pieces l 0 start)

@@ -6,9 +6,13 @@ ghost use Rattle.recorded.specs.Cursor.{GoesTo};
 use crate::reader::Cursor;
 use output::Text;
 
+// Of a piece without bytes nothing is appended, however often it stands: a damaged file may have one some billion times.
 fn push_times(text: &mut Text, piece: &[u8], times: u32)
     ensures { Appends text.old text.new (repeated times piece.now) }
 {
+    if piece.is_empty() {
+        return;
+    }
     for _ in 0..times {
         text.push_text(piece);
     }

@@ -1,4 +1,4 @@
-// The parse call, in buffers of its own.
+// The parse call, in buffers that are lent.
 ghost use Rattle.std.specs.Prelude.{◌≡◌, length};
 ghost use Rattle.section.specs.Request.{asked};
 ghost use Rattle.replay.specs.Records.{Called};
@@ -13,40 +13,32 @@ pub fn zeros<const N: usize>() -> [u8; N]
     [0; N]
 }
 
-// What the parse call leaves: its word, the counts, and buffers with the areas at their fronts.
-#[derive(Drop)]
-pub struct Left {
-    pub word: u64,
-    pub counts: [u16; 6],
-    pub area1: [u8; 512],
-    pub area2: [u8; 65536],
-    pub area3: [u8; 65536],
-    pub area4: [u8; 65536],
-    pub area5: [u8; 65536],
-    pub area6: [u8; 65536],
-}
-
-// The call is lent as much of each buffer as the record has for the area.
-pub fn parse(src: &[u8], flags: u64, verdicts: &[u8], lengths: &Cursor) -> Left
-    ensures { Called (asked src.now flags verdicts.now) lengths.now.answers.now lengths.now.at result.word result.counts
-        result.area1 result.area2 result.area3 result.area4 result.area5 result.area6 }
+// Of each buffer the call is lent as much as the record has for the area. The buffers are lent, and not answered with the word: as parts of an answer
+// all of them were copied for each record.
+pub fn parse(
+    src: &[u8],
+    flags: u64,
+    verdicts: &[u8],
+    lengths: &Cursor,
+    counts: &mut [u16; 6],
+    area1: &mut [u8],
+    area2: &mut [u8],
+    area3: &mut [u8],
+    area4: &mut [u8],
+    area5: &mut [u8],
+    area6: &mut [u8],
+) -> u64
+    ensures { Called (asked src.now flags verdicts.now) lengths.now.answers.now lengths.now.at result counts.new
+        area1.new area2.new area3.new area4.new area5.new area6.new }
 {
     let mut lengths = *lengths;
-    let c1 = lengths.lent(512);
-    let c2 = lengths.lent(65536);
-    let c3 = lengths.lent(65536);
-    let c4 = lengths.lent(65536);
-    let c5 = lengths.lent(65536);
-    let c6 = lengths.lent(65536);
-    // Locals, since what a field has that was lent in part is not known to a proof.
-    let mut counts = [0; 6];
-    let mut area1 = zeros();
-    let mut area2 = zeros();
-    let mut area3 = zeros();
-    let mut area4 = zeros();
-    let mut area5 = zeros();
-    let mut area6 = zeros();
-    let word = troymantle_parse(
+    let c1 = lengths.lent(area1.len());
+    let c2 = lengths.lent(area2.len());
+    let c3 = lengths.lent(area3.len());
+    let c4 = lengths.lent(area4.len());
+    let c5 = lengths.lent(area5.len());
+    let c6 = lengths.lent(area6.len());
+    troymantle_parse(
         src,
         flags,
         verdicts,
@@ -56,16 +48,6 @@ pub fn parse(src: &[u8], flags: u64, verdicts: &[u8], lengths: &Cursor) -> Left
         &mut area4[..c4],
         &mut area5[..c5],
         &mut area6[..c6],
-        &mut counts,
-    );
-    Left {
-        word,
         counts,
-        area1,
-        area2,
-        area3,
-        area4,
-        area5,
-        area6,
-    }
+    )
 }

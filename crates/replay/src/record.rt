@@ -14,18 +14,30 @@ fn replay_rest(cursor: &mut Cursor, src: &[u8]) -> bool
 {
     let flags = cursor.long();
     let verdicts = cursor.bytes();
-    let left = parse(src, flags, verdicts, cursor);
+    let mut counts = [0; 6];
+    let mut area1 = zeros::<512>();
+    let mut area2 = zeros::<65536>();
+    let mut area3 = zeros::<65536>();
+    let mut area4 = zeros::<65536>();
+    let mut area5 = zeros::<65536>();
+    let mut area6 = zeros::<65536>();
+    let word = parse(
+        src,
+        flags,
+        verdicts,
+        cursor,
+        &mut counts,
+        &mut area1,
+        &mut area2,
+        &mut area3,
+        &mut area4,
+        &mut area5,
+        &mut area6,
+    );
     cursor.compare(
-        left.word,
-        &left.counts,
-        [
-            &left.area1,
-            &left.area2,
-            &left.area3,
-            &left.area4,
-            &left.area5,
-            &left.area6,
-        ],
+        word,
+        &counts,
+        [&area1, &area2, &area3, &area4, &area5, &area6],
     )
 }
 

@@ -45,28 +45,32 @@ use Rattle.rules.proofs.Heads.{fresh_unused, fresh_name_inside}
 use Rattle.rules_section.specs.declared.RuleCounts.{RuleCounts}
 use Rattle.rules_section.specs.Answers.{ruled_in, HeldRuled}
 
--- what a line makes of the rules xs: the same rules, or one more, whose name none of them has and ends inside the source
-pub data Extends (s : List ℕ) (xs ys : List Rule) : Type 0 where
-  same : ys ≡ xs → Extends s xs ys
-  more : (x : Rule) → Unused s xs x.named x.name_from x.name_length → EndsInside s x → ys ≡ xs ++ (x ∷ []) → Extends s xs ys
+-- what a line makes of the rules xs: the same rules, or one more, whose name none of them has and ends inside the source, if the line does (B)
+pub data Extends (s : List ℕ) (B : Type 0) (xs ys : List Rule) : Type 0 where
+  same : ys ≡ xs → Extends s B xs ys
+  more : (x : Rule) → Unused s xs x.named x.name_from x.name_length → (B → EndsInside s x) → ys ≡ xs ++ (x ∷ []) → Extends s B xs ys
 
 -- so what holds of the rules before it, and of them with such a rule behind them, holds of the rules after it
-extends_keeps : {s : List ℕ} {xs ys : List Rule} (P : List Rule → Type 0) → P xs
-    → ((x : Rule) → Unused s xs x.named x.name_from x.name_length → EndsInside s x → P (xs ++ (x ∷ []))) → Extends s xs ys → P ys
+extends_keeps : {s : List ℕ} {B : Type 0} {xs ys : List Rule} (P : List Rule → Type 0) → P xs
+    → ((x : Rule) → Unused s xs x.named x.name_from x.name_length → (B → EndsInside s x) → P (xs ++ (x ∷ []))) → Extends s B xs ys → P ys
 extends_keeps P h f (same q) = subst⁻¹ P q h
 extends_keeps P h f (more x u n q) = subst⁻¹ P q (f x u n)
 
 -- where the step goes on, the rules in its state extend the rules xs
-abbrev YieldsExtended : {S : Type 0} → List ℕ → List Rule → (S → List Rule) → Out S → Type 0
-YieldsExtended s xs rules o = Yields (λ _ t. Extends s xs (rules t)) o
+abbrev YieldsExtended : {S : Type 0} → List ℕ → Type 0 → List Rule → (S → List Rule) → Out S → Type 0
+YieldsExtended s B xs rules o = Yields (λ _ t. Extends s B xs (rules t)) o
+
+-- the line from i to e lies inside the source
+abbrev pub Inside : List ℕ → ℕ → ℕ → Type 0
+Inside s i e = (i ≤ e) × (e ≤ length s)
 
 -- ---- the record
 
 module _ (asked : Request) (k : Caps) (i e : ℕ) (h : Head) (w : Sheet)
     (unused : Unused asked.source w.rules (named_field h.name) (name_fields h.name).from (name_fields h.name).length)
-    (inside : (name_fields h.name).from + (name_fields h.name).length ≤ length asked.source) where
+    {B : Type 0} (inside : B → (name_fields h.name).from + (name_fields h.name).length ≤ length asked.source) where
   abbrev Sheets : Out Sheet → Type 0
-  Sheets o = YieldsExtended asked.source w.rules (λ v. v.rules) o
+  Sheets o = YieldsExtended asked.source B w.rules (λ v. v.rules) o
 
   -- the record of a rule with this head, whatever the list entries and the text
   with_extends : (t : RuleText) (l : StateList) (ids text : List ℕ) → Sheets (with_rule asked k i e h t l (sheet w.rules ids text))
@@ -103,9 +107,9 @@ module _ (asked : Request) (k : Caps) (i e : ℕ) (h : Head) (w : Sheet)
 
 -- ---- a line
 
-module _ (asked : Request) (xs : List State) (k : Caps) (c6 i e : ℕ) (ordered : i ≤ e) (l : e ≤ length asked.source) (r : Ruled) where
+module _ (asked : Request) (xs : List State) (k : Caps) (c6 i e : ℕ) (r : Ruled) where
   abbrev Lines : Out Ruled → Type 0
-  Lines o = YieldsExtended asked.source r.rules (λ t. t.rules) o
+  Lines o = YieldsExtended asked.source (Inside asked.source i e) r.rules (λ t. t.rules) o
 
   -- a step that writes faults only
   faults_extend : (o : Option (List Fault)) → Lines (onto (with_faults r) (written Areas.Faults e o))
@@ -119,11 +123,12 @@ module _ (asked : Request) (xs : List State) (k : Caps) (c6 i e : ℕ) (ordered 
   as_extends (Ok (Fresh b h)) q =
       let s = asked.source in
       let t = trim_end s i e in
-      let trimmed : t ≤ e = first_to _ i e ordered in
       let unused = fresh_unused s i t xs r.rules b h q in
-      let inside = fresh_name_inside s i t xs r.rules (omega (arith, l, trimmed)) b h q in
+      let trimmed : i ≤ e → t ≤ e = first_to _ i e in
+      let inside : Inside s i e → (name_fields h.name).from + (name_fields h.name).length ≤ length s =
+      λ line. fresh_name_inside s i t xs r.rules (omega (arith, line.1, trimmed line.0)) b h q in
       let c = trim_end_unescaped s i b in
-      yields_onto (λ _ w. Extends s r.rules w.rules) (λ _ t. Extends s r.rules t.rules) (with_sheet r) (pattern asked k i e h c xs (sheet_of r))
+      yields_onto (λ _ w. Extends s (Inside s i e) r.rules w.rules) (λ _ t. Extends s (Inside s i e) r.rules t.rules) (with_sheet r) (pattern asked k i e h c xs (sheet_of r))
       (pattern_extends asked k i e h (sheet_of r) unused inside c xs) (λ _ _ x. x)
 
   line_extends : Lines (line asked xs k c6 i e r)
@@ -135,7 +140,7 @@ module _ (asked : Request) (xs : List State) (k : Caps) (c6 i e : ℕ) (ordered 
 
 -- ---- the areas before and after a line that goes on
 
-module _ (asked : Request) (xs : List State) (k : Caps) (c6 i e : ℕ) (ordered : i ≤ e) (l : e ≤ length asked.source)
+module _ (asked : Request) (xs : List State) (k : Caps) (c6 i e : ℕ)
     {l2 l3 l4 l6 v2 v3 v4 v6 : List ℕ} {q : RuleCounts} (h : HeldRuled l2 l3 l4 l6 q)
     (r : Result ℕ Stop) (p : RuleCounts)
     (d : Does (HeldRuled v2 v3 v4 v6) (line asked xs k c6 i e) (ruled_in l2 l3 l4 l6 q) (ruled_in v2 v3 v4 v6) (outcome r p)) {j : ℕ} (z : r ≡ Ok j) where
@@ -145,10 +150,10 @@ module _ (asked : Request) (xs : List State) (k : Caps) (c6 i e : ℕ) (ordered 
   abbrev after : List Rule
   after = contents rule_format v2 p.sheet.rules
 
-  extended : Extends asked.source before after
+  extended : Extends asked.source (Inside asked.source i e) before after
   extended =
       let ruled = ruled_in l2 l3 l4 l6 q in
-      subst (Lines asked xs k c6 i e ordered l ruled) (was_ok r p d z) (line_extends asked xs k c6 i e ordered l ruled)
+      subst (Lines asked xs k c6 i e ruled) (was_ok r p d z) (line_extends asked xs k c6 i e ruled)
 
   -- the rules that were there before it are the first ones
   pub rules_kept : take q.sheet.rules after ≡ before
@@ -160,6 +165,8 @@ module _ (asked : Request) (xs : List State) (k : Caps) (c6 i e : ℕ) (ordered 
   pub names_kept : DistinctNames asked.source before → DistinctNames asked.source after
   names_kept d = extends_keeps (DistinctNames asked.source) d (λ x u _. distinct_more asked.source before x d u) extended
 
-  -- and names stay inside the source
-  pub inside_kept : NamesInside asked.source before → NamesInside asked.source after
-  inside_kept i = extends_keeps (NamesInside asked.source) i (λ x _ n. each_snoc (λ _ y. EndsInside asked.source y) rule_format.blank before x i n) extended
+  -- and names stay inside the source, where the line lies in it
+  pub inside_kept : Inside asked.source i e → NamesInside asked.source before → NamesInside asked.source after
+  inside_kept line names =
+      extends_keeps (NamesInside asked.source) names
+      (λ x _ n. each_snoc (λ _ y. EndsInside asked.source y) rule_format.blank before x names (n line)) extended

@@ -249,8 +249,8 @@ module _ {whole : Out Ruled} {asked : Request} {xs : List State} {start : RuleAr
         held = holds_ok r v.counts d z;
         names = record {
           marked = m;
-          inside = inside_kept asked xs (caps_in a) (length a.faults.now) i e x.ends.from x.ends.to x.held r v.counts d z x.names.inside;
-          distinct = names_kept asked xs (caps_in a) (length a.faults.now) i e x.ends.from x.ends.to x.held r v.counts d z x.names.distinct;
+          inside = inside_kept asked xs (caps_in a) (length a.faults.now) i e x.held r v.counts d z (x.ends.from, x.ends.to) x.names.inside;
+          distinct = names_kept asked xs (caps_in a) (length a.faults.now) i e x.held r v.counts d z x.names.distinct;
         };
         within = c.starts.to;
         ends = c.ends;
@@ -268,7 +268,7 @@ module _ {whole : Out Ruled} {asked : Request} {xs : List State} {start : RuleAr
     pub rules_marked : Marked asked.source (take a.counts.sheet.rules (rules_in v)) marks
     rules_marked =
         subst (λ (ys : List Rule). Marked asked.source ys marks)
-        (sym (rules_kept asked xs (caps_in a) (length a.faults.now) i e x.ends.from x.ends.to x.held r v.counts d z)) x.names.marked
+        (sym (rules_kept asked xs (caps_in a) (length a.faults.now) i e x.held r v.counts d z)) x.names.marked
 
   whole_err : (y : Stop) → r ≡ Err y → whole ≡ outcome (Err y) (ruled_held_in v)
   whole_err y z =

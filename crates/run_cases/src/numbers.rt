@@ -1,5 +1,25 @@
 // The numbers of a line as two-byte fields.
-use arrayvec::ArrayVec;
+
+// The numbers are the first `count` of these fields.
+#[derive(Drop)]
+pub struct Numbers {
+    fields: [[u8; 2]; 64],
+    count: usize,
+}
+
+impl Numbers {
+    // What does not fit is left out.
+    fn push(&mut self, number: u16) {
+        if let Some(field) = self.fields.get_mut(self.count) {
+            *field = number.to_le_bytes();
+            self.count += 1;
+        }
+    }
+
+    pub fn as_slice(&self) -> &[u8] {
+        self.fields.get(..self.count).unwrap_or(&[]).as_flattened()
+    }
+}
 
 // The low half of each byte is a digit, whatever the byte is; the number is taken modulo 65,536.
 fn number_of(word: &[u8]) -> u16 {
@@ -8,11 +28,14 @@ fn number_of(word: &[u8]) -> u16 {
     })
 }
 
-// The numbers behind the first word of a line; what does not fit is left out.
-pub fn numbers_of(line: &[u8]) -> ArrayVec<u8, 128> {
-    let mut numbers = ArrayVec::new();
+// The numbers behind the first word of a line.
+pub fn numbers_of(line: &[u8]) -> Numbers {
+    let mut numbers = Numbers {
+        fields: [[0; 2]; 64],
+        count: 0,
+    };
     for word in line.split(|byte| *byte == b' ').skip(1) {
-        let _ = numbers.try_extend_from_slice(&number_of(word).to_le_bytes());
+        numbers.push(number_of(word));
     }
     numbers
 }

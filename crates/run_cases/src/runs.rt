@@ -2,15 +2,27 @@
 use crate::numbers::number_at;
 use crate::printing::Listed;
 use crate::sheet::Sheet;
-use arrayvec::ArrayVec;
 use run::call::start;
 use run::{LentInput, Run, StartError, Step, StepError};
 use std::fmt;
 
+// The text is the first `length` of these bytes.
+#[derive(Drop)]
+struct Text {
+    bytes: [u8; 4097],
+    length: usize,
+}
+
+impl Text {
+    fn as_slice(&self) -> &[u8] {
+        self.bytes.get(..self.length).unwrap_or(&[])
+    }
+}
+
 #[derive(Drop)]
 pub struct Runs {
     pub run: Run,
-    text: ArrayVec<u8, 4097>,
+    text: Text,
     stack: [u8; 8196],
 }
 
@@ -18,28 +30,42 @@ impl Runs {
     pub fn new() -> Self {
         Runs {
             run: Run::default(),
-            text: ArrayVec::new(),
+            text: Text {
+                bytes: [0; 4097],
+                length: 0,
+            },
             stack: [0; 8196],
         }
     }
 
     // Another text; of one that is too long nothing is kept.
     pub fn set_text(&mut self, text: &[u8]) {
-        self.text.truncate(0);
-        let _ = self.text.try_extend_from_slice(text);
+        self.text.length = 0;
+        if let Some(place) = self.text.bytes.get_mut(..text.len()) {
+            place.copy_from_slice(text);
+            self.text.length = text.len();
+        }
     }
 
-    // The text cut to so many bytes, or with as many `a`s behind it; 4,097 are the most.
+    // The text cut to so many bytes, or with `a`s behind it up to so many; above 4,097 it stays.
     pub fn fill(&mut self, bytes: u16) {
-        self.text.truncate(bytes as usize);
-        let filling = [b'a'; 4097];
-        let more = filling.get(self.text.len()..bytes as usize);
-        let _ = self.text.try_extend_from_slice(more.unwrap_or(&[]));
+        let length = bytes as usize;
+        if length > self.text.bytes.len() {
+            return;
+        }
+        if let Some(more) = self.text.bytes.get_mut(self.text.length..length) {
+            more.fill(b'a');
+        }
+        self.text.length = length;
     }
 
     // Another byte of the text.
     pub fn damage(&mut self, k: u16, value: u16) {
-        if let Some(byte) = self.text.get_mut(k as usize) {
+        let at = k as usize;
+        if at >= self.text.length {
+            return;
+        }
+        if let Some(byte) = self.text.bytes.get_mut(at) {
             *byte = (value % 256) as u8;
         }
     }
@@ -51,7 +77,7 @@ impl Runs {
         let begun = start(
             kind as u64,
             n as u64,
-            &self.text,
+            self.text.as_slice(),
             self.run,
             &mut stack[..most],
         );
@@ -63,7 +89,7 @@ impl Runs {
     pub fn step(&mut self, sheet: &Sheet, bytes: u16, row: &[u8]) -> Result<Step, StepError> {
         let most = self.stack.len().min(bytes as usize);
         let input = LentInput {
-            text: &self.text,
+            text: self.text.as_slice(),
             row,
         };
         let stack = &mut self.stack[..];

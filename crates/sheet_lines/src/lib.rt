@@ -141,26 +141,33 @@ pub fn put_faults(out: &mut Text, area: &[u8], count: u16)
 
 // The word that both lines of a refusal start with, and its number.
 #[tactic(auto, using(crate::proofs::Printing::line_printing))]
-fn put_number(out: &mut Text, number: Number)
-    ensures { Appends out.old out.new (refused_head (number_of number)) }
+fn put_number(out: &mut Text, number: u16)
+    ensures { Appends out.old out.new (refused_head number) }
 {
     out.push_text(b"refused");
-    out.push_field(u16::from(number));
+    out.push_field(number);
 }
 
+// The number may be any; those of refusals are a `Number`.
 #[tactic(auto, using(crate::proofs::Printing::line_printing))]
-pub fn put_refused(out: &mut Text, number: Number)
-    ensures { Appends out.old out.new (refused_line (number_of number)) }
+pub fn put_refused_number(out: &mut Text, number: u16)
+    ensures { Appends out.old out.new (refused_line number) }
 {
     put_number(out, number);
     out.push_line_end();
+}
+
+pub fn put_refused(out: &mut Text, number: Number)
+    ensures { Appends out.old out.new (refused_line (number_of number)) }
+{
+    put_refused_number(out, u16::from(number));
 }
 
 #[tactic(auto, using(crate::proofs::Printing::line_printing))]
 pub fn put_full(out: &mut Text, area: u16)
     ensures { Appends out.old out.new (full_line area) }
 {
-    put_number(out, Number::AreaFull);
+    put_number(out, u16::from(Number::AreaFull));
     out.push_field(area);
     out.push_line_end();
 }

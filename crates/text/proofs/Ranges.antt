@@ -8,8 +8,8 @@ use native.Mathlib.Omega.{arith}
 use borrow.Author.Rules.{rules}
 use borrow.Author.Tests.{eq-eqb, eqb-true}
 use lib.Dec.{eqb}
-use lib.ListN.{length, take, drop, length-drop}
-use lib.Seq.{take_all, take-add, drop-drop, drop-cons}
+use lib.ListN.{length, take, drop, length-drop, length-take}
+use lib.Seq.{take_all, take-add, take-length, take-suc, drop-drop, drop-cons}
 use Rattle.characters.specs.Whitespace.{byte}
 use Rattle.text.specs.Range.{part, same_bytes, same_range, lookahead_is}
 use Rattle.text.proofs.Parts.{part_length, part_size}
@@ -42,8 +42,25 @@ same_not xs ys d = go (same_bytes xs ys) refl
     go true e = absurd (d (same_equal xs ys e))
     go false e = refl
 
-same_lengths : (xs ys : List ℕ) → (length xs ≡ length ys → ⊥) → false ≡ same_bytes xs ys
+pub same_lengths : (xs ys : List ℕ) → (length xs ≡ length ys → ⊥) → false ≡ same_bytes xs ys
 same_lengths xs ys d = sym (same_not xs ys (λ q. d (ap length q)))
+
+-- texts that differ at one place are not the same
+pub same_places : (xs ys : List ℕ) (k : ℕ) → (byte xs k ≡ byte ys k → ⊥) → false ≡ same_bytes xs ys
+same_places xs ys k d = sym (same_not xs ys (λ q. d (ap (λ (l : List ℕ). byte l k) q)))
+
+no_bytes : (l : List ℕ) → length l ≡ 0 → l ≡ []
+no_bytes [] e = refl
+no_bytes (x ∷ xs) e = absurd (omega arith)
+
+-- what stands behind lists of one length is compared by itself
+same-append : (xs ys us vs : List ℕ) → length xs ≡ length ys → same_bytes (xs ++ us) (ys ++ vs) ≡ same_bytes xs ys && same_bytes us vs
+unfolding same_bytes
+same-append [] [] us vs q = refl
+same-append [] (b ∷ ys) us vs q = absurd (omega arith)
+same-append (a ∷ xs) [] us vs q = absurd (omega arith)
+same-append (a ∷ xs) (b ∷ ys) us vs q =
+    rw (same-append xs ys us vs (omega arith)) (sym (and_assoc (eqb a b) (same_bytes xs ys) (same_bytes us vs)))
 
 -- the test of slices is the same
 pointwise_same : (xs ys : List ℕ) → pointwise eqb xs ys ≡ same_bytes xs ys
@@ -59,11 +76,36 @@ slices_same xs ys zs r is e = e ∙ pointwise_same xs ys ∙ ap (λ (l : List �
 
 pub ruleset slices_compared = (rules, slices_same)
 
--- ---- a range and its parts
+-- ---- two texts by their lengths, by their last bytes, and by what stands before these
 
-no_bytes : (l : List ℕ) → length l ≡ 0 → l ≡ []
-no_bytes [] e = refl
-no_bytes (x ∷ xs) e = absurd (omega arith)
+pub no_bytes_same : (xs ys : List ℕ) → length xs ≡ 0 → length xs ≡ length ys → true ≡ same_bytes xs ys
+no_bytes_same xs ys none long = rw (no_bytes xs none, no_bytes ys (sym long ∙ none)) (sym (same_self []))
+
+-- the last byte stands at k, and m bytes before it
+last_and_front : (l : List ℕ) (k m : ℕ) → k + 1 ≡ length l → m + 1 ≡ length l → l ≡ take m l ++ (byte l k ∷ [])
+last_and_front l k m at before =
+    let z : k ≡ m = omega arith in
+    let e : length l ≡ suc m = omega arith in
+    sym (take-length l) ∙ ap (λ (j : ℕ). take j l) e ∙ take-suc l m 0 (omega arith) ∙ ap (λ (j : ℕ). take m l ++ (byte l j ∷ [])) (sym z)
+
+module _ (xs ys : List ℕ) (k m : ℕ) (r : Bool) where
+  pub texts_same : k + 1 ≡ length xs → m + 1 ≡ length xs → length xs ≡ length ys → byte xs k ≡ byte ys k
+      → r ≡ pointwise eqb (take m xs) (take m ys) → r ≡ same_bytes xs ys
+  unfolding same_bytes
+  texts_same at before long last e =
+      let x = last_and_front xs k m at before in
+      let y = last_and_front ys k m (at ∙ long) (before ∙ long) in
+      let one : same_bytes (byte xs k ∷ []) (byte ys k ∷ []) ≡ true = rw (eq-eqb (byte xs k) (byte ys k) last) refl in
+      let fronts : length (take m xs) ≡ length (take m ys) = omega (arith, length-take m xs, length-take m ys) in
+      e ∙ pointwise_same (take m xs) (take m ys)
+      ∙ sym (and-true (same_bytes (take m xs) (take m ys)))
+      ∙ ap (λ (b : Bool). same_bytes (take m xs) (take m ys) && b) (sym one)
+      ∙ sym (same-append (take m xs) (take m ys) (byte xs k ∷ []) (byte ys k ∷ []) fronts)
+      ∙ ap₂ same_bytes (sym x) (sym y)
+
+pub ruleset texts_compared = (rules, same_lengths, no_bytes_same, same_places, texts_same)
+
+-- ---- a range and its parts
 
 -- a range that is cut where its text ends, as the library cuts a slice
 module _ (s : List ℕ) (a e r : ℕ) (fits : r ≡ min e (length s)) where
@@ -80,15 +122,6 @@ module _ (s : List ℕ) (a e r : ℕ) (fits : r ≡ min e (length s)) where
 pub ruleset cutting = (rules, part_inside, part_outside)
 
 -- ---- ranges that are split at the same place: the parts are compared, each by itself
-
--- what stands behind lists of one length is compared by itself
-same-append : (xs ys us vs : List ℕ) → length xs ≡ length ys → same_bytes (xs ++ us) (ys ++ vs) ≡ same_bytes xs ys && same_bytes us vs
-unfolding same_bytes
-same-append [] [] us vs q = refl
-same-append [] (b ∷ ys) us vs q = absurd (omega arith)
-same-append (a ∷ xs) [] us vs q = absurd (omega arith)
-same-append (a ∷ xs) (b ∷ ys) us vs q =
-    rw (same-append xs ys us vs (omega arith)) (sym (and_assoc (eqb a b) (same_bytes xs ys) (same_bytes us vs)))
 
 pub part_none : (s : List ℕ) (a e : ℕ) → e ≤ a → part s a e ≡ []
 part_none s a e h = no_bytes (part s a e) (omega (arith, part_size s a e))

@@ -19,21 +19,24 @@ use link::{LinkError, Linked};
 use parse::{FileCounts, ParseError};
 use run::{StartError, Step, StepError};
 
+// The number in the low 16 bits, and the three values above it, by multiplication as the definition has them. The number may be any; those of the
+// calls' answers are a `Number`.
+pub fn numbered_word(number: u16, a: u16, b: u16, c: u16) -> u64
+    ensures { result ≡ word (fields number a b c) }
+{
+    (number as u64) + 65536 * (a as u64) + 4294967296 * (b as u64) + 281474976710656 * (c as u64)
+}
+
 // An answer as one word.
 #[derive(Clone, Copy, PartialEq, Eq, Debug)]
 pub struct Word(pub u64);
 
 impl Word {
-    // The number in the low 16 bits, and the three values above it, by multiplication as the definition has them.
+    // The number of an answer, and three values.
     pub fn new(number: Number, a: u16, b: u16, c: u16) -> Word
         ensures { result.0 ≡ word (fields (number_of number) a b c) }
     {
-        Word(
-            (u16::from(number) as u64)
-                + 65536 * (a as u64)
-                + 4294967296 * (b as u64)
-                + 281474976710656 * (c as u64),
-        )
+        Word(numbered_word(u16::from(number), a, b, c))
     }
 
     // A number without values.

@@ -3,4 +3,4 @@ use Rattle.names.proofs.Finds.{rule_compared}
 use Rattle.names.proofs.has_name.Goals as goal
 
 pub returns-then-is_named : goal.returns-then-is_named
-returns-then-is_named c = rule_compared _ _ _ _ c.is_named.ensures c.if-is_named.true _ _ c.name_end.ensures c.eq.ensures
+returns-then-is_named c = rule_compared _ _ _ _ c.is_named.ensures c.if-is_named.true _ _ c.name_end.ensures c.same_bytes.ensures

@@ -4,7 +4,9 @@ use mathlib.Core.Path.{◌≡◌, sym, ap, ◌∙◌}
 use Rattle.sheet_check.specs.declared.Sizes.{Sizes}
 use Rattle.sheet_check.specs.SheetCheck.{sheet_bytes}
 use Rattle.link.proofs.Outcomes.{call_entries, call_sheet, call_map, call_rules, call_linked}
+use Rattle.name_map.specs.Index.{slot_count}
 use Rattle.name_map.proofs.Maps.{entries_count, map_count}
+use Rattle.name_map.proofs.Slots.{slots_free}
 use native.Mathlib.Omega.{arith}
 use lib.ListN.{length}
 use Rattle.link.proofs.call.set_rule_ids_spanned.Goals as goal
@@ -20,6 +22,9 @@ returns-in_default c =
     let lent = sheet_bytes c.args.src.now c.args.area1.now c.args.area2.now c.args.area3.now c.args.area4.now c.args.area5.now c.args.counts.now in
     call_map lent c.args.names.now c.args.entries.now c.args.area7.now c.args.area8.now
     _ c.check.ensures c.if-not-check.false (sym (ap is_some c.in_default.is) ∙ c.check_map.ensures.is)
+
+pub check_map-requires : goal.check_map-requires
+check_map-requires c = slots_free slot_count
 
 pub invariant_of-index : goal.invariant_of-index
 invariant_of-index c = record { index = c.check_map.ensures.index _ c.in-Some.is }
