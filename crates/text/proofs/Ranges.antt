@@ -1,5 +1,5 @@
--- Equal ranges: the comparison says equality of lists, and the library's test of two slices is the same. Ranges that are split at the same place are
--- compared by their parts.
+-- Equal texts: the comparison says equality of lists, and the library's test of two slices is the same. So two texts differ if one byte does, and where
+-- their last bytes are the same, what stands before these decides. Ranges that are split at the same place are compared by their parts.
 use mathlib.Core.Path.{◌≡◌, refl, sym, ap, ap₂, ◌∙◌}
 use mathlib.Core.Bool.{Bool, true, false, ◌&&◌, false≢true, and-true, and_assoc}
 use mathlib.Core.List.{List, [], ◌∷◌, ◌++◌}
@@ -74,9 +74,7 @@ pointwise_same (x ∷ xs) (y ∷ ys) = ap (λ (b : Bool). eqb x y && b) (pointwi
 pub slices_same : (xs ys zs : List ℕ) (r : Bool) → xs ≡ zs → r ≡ pointwise eqb xs ys → r ≡ same_bytes zs ys
 slices_same xs ys zs r is e = e ∙ pointwise_same xs ys ∙ ap (λ (l : List ℕ). same_bytes l ys) is
 
-pub ruleset slices_compared = (rules, slices_same)
-
--- ---- two texts by their lengths, by their last bytes, and by what stands before these
+-- ---- two texts by their lengths, by a byte that differs, and by what stands before their last bytes
 
 pub no_bytes_same : (xs ys : List ℕ) → length xs ≡ 0 → length xs ≡ length ys → true ≡ same_bytes xs ys
 no_bytes_same xs ys none long = rw (no_bytes xs none, no_bytes ys (sym long ∙ none)) (sym (same_self []))
