@@ -25,7 +25,7 @@ use Rattle.area.proofs.All.{all_one_more}
 use Rattle.area.proofs.Numbers.{numbers_same, count_none, count_yes, count_no}
 use Rattle.name_map.specs.Map.{most_entries, Entry, nth, find_entry, found_entry, id_at, id_of, distinct}
 use Rattle.link.specs.Link.{is_named, is_none, is_unmapped, has_that_name, is_unused, unmapped, unused}
-use Rattle.link.specs.Matches.{unmarked, FoundInside, EntriesFound, Matched}
+use Rattle.link.specs.Matches.{unmarked, FoundInside, EntriesFound, MatchedInto}
 use Rattle.name_map.proofs.Maps.{some_found, none_found, entry_first}
 
 -- ---- an entry by a name
@@ -267,7 +267,7 @@ module _ (name : Rule → List ℕ) (es : List Entry) (xs : List Rule) where
               marks = marked_missing name es xs M.marks h different named_here (find_entry es (name (nth_rule xs k))) refl past;
             }
 
-    pub matched : length xs ≤ k → k ≤ length xs → Matched name es xs n found used
+    pub matched : length xs ≤ k → k ≤ length xs → MatchedInto name es xs n found used
     unfolding unmapped
     matched h g =
         let q : k ≡ length xs = omega (arith, h, g) in

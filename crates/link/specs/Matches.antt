@@ -5,6 +5,7 @@ use Rattle.area.specs.declared.Rule.{Rule}
 use Rattle.area.specs.Records.{nth_rule}
 use Rattle.area.specs.Lists.{numbers}
 use Rattle.name_map.specs.Map.{Entry, found_entry, id_at}
+use Rattle.link.specs.declared.matches.Matches.{Matches}
 use Rattle.link.specs.Link.{is_named, with_found, unmapped, unused}
 
 -- the id of the entry that was found
@@ -29,8 +30,12 @@ pub record EntriesFound (name : Rule → List ℕ) (es : List Entry) (xs : List 
   pub each : (i : ℕ) → i < k → is_named (nth_rule xs i) ≡ true → get_or found i None ≡ found_entry es (name (nth_rule xs i))
 
 -- the number of unmapped rules, the entries that were found, and marks that only the unused entries lack
-pub record Matched (name : Rule → List ℕ) (es : List Entry) (xs : List Rule) (count : ℕ) (found : List (Option ℕ)) (used : List Bool) : Type 0 where
+pub record MatchedInto (name : Rule → List ℕ) (es : List Entry) (xs : List Rule) (count : ℕ) (found : List (Option ℕ)) (used : List Bool) : Type 0 where
   pub missing : count ≡ length (unmapped name es xs)
   pub kept : EntriesFound name es xs (length xs) found
   pub inside : FoundInside es found
   pub without_mark : unmarked used (length es) ≡ unused name es xs
+
+-- the same, as one value
+abbrev pub Matched : (Rule → List ℕ) → List Entry → List Rule → Matches → Type 0
+Matched name es xs m = MatchedInto name es xs m.unmapped_count m.found m.used

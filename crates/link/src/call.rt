@@ -9,9 +9,9 @@ ghost use Rattle.area.specs.Phrases.{before, after};
 ghost use Rattle.name_map.specs.Phrases.{map_in};
 ghost use Rattle.link.specs.Phrases.{rules_in, rule_names_in};
 
-use crate::matches::match_rules;
+use crate::matches::match_rules_into;
 use crate::numbers::{count_unused, write_unlinked, write_unused};
-use crate::rule_ids::link_rules;
+use crate::rule_ids::link_rules_by_slots;
 use crate::{LinkArea, LinkError, Linked};
 use area::list::Records;
 use area::{Record, Rule};
@@ -51,13 +51,13 @@ fn link_checked(
     let lent = Records::new(area2, rules);
     let mut found = [Slot::FREE; Rule::MOST];
     let mut used = [false; MapEntry::MOST];
-    let unmapped_count = match_rules(src, &lent, index, &mut found, &mut used);
+    let unmapped_count = match_rules_into(src, &lent, index, &mut found, &mut used);
     check_room(area7, unmapped_count, LinkArea::Unmapped)?;
     let marks = &used[..entries];
     let unused_count = count_unused(marks);
     check_room(area8, unused_count, LinkArea::Unused)?;
     write_unused(marks, area8);
-    link_rules(area2, rules, &index.map, &found);
+    link_rules_by_slots(area2, rules, &index.map, &found);
     let linked = Records::new(area2, rules);
     write_unlinked(&linked, area7);
     Ok(Linked {

@@ -41,6 +41,14 @@ fn link_rule(map: &NameMap, found: Option<u16>, x: Rule) -> Rule
 }
 
 // What was found for the rule at a place.
+fn option_at(options: &[Option<u16>; Rule::MOST], at: usize) -> Option<u16>
+    requires { at < most_rules }
+    ensures { result ≡ slice_index_or options.now at None }
+{
+    options[at]
+}
+
+// The same, of slots.
 #[tactic(auto, using(name_map::proofs::Slots::slot_read))]
 fn found_at(found: &[Slot; Rule::MOST], at: usize) -> Option<u16>
     requires { at < most_rules }
@@ -51,7 +59,20 @@ fn found_at(found: &[Slot; Rule::MOST], at: usize) -> Option<u16>
 
 // The rules by the entries that were found, whatever says which name a rule has. Every rule is written back whole, so that an area holds the
 // linked rules. The count is that of the rules in use, which fill a part of the area.
-pub fn link_rules(area: &mut [u8], count: u16, map: &NameMap, found: &[Slot; Rule::MOST])
+pub fn link_rules(area: &mut [u8], count: u16, map: &NameMap, found: &[Option<u16>; Rule::MOST])
+    requires count_le_most_rules { (count ≤ most_rules) × (count * rule_width ≤ length area.old) }
+    requires found_inside { FoundInside (map_in map.now) found.now }
+    ensures { (name : Rule → List ℕ) → EntriesFound name (map_in map.now) (rules_in area.old count) count found.now
+        → area.new ≡ relaid rule_format area.old (link_rules name (map_in map.now) (rules_in area.old count)) }
+{
+    for at in 0..count as usize {
+        let x = Rule::read(area, at);
+        link_rule(map, option_at(found, at), x).write(area, at);
+    }
+}
+
+// The same by slots, which have two bytes each where an option has four.
+pub fn link_rules_by_slots(area: &mut [u8], count: u16, map: &NameMap, found: &[Slot; Rule::MOST])
     requires count_le_most_rules { (count ≤ most_rules) × (count * rule_width ≤ length area.old) }
     requires found_inside { FoundInside (map_in map.now) (entries_in found.now) }
     ensures { (name : Rule → List ℕ) → EntriesFound name (map_in map.now) (rules_in area.old count) count (entries_in found.now)

@@ -42,6 +42,25 @@ impl Slot {
     }
 }
 
+// Slots that are all free.
+#[tactic(auto, using(crate::proofs::Slots::slots_free))]
+pub fn free_slots<const N: usize>() -> [Slot; N]
+    ensures { entries_in result ≡ replicate N None }
+{
+    [Slot::FREE; N]
+}
+
+// The entries of slots as options, which take twice the bytes.
+pub fn read_slots<const N: usize>(slots: &[Slot; N]) -> [Option<u16>; N]
+    ensures { result ≡ entries_in slots.now }
+{
+    let mut entries = [None; N];
+    for k in 0..N {
+        entries[k] = slots[k].entry();
+    }
+    entries
+}
+
 // A slot that the search for a name comes to: it is free for the name, or has the entry of that name. Neither is a failure.
 #[derive(Clone, Copy)]
 enum Probed {

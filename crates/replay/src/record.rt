@@ -4,7 +4,7 @@ ghost use Rattle.recorded.specs.Comparison.{Compares};
 ghost use Rattle.recorded.specs.Records.{source_at, source_end};
 ghost use Rattle.replay.specs.Records.{buffers, Agrees, record_end};
 
-use crate::call::{parse, zeros};
+use crate::call::{parse_into, zeros};
 use output::Text;
 use recorded::reader::Cursor;
 
@@ -21,7 +21,7 @@ fn replay_rest(cursor: &mut Cursor, src: &[u8]) -> bool
     let mut area4 = zeros::<65536>();
     let mut area5 = zeros::<65536>();
     let mut area6 = zeros::<65536>();
-    let word = parse(
+    let word = parse_into(
         src,
         flags,
         verdicts,

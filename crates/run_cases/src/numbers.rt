@@ -1,4 +1,5 @@
 // The numbers of a line as two-byte fields.
+ghost use Rattle.std.specs.Prelude.{◌≤◌, length};
 
 // The numbers are the first `count` of these fields.
 #[derive(Drop)]
@@ -16,7 +17,9 @@ impl Numbers {
         }
     }
 
-    pub fn as_slice(&self) -> &[u8] {
+    pub fn as_slice(&self) -> &[u8]
+        ensures { length result.now ≤ 128 }
+    {
         self.fields.get(..self.count).unwrap_or(&[]).as_flattened()
     }
 }

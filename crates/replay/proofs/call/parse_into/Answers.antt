@@ -1,7 +1,7 @@
 -- Each area is lent as long as it was recorded, and comes back at the front of its buffer.
 use Rattle.std.proofs.Common.{refl}
 use Rattle.replay.proofs.Calling.{stands_first, stands_next, returned, called}
-use Rattle.replay.proofs.call.parse.Goals as goal
+use Rattle.replay.proofs.call.parse_into.Goals as goal
 
 pub returns : goal.returns
 returns c =

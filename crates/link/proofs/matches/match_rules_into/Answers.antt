@@ -1,4 +1,4 @@
--- `link::matches::match_rules` meets its contract: the rules so far are matched, and each of the three ways goes on by one.
+-- `link::matches::match_rules_into` meets its contract: the rules so far are matched, and each of the three ways goes on by one.
 use mathlib.Core.Path.{sym, ◌∙◌}
 use Prim.Native.Nat.{◌<◌}
 use native.Mathlib.Omega.{arith}
@@ -6,8 +6,8 @@ use Rattle.name_map.specs.Map.{most_entries}
 use Rattle.name_map.proofs.Maps.{some_found, map_count}
 use Rattle.name_map.proofs.Slots.{slot_set}
 use Rattle.link.proofs.Matching.{matching_none, matching_unnamed, matching_found, matching_missing, matched}
-use Rattle.link.proofs.matches.match_rules.Goals.{In-Some}
-use Rattle.link.proofs.matches.match_rules.Goals as goal
+use Rattle.link.proofs.matches.match_rules_into.Goals.{In-Some}
+use Rattle.link.proofs.matches.match_rules_into.Goals as goal
 
 pub loop-k-init : goal.loop-k-init
 loop-k-init c = (omega arith, matching_none _ _ _ _ _ c.requires.none_found c.requires.none_used)
