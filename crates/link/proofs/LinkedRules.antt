@@ -1,5 +1,5 @@
 -- A rule gets its entry's id. The rules of an area are linked one after the other, each written back over itself: so the bytes in front are
--- those of the linked rules, the bytes behind are untouched, and a rule is read as it was.
+-- those of the linked rules, the bytes behind are untouched, and a rule is read as it was. `Linking` is what the loop knows, over options or slots.
 use Rattle.std.specs.Prelude.{Option, Some, None}
 use mathlib.Core.Path.{◌≡◌, refl, sym, ap, ◌∙◌}
 use mathlib.Core.Bool.{Bool, true, false, cond}
@@ -19,7 +19,7 @@ use Rattle.name_map.specs.Map.{Entry, nth, find_entry, found_entry, option_of, i
 use mathlib.Core.Option as M
 use mathlib.Core.Option.{some, none}
 use Rattle.link.specs.Link.{is_named, with_found, link_rule, link_rules}
-use Rattle.link.specs.Matches.{EntriesFound, found_id, link_to}
+use Rattle.link.specs.Matches.{FoundInside, EntriesFound, found_id, link_to}
 
 -- ---- a rule
 
@@ -83,3 +83,26 @@ module _ (name : Rule → List ℕ) (es : List Entry) (l : List ℕ) where
   rules_all k count a is h g =
       let q : k ≡ count = omega (arith, h, g) in
       is ∙ ap linked_to q
+
+-- ---- the loop over the rules, however what was found is kept
+
+module _ (es : List Entry) (l : List ℕ) (count : ℕ) (found : List (Option ℕ)) where
+  -- the first k rules are linked, whatever gives the names
+  abbrev pub Linking : ℕ → List ℕ → Type 0
+  Linking k a = (name : Rule → List ℕ) → EntriesFound name es (contents rule_format l count) count found → a ≡ linked_to name es l k
+
+  pub linking_none : Linking 0 l
+  linking_none name F = rules_none name es l
+
+  module _ {k : ℕ} {a : List ℕ} (L : Linking k a) where
+    pub linking_next : k < count → count * rule_width ≤ length a → {x : Rule} → x ≡ rule_at a k → {o : Option ℕ} → o ≡ get_or found k None
+        → {y : Rule} → y ≡ link_to es o x → {e : List ℕ} → e ≡ sets a (k * rule_width) (rule_bytes y) → Linking (k + 1) e
+    linking_next h long {x} read {o} same {y} z {e} p name F = rules_next name es l k count a (L name F) h found F x read long o same y e z p
+
+    pub linking_all : count ≤ k → k ≤ count → Linking count a
+    linking_all h g name F = rules_all name es l k count a (L name F) h g
+
+-- what was found for a rule is an entry of the map
+pub found_below : (es : List Entry) (found : List (Option ℕ)) → FoundInside es found → (k : ℕ) (o : Option ℕ) → o ≡ get_or found k None
+    → (n : ℕ) → length es ≡ n → (j : ℕ) → o ≡ Some j → j < n
+found_below es found F k o same n long j is = omega (arith, F.each k j (sym same ∙ is), long)
